@@ -1,0 +1,4 @@
+pub mod Classes
+pub mod Data
+pub mod Text
+pub mod formers

@@ -1,0 +1,72 @@
+//! The project's list.
+ghost use Rattle.std.specs.Prelude.{◌≡◌, [], ◌∷◌, ◌++◌, length, OnOk, OnErr};
+
+use crate::NoMemory;
+use std::alloc::Global;
+use std::marker::Model;
+
+/// A growing list on the heap, which contracts see as the list of its items.
+///
+/// It keeps the allocator that it was made with. A type of another crate may hold a list of itself.
+#[derive(Debug, Drop)]
+pub struct List<T> {
+    items: Vec<T>,
+}
+
+impl<T> Model for List<T> {
+    ghost use Rattle.std.specs.Prelude.{List};
+    ghost use Rattle.std.specs.Coded.{coded_list};
+
+    ghost Value = { List T };
+
+    ghost coded = { coded_list T.code };
+
+    ghost view = { λ list. list.items.items };
+}
+
+impl<T> List<T> {
+    /// The empty list, which takes no memory until it grows.
+    pub fn new(alloc: Global) -> List<T>
+        ensures { result ≡ [] }
+    {
+        List {
+            items: Vec::new(alloc),
+        }
+    }
+
+    /// The number of items.
+    pub fn len(&self) -> usize
+        ensures { result ≡ length self.now }
+    {
+        self.items.len()
+    }
+
+    /// The items in order.
+    pub fn as_slice(&self) -> &[T]
+        ensures { result.now ≡ self.now }
+    {
+        self.items.as_slice()
+    }
+}
+
+impl<T: Drop> List<T> {
+    /// Puts an item at the end. A refused item is dropped.
+    pub fn push(&mut self, item: T) -> Result<(), NoMemory>
+        ensures ok { OnOk result (self.new ≡ self.old ++ item ∷ []) }
+        ensures err { OnErr result (self.new ≡ self.old) }
+    {
+        self.items.push(item)?;
+        Ok(())
+    }
+}
+
+impl<T: Copy> List<T> {
+    /// Puts the items at the end, in their order.
+    pub fn append(&mut self, items: &[T]) -> Result<(), NoMemory>
+        ensures ok { OnOk result (self.new ≡ self.old ++ items.now) }
+        ensures err { OnErr result (self.new ≡ self.old) }
+    {
+        self.items.extend_from_slice(items)?;
+        Ok(())
+    }
+}

@@ -1,0 +1,148 @@
+//! Texts.
+ghost use Rattle.std.specs.Prelude.{◌≡◌, ◌+◌, ◌<◌, ◌≤◌, ◌^◌, ◌↔◌, IsTrue, [], ◌++◌, length, IfOk, IfErr, OnOk, OnErr, IsUtf8, encode_utf8, encode_utf8_all, slice_index, slice_range, string_bytes};
+ghost use Rattle.std.specs.Str.{chars};
+ghost use Rattle.std.specs.Ordering.{nat_cmp};
+ghost use Rattle.std.specs.Cmp.Lexicographic.{slice_cmp};
+ghost use Rattle.fill_text.specs.Text.{Refuses};
+
+use crate::{List, NoMemory, TextError};
+use std::alloc::Global;
+use std::cmp::Ordering;
+use std::marker::Model;
+
+/// A text, which contracts see as the list of its characters, each a Unicode scalar value.
+///
+/// A character takes four bytes, so that the one at a place is found at once.
+#[derive(Debug, Drop)]
+pub struct Text {
+    chars: Vec<char>,
+}
+
+impl Model for Text {
+    ghost use Rattle.std.specs.Prelude.{ℕ, List};
+
+    ghost Value = { List ℕ };
+
+    ghost view = { λ text. text.chars.items };
+}
+
+impl Text {
+    /// The empty text, which takes no memory.
+    pub fn new(alloc: Global) -> Text
+        ensures { result ≡ [] }
+    {
+        Text {
+            chars: Vec::new(alloc),
+        }
+    }
+
+    /// The text that these bytes spell in UTF-8.
+    pub fn from_utf8(alloc: Global, bytes: &[u8]) -> Result<Text, TextError>
+        ensures ok { IfOk result (λ text. text ≡ chars bytes.now) }
+        ensures spelled { OnOk result (IsUtf8 bytes.now) }
+        ensures err { IfErr result (λ e. Refuses bytes.now e) }
+    {
+        match str::from_utf8(bytes) {
+            Ok(spelled) => match spelled.chars().collect(alloc) {
+                Ok(chars) => Ok(Text { chars }),
+                Err(_) => Err(TextError::NoMemory),
+            },
+            Err(e) => Err(TextError::NotUtf8 {
+                at: e.valid_up_to(),
+            }),
+        }
+    }
+
+    /// The number of characters.
+    pub fn len(&self) -> usize
+        ensures value { result ≡ length self.now }
+        ensures small { result < 2 ^ 62 }
+    {
+        self.chars.as_slice().len()
+    }
+
+    /// The characters in order.
+    pub fn as_slice(&self) -> &[char]
+        ensures { result.now ≡ self.now }
+    {
+        self.chars.as_slice()
+    }
+
+    /// The character at a place, from 0.
+    pub fn at(&self, i: usize) -> char
+        requires { i < length self.now }
+        ensures { result ≡ slice_index self.now i }
+    {
+        self.chars[i]
+    }
+
+    /// Whether both are the same characters in the same order.
+    pub fn same(&self, other: &Text) -> bool
+        ensures { IsTrue result ↔ (self.now ≡ other.now) }
+    {
+        self.chars.as_slice() == other.chars.as_slice()
+    }
+
+    /// The order by character numbers from the left, a proper prefix first.
+    pub fn compare(&self, other: &Text) -> Ordering
+        ensures { result ≡ slice_cmp nat_cmp self.now other.now }
+    {
+        self.chars.as_slice().cmp(other.chars.as_slice())
+    }
+
+    /// Whether the characters from `a` to `b`, that at `b` left out, are those of the other text.
+    pub fn piece_is(&self, a: usize, b: usize, other: &Text) -> bool
+        requires order { a ≤ b }
+        requires within { b ≤ length self.now }
+        ensures { IsTrue result ↔ (slice_range self.now a b ≡ other.now) }
+    {
+        &self.chars.as_slice()[a..b] == other.chars.as_slice()
+    }
+
+    /// An equal text of its own memory.
+    pub fn copy(&self) -> Result<Text, NoMemory>
+        ensures { IfOk result (λ copied. copied ≡ self.now) }
+    {
+        let chars = Vec::from_slice(*self.chars.allocator(), &self.chars)?;
+        Ok(Text { chars })
+    }
+
+    /// The characters from `a` to `b`, that at `b` left out.
+    pub fn piece(&self, a: usize, b: usize) -> Result<Text, NoMemory>
+        requires order { a ≤ b }
+        requires within { b ≤ length self.now }
+        ensures { IfOk result (λ piece. piece ≡ slice_range self.now a b) }
+    {
+        let chars = Vec::from_slice(*self.chars.allocator(), &self.chars[a..b])?;
+        Ok(Text { chars })
+    }
+
+    /// Puts the other text's characters at the end.
+    pub fn append(&mut self, other: &Text) -> Result<(), NoMemory>
+        ensures ok { OnOk result (self.new ≡ self.old ++ other.now) }
+        ensures err { OnErr result (self.new ≡ self.old) }
+    {
+        self.chars.extend_from_slice(&other.chars)?;
+        Ok(())
+    }
+
+    /// Puts the text's UTF-8 at the end of a list of bytes.
+    pub fn push_utf8(&self, to: &mut List<u8>) -> Result<(), NoMemory>
+        ensures ok { OnOk result (to.new ≡ to.old ++ encode_utf8_all self.now) }
+        ensures err { OnErr result (to.new ≡ to.old) }
+    {
+        let spelled = spelling(*self.chars.allocator(), &self.chars)?;
+        to.append(spelled.as_bytes())
+    }
+}
+
+/// The UTF-8 of characters.
+fn spelling(alloc: Global, chars: &[char]) -> Result<String, NoMemory>
+    ensures { IfOk result (λ spelled. string_bytes spelled ≡ encode_utf8_all chars.now) }
+{
+    let mut spelled = String::new(alloc);
+    for c in chars {
+        spelled.push(*c)?;
+    }
+    Ok(spelled)
+}
