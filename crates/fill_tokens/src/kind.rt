@@ -1,0 +1,83 @@
+//! The kinds of pieces that tokens span.
+ghost use Rattle.std.specs.Prelude.{◌≡◌};
+ghost use Rattle.fill_tokens.specs.Kind.{run_has, kind_of};
+
+use crate::token::Token;
+use fill_text::class_of;
+
+/// A class of characters that a token matches maximal runs of.
+#[derive(Clone, Copy, Debug, PartialEq, Eq)]
+pub enum RunClass {
+    Digit,
+    Upper,
+    Lower,
+    Alpha,
+    Word,
+    Space,
+}
+
+/// What a token spans.
+#[derive(Clone, Copy, Debug)]
+pub enum Kind {
+    /// The empty piece at the start of the text.
+    AtStart,
+    /// The empty piece at the end of the text.
+    AtEnd,
+    /// A run of characters of a class, as long as it can be.
+    Run(RunClass),
+    /// One character.
+    Single(char),
+}
+
+impl RunClass {
+    /// Whether the class has the character.
+    pub fn has(self, c: char) -> bool
+        ensures { result ≡ run_has self c }
+    {
+        let class = class_of(c);
+        match self {
+            RunClass::Digit => class.digit,
+            RunClass::Upper => class.upper,
+            RunClass::Lower => class.lower,
+            RunClass::Alpha => class.alpha,
+            RunClass::Word => class.alpha || class.digit,
+            RunClass::Space => class.space,
+        }
+    }
+}
+
+impl Token {
+    /// What the token spans: the table to which a further token is added.
+    pub fn kind(self) -> Kind
+        ensures { result ≡ kind_of self }
+    {
+        match self {
+            Token::Start => Kind::AtStart,
+            Token::End => Kind::AtEnd,
+            Token::Digits => Kind::Run(RunClass::Digit),
+            Token::Upper => Kind::Run(RunClass::Upper),
+            Token::Lower => Kind::Run(RunClass::Lower),
+            Token::Alpha => Kind::Run(RunClass::Alpha),
+            Token::Word => Kind::Run(RunClass::Word),
+            Token::Space => Kind::Run(RunClass::Space),
+            Token::Hyphen => Kind::Single('-'),
+            Token::Dot => Kind::Single('.'),
+            Token::Comma => Kind::Single(','),
+            Token::Semicolon => Kind::Single(';'),
+            Token::Colon => Kind::Single(':'),
+            Token::Slash => Kind::Single('/'),
+            Token::Backslash => Kind::Single('\\'),
+            Token::Underscore => Kind::Single('_'),
+            Token::At => Kind::Single('@'),
+            Token::Hash => Kind::Single('#'),
+            Token::Ampersand => Kind::Single('&'),
+            Token::LeftParen => Kind::Single('('),
+            Token::RightParen => Kind::Single(')'),
+            Token::DoubleQuote => Kind::Single('"'),
+            Token::SingleQuote => Kind::Single('\''),
+            Token::Percent => Kind::Single('%'),
+            Token::Plus => Kind::Single('+'),
+            Token::Dollar => Kind::Single('$'),
+        }
+    }
+}

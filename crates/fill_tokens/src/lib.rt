@@ -1,0 +1,16 @@
+//! Tokens, sequences of tokens and places in a text.
+//!
+//! A place names a position of a text by what stands before and after it, so that the same place names a like
+//! position of another text. The notions are those of Gulwani, "Automating String Processing in Spreadsheets using
+//! Input-Output Examples" (POPL 2011), section 3: there tokens, token sequences and positions.
+#![tactic(auto)]
+
+mod kind;
+mod place;
+mod seq;
+mod token;
+
+pub use kind::{Kind, RunClass};
+pub use place::Place;
+pub use seq::Seq;
+pub use token::Token;

@@ -1,0 +1,54 @@
+//! Places.
+ghost use Rattle.std.specs.Prelude.{◌≡◌};
+ghost use Rattle.fill_tokens.specs.Place.{place_cost, place_cmp, signed_cmp};
+
+use crate::seq::Seq;
+use std::cmp::Ordering;
+
+/// A place in a text, which names a position from 0 to the text's length.
+#[derive(Clone, Copy, Debug)]
+pub enum Place {
+    /// The position counted from the left, or below 0 from the right, where -1 is the end of the text.
+    CPos(i32),
+    /// One of the positions at which a piece that the first sequence spans ends and one that the second spans begins:
+    /// the count says which of them, from 1 from the left, or from -1 from the right.
+    Pos(Seq, Seq, i32),
+}
+
+/// By the absolute value, and then plus before minus.
+fn compare_signed(a: i32, b: i32) -> Ordering
+    ensures { result ≡ signed_cmp a b }
+{
+    let by_size = a.unsigned_abs().cmp(&b.unsigned_abs());
+    by_size.then((a < 0).cmp(&(b < 0)))
+}
+
+impl Place {
+    /// The cost of the place, a part of the cost of a program.
+    pub fn cost(&self) -> u64
+        ensures { result ≡ place_cost self.now }
+    {
+        match self {
+            Place::CPos(0) | Place::CPos(-1) => 1,
+            Place::CPos(_) => 10,
+            Place::Pos(left, right, count) => {
+                let tokens = left.len() as u64 + right.len() as u64;
+                2 + 2 * tokens + 2 * u64::from(count.unsigned_abs().saturating_sub(1))
+            }
+        }
+    }
+
+    /// The total order of places: `CPos` before `Pos`, each by its parts from the left.
+    pub fn compare(&self, other: &Place) -> Ordering
+        ensures { result ≡ place_cmp self.now other.now }
+    {
+        match (self, other) {
+            (Place::CPos(a), Place::CPos(b)) => compare_signed(*a, *b),
+            (Place::CPos(_), Place::Pos(_, _, _)) => Ordering::Less,
+            (Place::Pos(_, _, _), Place::CPos(_)) => Ordering::Greater,
+            (Place::Pos(a, b, c), Place::Pos(d, e, f)) => {
+                a.compare(d).then(b.compare(e)).then(compare_signed(*c, *f))
+            }
+        }
+    }
+}
