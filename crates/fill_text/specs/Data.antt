@@ -1,5 +1,5 @@
 -- Sheets and tables as plain data: what the code's own types of these names are seen as.
-use Rattle.std.specs.Prelude.{ℕ, zero, suc, ◌==◌, List, Option, Some, None, slice_get, position, option_and_then}
+use Rattle.std.specs.Prelude.{ℕ, zero, suc, ◌==◌, List, Option, Some, None, slice_get, position, option_and_then, option_map}
 
 -- a row of a sheet: its cells in the order of the sheet's input columns, and the text that its output cell gives,
 -- none where no output column is set or the cell is empty
@@ -33,6 +33,14 @@ cell_at sheet row column =
 abbrev pub table_cell_at : List TableData → ℕ → ℕ → ℕ → Option (List ℕ)
 table_cell_at tables table row column =
     option_and_then (λ t. option_and_then (λ cells. nth cells column) (nth t.rows row)) (nth tables table)
+
+-- the cells of a table's row; none where a number is out of range
+abbrev pub table_row_at : List TableData → ℕ → ℕ → Option (List (List ℕ))
+table_row_at tables table row = option_and_then (λ t. nth t.rows row) (nth tables table)
+
+-- how many columns a table has; none where there is no such table
+abbrev pub width_at : List TableData → ℕ → Option ℕ
+width_at tables table = option_map (λ t. t.width) (nth tables table)
 
 -- the columns of a table's key; none where a number is out of range
 abbrev pub key_at : List TableData → ℕ → ℕ → Option (List ℕ)

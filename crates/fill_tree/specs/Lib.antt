@@ -1,0 +1,7 @@
+pub mod Chosen
+pub mod Cost
+pub mod Grammar
+pub mod Meaning
+pub mod Order
+pub mod Tree
+pub mod Value

@@ -1,0 +1,15 @@
+//! Programs as trees, and what the user gives: examples, edits and settings.
+//!
+//! The language of programs is that of Gulwani, "Automating String Processing in Spreadsheets using Input-Output
+//! Examples" (POPL 2011), section 3, with the lookup of Singh and Gulwani, "Learning Semantic String Transformations
+//! from Examples" (PVLDB 5(8), 2012), section 4.
+#![tactic(auto)]
+
+mod guard;
+mod tree;
+mod user;
+
+pub use fill_tokens::{Place, Seq, Token};
+pub use guard::{Case, Guard, Literal, Switch};
+pub use tree::{Atom, Program, Select, Source};
+pub use user::{Constants, Edit, Example, Settings};

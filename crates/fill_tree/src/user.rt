@@ -1,0 +1,42 @@
+//! What the user gives.
+use fill_text::Text;
+
+/// Which constants a program may have.
+#[derive(Clone, Copy, Debug, PartialEq, Eq)]
+pub enum Constants {
+    /// Any text that is not empty.
+    Any,
+    /// Texts of separators alone: characters that are neither letters nor digits.
+    Separators,
+}
+
+/// The bounds of the grammar.
+#[derive(Clone, Copy, Debug, PartialEq, Eq)]
+pub struct Settings {
+    /// How deep lookups may stand inside each other.
+    pub depth: u8,
+    pub constants: Constants,
+    /// The table of tokens; 1 is the only one yet.
+    pub profile: u8,
+}
+
+/// What a row's output cell shall be.
+#[derive(Debug, Drop)]
+pub struct Example {
+    /// The row, from 1.
+    pub row: u32,
+    pub text: Text,
+}
+
+/// A change of the examples.
+#[derive(Debug, Drop)]
+pub enum Edit {
+    /// Gives a row that has no example one.
+    Add { row: u32, text: Text },
+    /// Replaces the text of a row's example.
+    Correct { row: u32, text: Text },
+    /// Takes a row's example away.
+    Retract { row: u32 },
+    /// Takes all examples away.
+    Clear,
+}
