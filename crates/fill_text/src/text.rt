@@ -1,5 +1,6 @@
 //! Texts.
-ghost use Rattle.std.specs.Prelude.{◌≡◌, ◌+◌, ◌<◌, ◌≤◌, ◌^◌, ◌↔◌, IsTrue, [], ◌++◌, length, IfOk, IfErr, OnOk, OnErr, IsUtf8, encode_utf8, encode_utf8_all, slice_index, slice_range, string_bytes};
+ghost use Rattle.std.specs.Prelude.{All, ◌≡◌, ◌+◌, ◌<◌, ◌≤◌, ◌^◌, ◌↔◌, IsTrue, [], ◌++◌, length, IfOk, IfErr, OnOk, OnErr, IsUtf8, encode_utf8, encode_utf8_all, slice_index, slice_range, string_bytes};
+ghost use Rattle.std.specs.Char.{IsScalar};
 ghost use Rattle.std.specs.Str.{chars};
 ghost use Rattle.std.specs.Ordering.{nat_cmp};
 ghost use Rattle.std.specs.Cmp.Lexicographic.{slice_cmp};
@@ -19,11 +20,14 @@ pub struct Text {
 }
 
 impl Model for Text {
-    ghost use Rattle.std.specs.Prelude.{ℕ, List};
+    ghost use Rattle.std.specs.Prelude.{ℕ, List, All};
+    ghost use Rattle.std.specs.Char.{IsScalar};
 
     ghost Value = { List ℕ };
 
     ghost view = { λ text. text.chars.items };
+
+    ghost invariant = { λ text. All IsScalar text.chars.items };
 }
 
 impl Text {
@@ -66,6 +70,13 @@ impl Text {
         ensures { result.now ≡ self.now }
     {
         self.chars.as_slice()
+    }
+
+    /// What every text keeps: its characters are Unicode scalar values. It does nothing.
+    pub fn keeps_scalars(&self)
+        ensures { All IsScalar self.now }
+    {
+        let _kept = &self.chars;
     }
 
     /// The character at a place, from 0.
