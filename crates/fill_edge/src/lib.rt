@@ -1,0 +1,13 @@
+//! The outside of the product: a cabinet of files, a sink of bytes and a counter of steps.
+#![tactic(auto)]
+
+mod outside;
+mod reading;
+mod steps;
+mod writing;
+
+pub use outside::{Cabinet, Failed, LARGEST_FILE, ReadRefusal, Sink};
+pub use reading::{ReadError, read_all};
+pub use std::sync::ledger::Ledger;
+pub use steps::Steps;
+pub use writing::{WriteFault, write_all};
