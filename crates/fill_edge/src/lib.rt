@@ -1,11 +1,15 @@
 //! The outside of the product: a cabinet of files, a sink of bytes and a counter of steps.
 #![tactic(auto)]
 
+mod memory_cabinet;
+mod memory_sink;
 mod outside;
 mod reading;
 mod steps;
 mod writing;
 
+pub use memory_cabinet::MemoryCabinet;
+pub use memory_sink::MemorySink;
 pub use outside::{Cabinet, Failed, LARGEST_FILE, ReadRefusal, Sink};
 pub use reading::{ReadError, read_all};
 pub use std::sync::ledger::Ledger;
