@@ -1,6 +1,7 @@
 -- What a cabinet of files and a sink of bytes tell, and what their calls do to it.
-use Rattle.std.specs.Prelude.{◌≡◌, ℕ, ◌+◌, ◌-◌, ◌^◌, ◌<◌, ◌≤◌, min, List, length, take, drop, ⊤, Option, None, Some}
+use Rattle.std.specs.Prelude.{◌≡◌, ◌↔◌, ◌⊎◌, ℕ, ◌+◌, ◌-◌, ◌^◌, ◌<◌, ◌≤◌, min, List, length, take, drop, ⊤, Option, None, Some}
 use Rattle.std.specs.Io.KnownBytes.{Appends}
+use Rattle.std.proofs.Common.{arith}
 
 -- what a cabinet tells of its files: nothing, or the map from the bytes of a name to the bytes of its file
 abbrev pub Files : Type 0
@@ -14,13 +15,20 @@ last_count = 2 ^ 64 - 1
 abbrev pub counted : ℕ → ℕ → ℕ
 counted count n = min (count + n) last_count
 
--- a count rose: it is greater now, or stands at its last value
+-- a count rose by more than n, or stands at its last value (`RoseBeyond-cases`)
+abbrev pub RoseBeyond : ℕ → ℕ → ℕ → Type 0
+RoseBeyond before now n = counted before (n + 1) ≤ now
+
+-- a count rose: it is greater now, or stands at its last value (`Rose-cases`)
 abbrev pub Rose : ℕ → ℕ → Type 0
 Rose before now = counted before 1 ≤ now
 
--- a count rose by more than n, or stands at its last value
-abbrev pub RoseBeyond : ℕ → ℕ → ℕ → Type 0
-RoseBeyond before now n = counted before (n + 1) ≤ now
+-- no count is above its last value, and then these are exactly the two cases
+pub RoseBeyond-cases : (before now n : ℕ) → now ≤ last_count → RoseBeyond before now n ↔ ((before + n < now) ⊎ (now ≡ last_count))
+RoseBeyond-cases before now n fits = grind arith
+
+pub Rose-cases : (before now : ℕ) → now ≤ last_count → Rose before now ↔ ((before < now) ⊎ (now ≡ last_count))
+Rose-cases before now fits = grind arith
 
 -- no name's count fell
 abbrev pub NoneFell : (List ℕ → ℕ) → (List ℕ → ℕ) → Type 0
