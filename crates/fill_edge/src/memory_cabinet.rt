@@ -1,5 +1,5 @@
 //! Files in memory, which tell everything.
-ghost use Rattle.std.specs.Prelude.{◌≡◌, ◌∷◌, ◌++◌, ◌↔◌, ◌<◌, ◌≤◌, [], min, length, take, drop, option_map, Contains, IfOk, OnOk, OnErr, IsErrOf};
+ghost use Rattle.std.specs.Prelude.{◌≡◌, ◌≢◌, ℕ, List, ◌∷◌, ◌++◌, ◌↔◌, ◌<◌, ◌≤◌, [], min, length, take, drop, option_map, Contains, IfOk, OnOk, OnErr, IsErrOf};
 ghost use Rattle.std.specs.Str.{bytes_eq};
 ghost use Rattle.fill_edge.specs.Outside.{counted, GivesPiece};
 ghost use Rattle.fill_edge.specs.Memory.{held, rest_from, after_read};
@@ -93,6 +93,8 @@ impl MemoryCabinet {
     /// Sets a file. One of the same name that was put before is no longer seen.
     pub fn put(&mut self, name: &str, bytes: &[u8]) -> Result<(), NoMemory>
         ensures ok { OnOk result (self.new ≡ record self.old { files = (name.now, bytes.now) ∷ self.old.files }) }
+        ensures seen { OnOk result (held self.new.files name.now ≡ Some bytes.now) }
+        ensures others { OnOk result ((other : List ℕ) → other ≢ name.now → held self.new.files other ≡ held self.old.files other) }
         ensures err { OnErr result (self.new ≡ self.old) }
     {
         let file = File::new(self.alloc, name, bytes)?;
