@@ -6,3 +6,6 @@ mod record;
 
 pub use reading::read_records;
 pub use record::Record;
+
+#[cfg(test)]
+mod tests;
