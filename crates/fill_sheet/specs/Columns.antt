@@ -1,5 +1,5 @@
 -- The columns that a sheet is read from.
-use Rattle.std.specs.Prelude.{◌≡◌, ◌≢◌, ℕ, ◌<◌, ◌≤◌, List, [], ◌∷◌, length, All, AllPairs, Contains, Option, Some, None, ⊤, if◌then◌else◌, nat_lt}
+use Rattle.std.specs.Prelude.{◌≡◌, ◌≢◌, ℕ, ◌<◌, ◌≤◌, List, [], ◌∷◌, ◌++◌, length, All, AllPairs, Contains, Option, Some, None, ⊤, if◌then◌else◌, nat_le, option_to_list}
 
 -- a number that a column can have
 pub record IsColumn (column : ℕ) : Type 0 where
@@ -21,7 +21,7 @@ IsOutput inputs (Some column) = IsColumn column × ¬ (Contains inputs column)
 -- a rising list of numbers with one more number at its place
 abbrev pub placed : ℕ → List ℕ → List ℕ
 placed n [] = n ∷ []
-placed n (m ∷ more) = if nat_lt m n then m ∷ placed n more else n ∷ m ∷ more
+placed n (m ∷ more) = if nat_le n m then n ∷ m ∷ more else m ∷ placed n more
 
 -- these numbers in rising order
 abbrev pub rising : List ℕ → List ℕ
@@ -30,5 +30,4 @@ rising (n ∷ more) = placed n (rising more)
 
 -- the columns that are read, in rising order: the inputs and the output
 abbrev pub used : List ℕ → Option ℕ → List ℕ
-used inputs None = rising inputs
-used inputs (Some output) = placed output (rising inputs)
+used inputs output = rising (inputs ++ option_to_list output)

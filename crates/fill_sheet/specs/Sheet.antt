@@ -1,5 +1,5 @@
 -- What a sheet is of a CSV file's bytes: its rows, or the one refusal.
-use Rattle.std.specs.Prelude.{◌≡◌, ◌≢◌, ℕ, ◌+◌, ◌<◌, ◌≤◌, List, [], ◌∷◌, length, take, drop, map, All, Bool, true, false, not, if◌then◌else◌, nat_lt, Option, Some, None, Result, Ok, Err, option_and_then}
+use Rattle.std.specs.Prelude.{◌≡◌, ◌≢◌, ℕ, ◌+◌, ◌<◌, ◌≤◌, List, [], ◌∷◌, length, take, drop, map, All, IsTrue, Bool, true, false, not, if◌then◌else◌, nat_lt, Option, Some, None, Result, Ok, Err, option_and_then}
 use Rattle.std.specs.List.{find}
 use Rattle.std.specs.List.Sorted.{IsStrictlyIncreasing}
 use Rattle.std.specs.Str.{chars, is_utf8}
@@ -29,6 +29,10 @@ row_of inputs output fields = record { cells = map (text_in fields) inputs; give
 -- the first of these columns whose field is not UTF-8
 abbrev pub bad_column : List ℕ → List (List ℕ) → Option ℕ
 bad_column columns fields = find (λ column. not (is_utf8 (field_of column fields))) columns
+
+-- each field in these columns is UTF-8
+abbrev pub IsText : List ℕ → List (List ℕ) → Type 0
+IsText columns fields = All (λ column. IsTrue (is_utf8 (field_of column fields))) columns
 
 -- the number of a record and its bad column, where it has one, or else what a later record has
 abbrev pub or_later : ℕ → Option ℕ → Option (ℕ × ℕ) → Option (ℕ × ℕ)

@@ -1,6 +1,6 @@
 //! Columns in rising order.
 ghost use Rattle.std.specs.Prelude.{◌≡◌, IfOk};
-ghost use Rattle.fill_sheet.specs.Columns.{placed, rising, used};
+ghost use Rattle.fill_sheet.specs.Columns.{rising, used};
 
 use fill_text::NoMemory;
 use std::alloc::Global;
@@ -9,30 +9,19 @@ use std::alloc::Global;
 pub(crate) fn rising(alloc: Global, columns: &[u32]) -> Result<Vec<u32>, NoMemory>
     ensures { IfOk result (λ v. v.items ≡ rising columns.now) }
 {
-    let mut rising = Vec::with_capacity(alloc, columns.len())?;
-    for column in columns.iter().rev() {
-        place(&mut rising, *column)?;
-    }
+    let mut rising = Vec::from_slice(alloc, columns)?;
+    rising.sort()?;
     Ok(rising)
 }
 
-/// The inputs, which rise, and the output at its place among them.
+/// The inputs and the output, where one is set, in rising order.
 pub(crate) fn used(alloc: Global, inputs: &[u32], output: Option<u32>) -> Result<Vec<u32>, NoMemory>
+    ensures { IfOk result (λ v. v.items ≡ used inputs.now output) }
 {
-    let mut columns = Vec::from_slice(alloc, inputs)?;
+    let mut used = Vec::from_slice(alloc, inputs)?;
     if let Some(column) = output {
-        place(&mut columns, column)?;
+        used.push(column)?;
     }
-    Ok(columns)
-}
-
-/// Puts a column at its place among rising ones.
-fn place(rising: &mut Vec<u32>, column: u32) -> Result<(), NoMemory>
-{
-    let at = rising
-        .iter()
-        .position(|other| column <= *other)
-        .unwrap_or(rising.len());
-    rising.insert(at, column)?;
-    Ok(())
+    used.sort()?;
+    Ok(used)
 }

@@ -1,13 +1,32 @@
 //! What is read of a sheet's records.
-ghost use Rattle.std.specs.Prelude.{◌≡◌, IfOk};
+ghost use Rattle.std.specs.Prelude.{◌≡◌, ◌+◌, ◌<◌, ◌^◌, ◌++◌, length, map, take, All, IfOk, IsTrue, option_to_list};
+ghost use Rattle.std.specs.Option.{ForSome};
+ghost use Rattle.std.specs.Str.{is_utf8};
+ghost use Rattle.fill_records.specs.Records.{field_of};
+ghost use Rattle.fill_sheet.specs.Columns.{IsColumn};
+ghost use Rattle.fill_sheet.specs.Sheet.{IsText, bad_column, first_bad, given_in, row_of, row_records, text_in};
 
 use crate::row::Row;
 use fill_records::Record;
 use fill_text::{NoMemory, Text, TextError};
 use std::alloc::Global;
 
+/// How many records a sheet's file may have, the header among them.
+pub(crate) const LIMIT: usize = 20_000;
+
+/// The records of the rows, of a file's first ones.
+pub(crate) fn row_records(header: bool, records: &[Record]) -> &[Record]
+    ensures { result.now ≡ row_records header records.now }
+{
+    let end = records.len().min(LIMIT);
+    let start = if header { end.min(1) } else { 0 };
+    &records[start..end]
+}
+
 /// The first of these columns whose field is not UTF-8.
 fn bad_column(record: &Record, columns: &[u32]) -> Option<u32>
+    requires { All IsColumn columns.now }
+    ensures { result ≡ bad_column columns.now record.now }
 {
     for column in columns {
         if str::from_utf8(record.field(*column)).is_err() {
@@ -17,8 +36,11 @@ fn bad_column(record: &Record, columns: &[u32]) -> Option<u32>
     None
 }
 
-/// The number of the first record with a bad field, counted from `first`, and the column of that field.
+/// The number of the first record with a bad field, where they count from `first`, and the column of that field.
 pub(crate) fn first_bad(records: &[Record], first: u32, columns: &[u32]) -> Option<(u32, u32)>
+    requires fits { first + length records.now < 2 ^ 32 }
+    requires columns { All IsColumn columns.now }
+    ensures { result ≡ first_bad columns.now first records.now }
 {
     let mut number = first;
     for record in records {
@@ -32,6 +54,9 @@ pub(crate) fn first_bad(records: &[Record], first: u32, columns: &[u32]) -> Opti
 
 /// The text of a field.
 fn text_in(alloc: Global, record: &Record, column: u32) -> Result<Text, NoMemory>
+    requires column { IsColumn column }
+    requires text { IsTrue (is_utf8 (field_of column record.now)) }
+    ensures { IfOk result (λ text. text ≡ text_in record.now column) }
 {
     match Text::from_utf8(alloc, record.field(column)) {
         Ok(text) => Ok(text),
@@ -40,7 +65,11 @@ fn text_in(alloc: Global, record: &Record, column: u32) -> Result<Text, NoMemory
     }
 }
 
+/// The texts of a record's fields in these columns.
 fn cells_in(alloc: Global, record: &Record, inputs: &[u32]) -> Result<Vec<Text>, NoMemory>
+    requires columns { All IsColumn inputs.now }
+    requires text { IsText inputs.now record.now }
+    ensures { IfOk result (λ cells. cells.items ≡ map (text_in record.now) inputs.now) }
 {
     let mut cells = Vec::with_capacity(alloc, inputs.len())?;
     for column in inputs {
@@ -49,7 +78,11 @@ fn cells_in(alloc: Global, record: &Record, inputs: &[u32]) -> Result<Vec<Text>,
     Ok(cells)
 }
 
+/// The text that a record gives for its row: that of the output column, where it has one.
 fn given_in(alloc: Global, record: &Record, output: Option<u32>) -> Result<Option<Text>, NoMemory>
+    requires column { ForSome output IsColumn }
+    requires text { IsText (option_to_list output) record.now }
+    ensures { IfOk result (λ given. given ≡ given_in output record.now) }
 {
     let Some(column) = output else {
         return Ok(None);
@@ -61,19 +94,38 @@ fn given_in(alloc: Global, record: &Record, output: Option<u32>) -> Result<Optio
     Ok(Some(text))
 }
 
-/// The rows of these records.
+/// The row of a record.
+fn row_of(
+    alloc: Global,
+    record: &Record,
+    inputs: &[u32],
+    output: Option<u32>,
+) -> Result<Row, NoMemory>
+    requires inputs { All IsColumn inputs.now }
+    requires output { ForSome output IsColumn }
+    requires text { IsText (inputs.now ++ option_to_list output) record.now }
+    ensures { IfOk result (λ row. row ≡ row_of inputs.now output record.now) }
+{
+    let cells = cells_in(alloc, record, inputs)?;
+    let given = given_in(alloc, record, output)?;
+    Ok(Row { cells, given })
+}
+
+/// The rows of records.
 pub(crate) fn rows_of(
     alloc: Global,
     records: &[Record],
     inputs: &[u32],
     output: Option<u32>,
 ) -> Result<Vec<Row>, NoMemory>
+    requires inputs { All IsColumn inputs.now }
+    requires output { ForSome output IsColumn }
+    requires text { All (IsText (inputs.now ++ option_to_list output)) records.now }
+    ensures { IfOk result (λ rows. rows.items ≡ map (row_of inputs.now output) records.now) }
 {
     let mut rows = Vec::with_capacity(alloc, records.len())?;
     for record in records {
-        let cells = cells_in(alloc, record, inputs)?;
-        let given = given_in(alloc, record, output)?;
-        rows.push(Row { cells, given })?;
+        rows.push(row_of(alloc, record, inputs, output)?)?;
     }
     Ok(rows)
 }

@@ -7,15 +7,12 @@ ghost use Rattle.fill_sheet.specs.Sheet.{IsSheet, given_at, read_sheet};
 
 use crate::SheetError;
 use crate::columns::{rising, used};
-use crate::reading::{first_bad, rows_of};
+use crate::reading::{LIMIT, first_bad, row_records, rows_of};
 use crate::row::Row;
 use fill_records::read_records;
 use fill_text::Text;
 use std::alloc::Global;
 use std::marker::Model;
-
-/// How many records a sheet's file may have, the header among them.
-const LIMIT: u32 = 20_000;
 
 /// A sheet: rows of texts in a few input columns, some with a given text for the output.
 #[derive(Debug, Drop)]
@@ -56,15 +53,16 @@ impl Sheet {
     {
         let columns = used(alloc, inputs, output)?;
         let inputs = rising(alloc, inputs)?;
-        let records = read_records(alloc, bytes, LIMIT as usize + 1)?;
-        let count = records.len();
-        let first = if header { 1 } else { 0 };
-        let rows = &records.as_slice()[first.min(count)..count.min(LIMIT as usize)];
-        if let Some((number, column)) = first_bad(rows, first as u32 + 1, &columns) {
+        let records = read_records(alloc, bytes, LIMIT + 1)?;
+        let rows = row_records(header, records.as_slice());
+        let first = if header { 2 } else { 1 };
+        if let Some((number, column)) = first_bad(rows, first, &columns) {
             return Err(SheetError::NotUtf8 { number, column });
         }
-        if count > LIMIT as usize {
-            return Err(SheetError::TooManyRows { limit: LIMIT });
+        if records.len() > LIMIT {
+            return Err(SheetError::TooManyRows {
+                limit: LIMIT as u32,
+            });
         }
         let rows = rows_of(alloc, rows, &inputs, output)?;
         Ok(Sheet { inputs, rows })
