@@ -1,5 +1,5 @@
 -- The columns that a sheet is read from.
-use Rattle.std.specs.Prelude.{◌≡◌, ◌≢◌, ℕ, ◌<◌, ◌≤◌, List, [], ◌∷◌, ◌++◌, length, All, AllPairs, Contains, Option, Some, None, ⊤, if◌then◌else◌, nat_le, option_to_list}
+use Rattle.std.specs.Prelude.{◌≢◌, ℕ, ◌<◌, ◌≤◌, List, [], ◌∷◌, ◌++◌, length, All, AllPairs, Contains, Option, Some, None, ⊤, if◌then◌else◌, nat_le, option_to_list}
 
 -- a number that a column can have
 pub record IsColumn (column : ℕ) : Type 0 where

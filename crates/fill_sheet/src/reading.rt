@@ -23,13 +23,23 @@ pub(crate) fn row_records(header: bool, records: &[Record]) -> &[Record]
     &records[start..end]
 }
 
+/// Whether bytes are UTF-8.
+fn is_text(bytes: &[u8]) -> bool
+    ensures { result ≡ is_utf8 bytes.now }
+{
+    match str::from_utf8(bytes) {
+        Ok(_) => true,
+        Err(_) => false,
+    }
+}
+
 /// The first of these columns whose field is not UTF-8.
-fn bad_column(record: &Record, columns: &[u32]) -> Option<u32>
+fn bad_column(fields: &Record, columns: &[u32]) -> Option<u32>
     requires { All IsColumn columns.now }
-    ensures { result ≡ bad_column columns.now record.now }
+    ensures { result ≡ bad_column columns.now fields.now }
 {
     for column in columns {
-        if str::from_utf8(record.field(*column)).is_err() {
+        if !is_text(fields.field(*column)) {
             return Some(*column);
         }
     }
@@ -53,12 +63,12 @@ pub(crate) fn first_bad(records: &[Record], first: u32, columns: &[u32]) -> Opti
 }
 
 /// The text of a field.
-fn text_in(alloc: Global, record: &Record, column: u32) -> Result<Text, NoMemory>
+fn text_in(alloc: Global, fields: &Record, column: u32) -> Result<Text, NoMemory>
     requires column { IsColumn column }
-    requires text { IsTrue (is_utf8 (field_of column record.now)) }
-    ensures { IfOk result (λ text. text ≡ text_in record.now column) }
+    requires text { IsTrue (is_utf8 (field_of column fields.now)) }
+    ensures { IfOk result (λ text. text ≡ text_in fields.now column) }
 {
-    match Text::from_utf8(alloc, record.field(column)) {
+    match Text::from_utf8(alloc, fields.field(column)) {
         Ok(text) => Ok(text),
         Err(TextError::NoMemory) => Err(NoMemory),
         Err(TextError::NotUtf8 { .. }) => unreachable!(),
@@ -66,28 +76,28 @@ fn text_in(alloc: Global, record: &Record, column: u32) -> Result<Text, NoMemory
 }
 
 /// The texts of a record's fields in these columns.
-fn cells_in(alloc: Global, record: &Record, inputs: &[u32]) -> Result<Vec<Text>, NoMemory>
+fn cells_in(alloc: Global, fields: &Record, inputs: &[u32]) -> Result<Vec<Text>, NoMemory>
     requires columns { All IsColumn inputs.now }
-    requires text { IsText inputs.now record.now }
-    ensures { IfOk result (λ cells. cells.items ≡ map (text_in record.now) inputs.now) }
+    requires text { IsText inputs.now fields.now }
+    ensures { IfOk result (λ cells. cells.items ≡ map (text_in fields.now) inputs.now) }
 {
     let mut cells = Vec::with_capacity(alloc, inputs.len())?;
     for column in inputs {
-        cells.push(text_in(alloc, record, *column)?)?;
+        cells.push(text_in(alloc, fields, *column)?)?;
     }
     Ok(cells)
 }
 
 /// The text that a record gives for its row: that of the output column, where it has one.
-fn given_in(alloc: Global, record: &Record, output: Option<u32>) -> Result<Option<Text>, NoMemory>
+fn given_in(alloc: Global, fields: &Record, output: Option<u32>) -> Result<Option<Text>, NoMemory>
     requires column { ForSome output IsColumn }
-    requires text { IsText (option_to_list output) record.now }
-    ensures { IfOk result (λ given. given ≡ given_in output record.now) }
+    requires text { IsText (option_to_list output) fields.now }
+    ensures { IfOk result (λ given. given ≡ given_in output fields.now) }
 {
     let Some(column) = output else {
         return Ok(None);
     };
-    let text = text_in(alloc, record, column)?;
+    let text = text_in(alloc, fields, column)?;
     if text.len() == 0 {
         return Ok(None);
     }
@@ -97,17 +107,17 @@ fn given_in(alloc: Global, record: &Record, output: Option<u32>) -> Result<Optio
 /// The row of a record.
 fn row_of(
     alloc: Global,
-    record: &Record,
+    fields: &Record,
     inputs: &[u32],
     output: Option<u32>,
 ) -> Result<Row, NoMemory>
     requires inputs { All IsColumn inputs.now }
     requires output { ForSome output IsColumn }
-    requires text { IsText (inputs.now ++ option_to_list output) record.now }
-    ensures { IfOk result (λ row. row ≡ row_of inputs.now output record.now) }
+    requires text { IsText (inputs.now ++ option_to_list output) fields.now }
+    ensures { IfOk result (λ row. row ≡ row_of inputs.now output fields.now) }
 {
-    let cells = cells_in(alloc, record, inputs)?;
-    let given = given_in(alloc, record, output)?;
+    let cells = cells_in(alloc, fields, inputs)?;
+    let given = given_in(alloc, fields, output)?;
     Ok(Row { cells, given })
 }
 

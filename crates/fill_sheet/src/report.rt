@@ -16,12 +16,13 @@ pub fn put_record(alloc: Global, to: &mut List<u8>, fields: &List<List<u8>>) -> 
     for field in fields.as_slice() {
         slices.push(field.as_slice())?;
     }
-    let text = record_text(alloc, &slices)?;
+    let text = record_bytes(alloc, &slices)?;
     to.append(&text)
 }
 
-/// The text of a record.
-fn record_text(alloc: Global, fields: &[&[u8]]) -> Result<Vec<u8>, NoMemory>
+/// The bytes of a record.
+#[tactic(auto, unfolding(crate::specs::Report::record_text))]
+fn record_bytes(alloc: Global, fields: &[&[u8]]) -> Result<Vec<u8>, NoMemory>
     ensures { IfOk result (λ text. text.items ≡ record_text (map (λ f. f.now) fields.now)) }
 {
     let mut writer = WriterBuilder::new().from_writer(Vec::new(alloc));

@@ -1,15 +1,15 @@
 //! Sheets.
-ghost use Rattle.std.specs.Prelude.{◌≡◌, ◌≢◌, ℕ, ◌≤◌, length, Contains, Ok, Err, Some, IfOk, IfErr, option_copied};
+ghost use Rattle.std.specs.Prelude.{◌≡◌, ◌≢◌, ℕ, ◌≤◌, ◌==◌, length, position, Contains, Ok, Err, Some, IfOk, IfErr, option_copied};
 ghost use Rattle.std.specs.List.Sorted.{IsPermutation};
 ghost use Rattle.fill_text.specs.Data.{cell_at};
 ghost use Rattle.fill_sheet.specs.Columns.{AreInputs, IsOutput};
-ghost use Rattle.fill_sheet.specs.Sheet.{IsSheet, given_at, read_sheet};
+ghost use Rattle.fill_sheet.specs.Sheet.{IsSheet, given_at, read_sheet, sheet_of};
 
 use crate::SheetError;
 use crate::columns::{rising, used};
 use crate::reading::{LIMIT, first_bad, row_records, rows_of};
 use crate::row::Row;
-use fill_records::read_records;
+use fill_records::{Record, read_records};
 use fill_text::Text;
 use std::alloc::Global;
 use std::marker::Model;
@@ -51,10 +51,28 @@ impl Sheet {
         ensures inputs { IfOk result (λ sheet. IsPermutation inputs.now sheet.inputs) }
         ensures shape { IfOk result IsSheet }
     {
+        let records = read_records(alloc, bytes, LIMIT + 1)?;
+        Sheet::of_records(alloc, records.as_slice(), header, inputs, output)
+    }
+
+    /// The sheet of a file's records, or of the first of them, more than a sheet may have.
+    fn of_records(
+        alloc: Global,
+        records: &[Record],
+        header: bool,
+        inputs: &[u32],
+        output: Option<u32>,
+    ) -> Result<Sheet, SheetError>
+        requires inputs { AreInputs inputs.now }
+        requires output { IsOutput inputs.now output }
+        ensures ok { IfOk result (λ sheet. sheet_of header inputs.now output records.now ≡ Ok sheet) }
+        ensures err { IfErr result (λ e. e ≢ SheetError.NoMemory → sheet_of header inputs.now output records.now ≡ Err e) }
+        ensures inputs { IfOk result (λ sheet. IsPermutation inputs.now sheet.inputs) }
+        ensures shape { IfOk result IsSheet }
+    {
         let columns = used(alloc, inputs, output)?;
         let inputs = rising(alloc, inputs)?;
-        let records = read_records(alloc, bytes, LIMIT + 1)?;
-        let rows = row_records(header, records.as_slice());
+        let rows = row_records(header, records);
         let first = if header { 2 } else { 1 };
         if let Some((number, column)) = first_bad(rows, first, &columns) {
             return Err(SheetError::NotUtf8 { number, column });
@@ -91,8 +109,9 @@ impl Sheet {
         requires input { Contains self.now.inputs column }
         ensures { cell_at self.now row column ≡ Some result.now }
     {
-        let at = self.inputs.iter().position(|input| *input == column).unwrap();
-        &self.rows[row as usize - 1].cells[at]
+        let at = place_of(&self.inputs, column).unwrap();
+        let row = &self.rows[row as usize - 1];
+        &row.cells[at]
     }
 
     /// The text that a row, from 1, is given in the output column: none where no output column was set or the cell is
@@ -104,4 +123,11 @@ impl Sheet {
     {
         self.rows[row as usize - 1].given.as_ref()
     }
+}
+
+/// The place of a column among the inputs.
+fn place_of(inputs: &[u32], column: u32) -> Option<usize>
+    ensures { result ≡ position (λ input. input == column) inputs.now }
+{
+    inputs.iter().position(|input| *input == column)
 }
