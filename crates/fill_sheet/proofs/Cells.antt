@@ -13,27 +13,27 @@ use Rattle.fill_text.specs.Data.{RowData, SheetData, nth, cell_at}
 take-min : {A : Type 0} (xs : List A) (most : ℕ) → take (min (length xs) most) xs ≡ take most xs
 take-min xs most = elim (leb most (length xs)) as (λ b. leb most (length xs) ≡ b → take (min (length xs) most) xs ≡ take most xs) [
   | true ↦ λ is.
-    let le = leb-true most (length xs) is in
-    let all : min (length xs) most ≡ most = omega arith in
-    rw all refl
+      let le = leb-true most (length xs) is in
+      let all : min (length xs) most ≡ most = omega arith in
+      rw all refl
   | false ↦ λ is.
-    let lt = leb-false most (length xs) is in
-    let le : length xs ≤ most = omega arith in
-    let same : length xs ≤ min (length xs) most = omega arith in
-    rw (take_all (min (length xs) most) xs same, take_all most xs le) refl
+      let lt = leb-false most (length xs) is in
+      let le : length xs ≤ most = omega arith in
+      let same : length xs ≤ min (length xs) most = omega arith in
+      rw (take_all (min (length xs) most) xs same, take_all most xs le) refl
 ] refl
 
 drop-min : {A : Type 0} (xs : List A) (most : ℕ) → drop (min (length xs) most) xs ≡ drop most xs
 drop-min xs most = elim (leb most (length xs)) as (λ b. leb most (length xs) ≡ b → drop (min (length xs) most) xs ≡ drop most xs) [
   | true ↦ λ is.
-    let le = leb-true most (length xs) is in
-    let all : min (length xs) most ≡ most = omega arith in
-    rw all refl
+      let le = leb-true most (length xs) is in
+      let all : min (length xs) most ≡ most = omega arith in
+      rw all refl
   | false ↦ λ is.
-    let lt = leb-false most (length xs) is in
-    let le : length xs ≤ most = omega arith in
-    let same : length xs ≤ min (length xs) most = omega arith in
-    rw (drop_all (min (length xs) most) xs same, drop_all most xs le) refl
+      let lt = leb-false most (length xs) is in
+      let le : length xs ≤ most = omega arith in
+      let same : length xs ≤ min (length xs) most = omega arith in
+      rw (drop_all (min (length xs) most) xs same, drop_all most xs le) refl
 ] refl
 
 -- the items from a place on, of those before another
@@ -53,11 +53,11 @@ nth-slice_get xs (suc n) le = let less : suc n - 1 ≡ n = omega arith in rw les
 place_in : (xs : List ℕ) (x k : ℕ) → k < length xs → get_or xs k x ≡ x → position_or_len (λ y. y == x) xs < length xs
 place_in xs x k lt is = elim (leb (length xs) (position_or_len (λ y. y == x) xs)) as (λ b. leb (length xs) (position_or_len (λ y. y == x) xs) ≡ b → position_or_len (λ y. y == x) xs < length xs) [
   | true ↦ λ le.
-    let past = leb-true (length xs) (position_or_len (λ y. y == x) xs) le in
-    let fails = fails_before_first (λ y. y == x) xs k x (omega arith) in
-    let same : (x == x) ≡ true = grind (arith, nat_tests) in
-    let differs : (x == x) ≡ false = rw is at fails in
-    cc
+      let past = leb-true (length xs) (position_or_len (λ y. y == x) xs) le in
+      let fails = fails_before_first (λ y. y == x) xs k x (omega arith) in
+      let same : (x == x) ≡ true = grind (arith, nat_tests) in
+      let differs : (x == x) ≡ false = rw is at fails in
+      cc
   | false ↦ λ lt. leb-false (length xs) (position_or_len (λ y. y == x) xs) lt
 ] refl
 

@@ -41,6 +41,10 @@ sheet_of-take header inputs output records =
     let test : nat_lt 20000 (length (take 20001 records)) ≡ nat_lt 20000 (length records) = same_test (length (take 20001 records)) (length records) 20000 (λ lt. omega arith) (λ lt. omega arith) in
     rw (front, test) refl
 
+pub headers-few : (header : Bool) → headers header ≤ 1
+headers-few true = omega arith
+headers-few false = omega arith
+
 pub row_records-few : (header : Bool) (records : List (List (List ℕ))) → length (row_records header records) ≤ 20000
 row_records-few header records = omega (arith, length-drop (headers header) (take 20000 records), length-take 20000 records)
 

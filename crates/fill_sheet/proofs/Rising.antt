@@ -39,11 +39,11 @@ placed-rises n [] up = (All-nil (λ m. n ≤ m), tt)
 placed-rises n (m ∷ more) up =
     elim (leb n m) as (λ b. leb n m ≡ b → Rises (if b then n ∷ m ∷ more else m ∷ placed n more)) [
       | true ↦ λ is.
-        let le : n ≤ m = leb-true n m is in
-        (All-cons (λ k. n ≤ k) m more le (λ k d lt. let above : m ≤ get_or more k d = up.0 k d lt in omega arith), up)
+          let le : n ≤ m = leb-true n m is in
+          (All-cons (λ k. n ≤ k) m more le (λ k d lt. let above : m ≤ get_or more k d = up.0 k d lt in omega arith), up)
       | false ↦ λ is.
-        let lt : m < n = leb-false n m is in
-        (All-placed (λ k. m ≤ k) n more (omega arith) up.0, placed-rises n more up.1)
+          let lt : m < n = leb-false n m is in
+          (All-placed (λ k. m ≤ k) n more (omega arith) up.0, placed-rises n more up.1)
     ] refl
 
 pub rising-rises : (xs : List ℕ) → Rises (rising xs)
@@ -89,8 +89,8 @@ same_from_hits [] (y ∷ ys) up up2 alike = absurd (let none : sum_by (hit y) []
 same_from_hits (x ∷ xs) [] up up2 alike = absurd (let none : sum_by (hit x) [] ≡ 0 = refl in omega (arith, alike x, one_hit x xs, none))
 same_from_hits (x ∷ xs) (y ∷ ys) up up2 alike = elim (three_ways x y) [
   | inl same ↦
-    let alike2 : (n : ℕ) → sum_by (hit n) (x ∷ xs) ≡ sum_by (hit n) (x ∷ ys) = rw (← same) at alike in
-    rw (same, same_from_hits xs ys up.1 up2.1 (tail_hits x xs ys alike2)) refl
+      let alike2 : (n : ℕ) → sum_by (hit n) (x ∷ xs) ≡ sum_by (hit n) (x ∷ ys) = rw (← same) at alike in
+      rw (same, same_from_hits xs ys up.1 up2.1 (tail_hits x xs ys alike2)) refl
   | inr (inl lt) ↦ absurd (omega (arith, alike x, one_hit x xs, no_hit x (y ∷ ys) (less_differs x y ys lt up2.0)))
   | inr (inr lt) ↦ absurd (omega (arith, alike y, one_hit y ys, no_hit y (x ∷ xs) (less_differs y x xs lt up.0)))
 ]

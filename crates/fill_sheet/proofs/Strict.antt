@@ -15,15 +15,15 @@ hit_once (a ∷ more) distinct x =
     let split = sum_by-cons (hit x) a more in
     elim (eqb x a) as (λ b. eqb x a ≡ b → sum_by (hit x) (a ∷ more) ≤ 1) [
       | true ↦ λ is.
-        let same : x ≡ a = eqb-true x a is in
-        let others : All (λ y. x ≢ y) more = λ k d in_range e. distinct 0 (suc k) d (omega arith) (omega arith) (sym same ∙ e) in
-        let none = no_hit x more others in
-        let once : hit x a ≡ 1 = rw is refl in
-        omega (arith, split, none, once)
+          let same : x ≡ a = eqb-true x a is in
+          let others : All (λ y. x ≢ y) more = λ k d in_range e. distinct 0 (suc k) d (omega arith) (omega arith) (sym same ∙ e) in
+          let none = no_hit x more others in
+          let once : hit x a ≡ 1 = rw is refl in
+          omega (arith, split, none, once)
       | false ↦ λ is.
-        let not_here : hit x a ≡ 0 = rw is refl in
-        let later = hit_once more tail x in
-        omega (arith, split, not_here, later)
+          let not_here : hit x a ≡ 0 = rw is refl in
+          let later = hit_once more tail x in
+          omega (arith, split, not_here, later)
     ] refl
 
 -- numbers that rise, none of them twice

@@ -41,7 +41,7 @@ bad_column-here columns fields i lt is = rw (drop-cons columns i 0, is) refl
 -- the records from a place on where the one there has no bad column
 pub first_bad-next : (columns : List ℕ) (number : ℕ) (records : List (List (List ℕ))) (i : ℕ) (d : List (List ℕ)) → i < length records → bad_column columns (get_or records i d) ≡ None
     → first_bad columns number (drop i records) ≡ first_bad columns (number + 1) (drop (i + 1) records)
-first_bad-next columns number records i d lt is = rw (drop-cons records i d, is, add-one, add-one) refl
+first_bad-next columns number records i d lt is = rw (drop-cons records i d, is, add-one number, add-one i) refl
 
 pub first_bad-here : (columns : List ℕ) (number : ℕ) (records : List (List (List ℕ))) (i : ℕ) (d : List (List ℕ)) (column : ℕ) → i < length records → bad_column columns (get_or records i d) ≡ Some column
     → first_bad columns number (drop i records) ≡ Some (number, column)

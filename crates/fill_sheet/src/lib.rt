@@ -11,3 +11,6 @@ mod sheet;
 pub use error::SheetError;
 pub use report::put_record;
 pub use sheet::Sheet;
+
+#[cfg(test)]
+mod tests;

@@ -4,7 +4,7 @@ ghost use Rattle.std.specs.Option.{ForSome};
 ghost use Rattle.std.specs.Str.{is_utf8};
 ghost use Rattle.fill_records.specs.Records.{field_of};
 ghost use Rattle.fill_sheet.specs.Columns.{IsColumn};
-ghost use Rattle.fill_sheet.specs.Sheet.{IsText, bad_column, first_bad, given_in, row_of, row_records, text_in};
+ghost use Rattle.fill_sheet.specs.Sheet.{IsText, bad_column, first_bad, given_in, headers, row_of, row_records, text_in};
 
 use crate::row::Row;
 use fill_records::Record;
@@ -21,6 +21,13 @@ pub(crate) fn row_records(header: bool, records: &[Record]) -> &[Record]
     let end = records.len().min(LIMIT);
     let start = if header { end.min(1) } else { 0 };
     &records[start..end]
+}
+
+/// The number of the first row's record.
+pub(crate) fn first_number(header: bool) -> u32
+    ensures { result ≡ headers header + 1 }
+{
+    if header { 2 } else { 1 }
 }
 
 /// Whether bytes are UTF-8.

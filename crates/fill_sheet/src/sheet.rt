@@ -7,7 +7,7 @@ ghost use Rattle.fill_sheet.specs.Sheet.{IsSheet, given_at, read_sheet, sheet_of
 
 use crate::SheetError;
 use crate::columns::{rising, used};
-use crate::reading::{LIMIT, first_bad, row_records, rows_of};
+use crate::reading::{LIMIT, first_bad, first_number, row_records, rows_of};
 use crate::row::Row;
 use fill_records::{Record, read_records};
 use fill_text::Text;
@@ -73,8 +73,7 @@ impl Sheet {
         let columns = used(alloc, inputs, output)?;
         let inputs = rising(alloc, inputs)?;
         let rows = row_records(header, records);
-        let first = if header { 2 } else { 1 };
-        if let Some((number, column)) = first_bad(rows, first, &columns) {
+        if let Some((number, column)) = first_bad(rows, first_number(header), &columns) {
             return Err(SheetError::NotUtf8 { number, column });
         }
         if records.len() > LIMIT {

@@ -1,29 +1,25 @@
-use Rattle.std.proofs.Common.{◌≡◌, ◌+◌, ◌≤◌, ◌∙◌, sym, refl, arith}
-use Rattle.fill_sheet.specs.Sheet.{headers}
+use Rattle.std.proofs.Common.{◌∙◌, sym, arith}
 use Rattle.fill_sheet.proofs.Rising.{rising-permutation}
-use Rattle.fill_sheet.proofs.Decisions.{sheet_of-bad, sheet_of-many, sheet_of-rows, row_records-few, used-columns, rising-columns, texts-of-rows, made-sheet}
+use Rattle.fill_sheet.proofs.Decisions.{sheet_of-bad, sheet_of-many, sheet_of-rows, row_records-few, headers-few, used-columns, rising-columns, texts-of-rows, made-sheet}
 use Rattle.fill_sheet.proofs.sheet.Sheet.of_records.Goals as goal
-use Rattle.fill_sheet.proofs.sheet.Sheet.of_records.Goals.{then-header, else-header}
 
 pub first_bad-requires-clause-fits : goal.first_bad-requires-clause-fits
 first_bad-requires-clause-fits c =
-    let first : c.if-header.first ≤ 2 = elim c.if-header.branch [ then-header w ↦ omega (arith, w.first-is) | else-header w ↦ omega (arith, w.first-is) ] in
     let few = row_records-few c.args.header c.args.records.now in
-    rw c.row_records-rows.ensures (omega (arith, first, few))
+    let first = headers-few c.args.header in
+    rw (c.row_records-rows.ensures, c.first_number.ensures) (omega (arith, first, few))
 
 pub first_bad-requires-clause-columns : goal.first_bad-requires-clause-columns
 first_bad-requires-clause-columns c = rw (c.deref.ensures.value, c.in_ok-columns.ensures) (used-columns c.args.inputs.now c.args.output c.requires.inputs.columns c.requires.output)
 
 pub returns-in-Some-clause-err : goal.returns-in-Some-clause-err
 returns-in-Some-clause-err c =
-    let first : c.if-header.first ≡ headers c.args.header + 1 = elim c.if-header.branch [ then-header w ↦ rw (w.first-is, w.if-header.true) refl | else-header w ↦ rw (w.first-is, w.if-header.false) refl ] in
-    let bad = rw (c.deref.ensures.value, c.in_ok-columns.ensures, c.row_records-rows.ensures, first) at c.in-Some.ensures in
+    let bad = rw (c.deref.ensures.value, c.in_ok-columns.ensures, c.row_records-rows.ensures, c.first_number.ensures) at c.in-Some.ensures in
     λ _. sheet_of-bad c.args.header c.args.inputs.now c.args.output c.args.records.now c.in-Some.number c.in-Some.column (sym bad)
 
 pub returns-then-records-gt-LIMIT-clause-err : goal.returns-then-records-gt-LIMIT-clause-err
 returns-then-records-gt-LIMIT-clause-err c =
-    let first : c.if-header.first ≡ headers c.args.header + 1 = elim c.if-header.branch [ then-header w ↦ rw (w.first-is, w.if-header.true) refl | else-header w ↦ rw (w.first-is, w.if-header.false) refl ] in
-    let none = rw (c.deref.ensures.value, c.in_ok-columns.ensures, c.row_records-rows.ensures, first) at (sym c.in_default.is ∙ c.first_bad.ensures) in
+    let none = rw (c.deref.ensures.value, c.in_ok-columns.ensures, c.row_records-rows.ensures, c.first_number.ensures) at (sym c.in_default.is ∙ c.first_bad.ensures) in
     λ _. sheet_of-many c.args.header c.args.inputs.now c.args.output c.args.records.now (sym none) c.if-records-gt-LIMIT.true
 
 pub rows_of-requires-clause-inputs : goal.rows_of-requires-clause-inputs
@@ -31,8 +27,7 @@ rows_of-requires-clause-inputs c = rw (c.deref-2.ensures.value, c.in_ok-inputs.e
 
 pub rows_of-requires-clause-text : goal.rows_of-requires-clause-text
 rows_of-requires-clause-text c =
-    let first : c.if-header.first ≡ headers c.args.header + 1 = elim c.if-header.branch [ then-header w ↦ rw (w.first-is, w.if-header.true) refl | else-header w ↦ rw (w.first-is, w.if-header.false) refl ] in
-    let none = rw (c.deref.ensures.value, c.in_ok-columns.ensures, c.row_records-rows.ensures, first) at (sym c.in_default.is ∙ c.first_bad.ensures) in
+    let none = rw (c.deref.ensures.value, c.in_ok-columns.ensures, c.row_records-rows.ensures, c.first_number.ensures) at (sym c.in_default.is ∙ c.first_bad.ensures) in
     rw (c.deref-2.ensures.value, c.in_ok-inputs.ensures, c.row_records-rows.ensures) (texts-of-rows c.args.header c.args.inputs.now c.args.output c.args.records.now (sym none))
 
 pub invariant_of-result : goal.invariant_of-result
@@ -42,8 +37,7 @@ invariant_of-result c =
 
 pub returns-clause-ok : goal.returns-clause-ok
 returns-clause-ok c =
-    let first : c.if-header.first ≡ headers c.args.header + 1 = elim c.if-header.branch [ then-header w ↦ rw (w.first-is, w.if-header.true) refl | else-header w ↦ rw (w.first-is, w.if-header.false) refl ] in
-    let none = rw (c.deref.ensures.value, c.in_ok-columns.ensures, c.row_records-rows.ensures, first) at (sym c.in_default.is ∙ c.first_bad.ensures) in
+    let none = rw (c.deref.ensures.value, c.in_ok-columns.ensures, c.row_records-rows.ensures, c.first_number.ensures) at (sym c.in_default.is ∙ c.first_bad.ensures) in
     let rows = rw (c.deref-2.ensures.value, c.in_ok-inputs.ensures, c.row_records-rows.ensures) at c.in_ok-rows.ensures in
     rw (c.in_ok-inputs.ensures, rows) (sheet_of-rows c.args.header c.args.inputs.now c.args.output c.args.records.now (sym none) c.if-records-gt-LIMIT.false)
 
