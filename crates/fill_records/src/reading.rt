@@ -1,0 +1,32 @@
+//! Reading the records of a file.
+ghost use Rattle.std.specs.Prelude.{◌≡◌, IfOk, take};
+ghost use Rattle.fill_records.specs.Records.{records_of};
+
+use crate::Record;
+use csv::{ByteRecord, ReaderBuilder};
+use fill_text::{List, NoMemory};
+use std::alloc::Global;
+
+/// The first records of a file's bytes, no more than `most`, past which it reads nothing.
+///
+/// Fields are parted by commas, records by line ends; a field in double quotes may hold either. Records may differ in
+/// length, and none is a header. A UTF-8 byte order mark in front is no part of the first field.
+pub fn read_records(alloc: Global, bytes: &[u8], most: usize) -> Result<List<Record>, NoMemory>
+    ensures { IfOk result (λ records. records ≡ take most (records_of bytes.now)) }
+{
+    let mut reader = ReaderBuilder::new()
+        .has_headers(false)
+        .flexible(true)
+        .from_reader(alloc, bytes);
+    let mut records = List::new(alloc);
+    for _ in 0..most {
+        let mut row = ByteRecord::new(alloc);
+        match reader.read_byte_record(&mut row) {
+            Ok(true) => records.push(Record { row })?,
+            Ok(false) => break,
+            // bytes in memory can always be read, and records of any lengths are taken
+            Err(_) => return Err(NoMemory),
+        }
+    }
+    Ok(records)
+}

@@ -1,0 +1,6 @@
+use Rattle.std.proofs.Common.{◌≡◌, map, take}
+use Rattle.fill_sheet.specs.Sheet.{text_in}
+use Rattle.fill_sheet.proofs.reading.cells_in.Given as goal
+
+abbrev pub invariant-loop-column : goal.invariant-loop-column
+invariant-loop-column l = l.cells.items ≡ map (text_in l.fields) (take l.column-index l.inputs)

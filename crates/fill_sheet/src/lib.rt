@@ -1,0 +1,16 @@
+//! Sheets: the rows of a CSV file in chosen columns, and the records of reports.
+#![tactic(auto)]
+
+mod columns;
+mod error;
+mod reading;
+mod report;
+mod row;
+mod sheet;
+
+pub use error::SheetError;
+pub use report::put_record;
+pub use sheet::Sheet;
+
+#[cfg(test)]
+mod tests;

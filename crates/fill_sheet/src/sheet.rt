@@ -1,0 +1,132 @@
+//! Sheets.
+ghost use Rattle.std.specs.Prelude.{◌≡◌, ◌≢◌, ℕ, ◌≤◌, ◌==◌, length, position, Contains, Ok, Err, Some, IfOk, IfErr, option_copied};
+ghost use Rattle.std.specs.List.Sorted.{IsPermutation};
+ghost use Rattle.fill_text.specs.Data.{cell_at};
+ghost use Rattle.fill_sheet.specs.Columns.{AreInputs, IsOutput};
+ghost use Rattle.fill_sheet.specs.Sheet.{IsSheet, given_at, read_sheet, sheet_of};
+
+use crate::SheetError;
+use crate::columns::{rising, used};
+use crate::reading::{LIMIT, first_bad, first_number, row_records, rows_of};
+use crate::row::Row;
+use fill_records::{Record, read_records};
+use fill_text::Text;
+use std::alloc::Global;
+use std::marker::Model;
+
+/// A sheet: rows of texts in a few input columns, some with a given text for the output.
+#[derive(Debug, Drop)]
+pub struct Sheet {
+    inputs: Vec<u32>,
+    rows: Vec<Row>,
+}
+
+impl Model for Sheet {
+    ghost use Rattle.fill_text.specs.Data.{SheetData};
+    ghost use Rattle.fill_sheet.specs.Sheet.{IsSheet};
+
+    ghost Value = { SheetData };
+
+    ghost view = { λ sheet. record { inputs = sheet.inputs.items; rows = sheet.rows.items } };
+
+    ghost invariant = { λ sheet. IsSheet (record { inputs = sheet.inputs.items; rows = sheet.rows.items }) };
+}
+
+impl Sheet {
+    /// The sheet of a CSV file's bytes.
+    ///
+    /// A row is a record, but for the first one where `header` is true, which is not looked at. Only the fields in the
+    /// inputs and the output are read; one that a record lacks is the empty text.
+    pub fn read(
+        alloc: Global,
+        bytes: &[u8],
+        header: bool,
+        inputs: &[u32],
+        output: Option<u32>,
+    ) -> Result<Sheet, SheetError>
+        requires inputs { AreInputs inputs.now }
+        requires output { IsOutput inputs.now output }
+        ensures ok { IfOk result (λ sheet. read_sheet header inputs.now output bytes.now ≡ Ok sheet) }
+        ensures err { IfErr result (λ e. e ≢ SheetError.NoMemory → read_sheet header inputs.now output bytes.now ≡ Err e) }
+        ensures inputs { IfOk result (λ sheet. IsPermutation inputs.now sheet.inputs) }
+        ensures shape { IfOk result IsSheet }
+    {
+        let records = read_records(alloc, bytes, LIMIT + 1)?;
+        Sheet::of_records(alloc, records.as_slice(), header, inputs, output)
+    }
+
+    /// The sheet of a file's records, or of the first of them, more than a sheet may have.
+    fn of_records(
+        alloc: Global,
+        records: &[Record],
+        header: bool,
+        inputs: &[u32],
+        output: Option<u32>,
+    ) -> Result<Sheet, SheetError>
+        requires inputs { AreInputs inputs.now }
+        requires output { IsOutput inputs.now output }
+        ensures ok { IfOk result (λ sheet. sheet_of header inputs.now output records.now ≡ Ok sheet) }
+        ensures err { IfErr result (λ e. e ≢ SheetError.NoMemory → sheet_of header inputs.now output records.now ≡ Err e) }
+        ensures inputs { IfOk result (λ sheet. IsPermutation inputs.now sheet.inputs) }
+        ensures shape { IfOk result IsSheet }
+    {
+        let columns = used(alloc, inputs, output)?;
+        let inputs = rising(alloc, inputs)?;
+        let rows = row_records(header, records);
+        if let Some((number, column)) = first_bad(rows, first_number(header), &columns) {
+            return Err(SheetError::NotUtf8 { number, column });
+        }
+        if records.len() > LIMIT {
+            return Err(SheetError::TooManyRows {
+                limit: LIMIT as u32,
+            });
+        }
+        let rows = rows_of(alloc, rows, &inputs, output)?;
+        Ok(Sheet { inputs, rows })
+    }
+
+    /// The number of rows.
+    pub fn rows(&self) -> u32
+        ensures count { result ≡ length self.now.rows }
+        ensures limited { result ≤ 20000 }
+        ensures shape { IsSheet self.now }
+    {
+        self.rows.len() as u32
+    }
+
+    /// The input columns, in rising order.
+    pub fn inputs(&self) -> &[u32]
+        ensures { result.now ≡ self.now.inputs }
+    {
+        &self.inputs
+    }
+
+    /// The cell of a row, from 1, in an input column.
+    pub fn cell(&self, row: u32, column: u32) -> &Text
+        requires first { 1 ≤ row }
+        requires last { row ≤ length self.now.rows }
+        requires input { Contains self.now.inputs column }
+        ensures { cell_at self.now row column ≡ Some result.now }
+    {
+        let at = place_of(&self.inputs, column).unwrap();
+        let row = &self.rows[row as usize - 1];
+        &row.cells[at]
+    }
+
+    /// The text that a row, from 1, is given in the output column: none where no output column was set or the cell is
+    /// empty.
+    pub fn given(&self, row: u32) -> Option<&Text>
+        requires first { 1 ≤ row }
+        requires last { row ≤ length self.now.rows }
+        ensures { option_copied result ≡ given_at self.now row }
+    {
+        self.rows[row as usize - 1].given.as_ref()
+    }
+}
+
+/// The place of a column among the inputs.
+fn place_of(inputs: &[u32], column: u32) -> Option<usize>
+    ensures { result ≡ position (λ input. input == column) inputs.now }
+{
+    inputs.iter().position(|input| *input == column)
+}
