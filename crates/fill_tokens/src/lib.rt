@@ -9,9 +9,13 @@ mod kind;
 pub mod laws;
 mod place;
 mod seq;
+mod spans;
 mod token;
+mod value;
 
 pub use kind::{Kind, RunClass};
 pub use place::Place;
 pub use seq::Seq;
+pub use spans::{left_match, right_match, span, span_back};
 pub use token::Token;
+pub use value::{match_count, place_value};
