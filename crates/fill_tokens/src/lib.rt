@@ -5,6 +5,7 @@
 //! Input-Output Examples" (POPL 2011), section 3: there tokens, token sequences and positions.
 #![tactic(auto)]
 
+mod grammar;
 mod kind;
 pub mod laws;
 mod place;
@@ -13,6 +14,7 @@ mod spans;
 mod token;
 mod value;
 
+pub use grammar::is_place;
 pub use kind::{Kind, RunClass};
 pub use place::Place;
 pub use seq::Seq;
