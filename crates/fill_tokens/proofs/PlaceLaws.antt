@@ -65,8 +65,8 @@ place_trans (Pos r0 r1 c) (CPos b) r h k = cc
 place_trans (Pos r0 r1 c) (Pos s0 s1 d) (CPos e) h k = cc
 place_trans (Pos r0 r1 c) (Pos s0 s1 d) (Pos t0 t1 e) h k =
     then_chain _ _ _ _ _ _ (seq_total.trans r0 s0 t0) (alike_left seq_cmp exact_seqs r0 s0 t0) (alike_right seq_cmp exact_seqs r0 s0 t0)
-        (then_chain _ _ _ _ _ _ (seq_total.trans r1 s1 t1) (alike_left seq_cmp exact_seqs r1 s1 t1) (alike_right seq_cmp exact_seqs r1 s1 t1)
-            (signed_total.trans c d e)) h k
+    (then_chain _ _ _ _ _ _ (seq_total.trans r1 s1 t1) (alike_left seq_cmp exact_seqs r1 s1 t1) (alike_right seq_cmp exact_seqs r1 s1 t1)
+    (signed_total.trans c d e)) h k
 
 pub place_total : IsTotalOrder place_cmp
 place_total = record {

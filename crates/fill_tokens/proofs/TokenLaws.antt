@@ -64,5 +64,6 @@ pub next_unnamed : (name : List ℕ) (i : ℕ) (d : Token) → i < 26 → token_
     ((j : ℕ) (t : Token) → j < i → slice_get ALL j ≡ Some t → token_name t ≢ name) →
     (j : ℕ) (t : Token) → j < i + 1 → slice_get ALL j ≡ Some t → token_name t ≢ name
 next_unnamed name i d within this below j t h e n = elim (cases_order j i) [
-    inl same ↦ this (ap token_name (get_or_from_slice_get ALL i t d (subst (λ k. slice_get ALL k ≡ Some t) same e)) ∙ n)
-  | inr o ↦ elim o [ inl l ↦ below j t l e n | inr g ↦ absurd (omega arith) ] ]
+  | inl same ↦ this (ap token_name (get_or_from_slice_get ALL i t d (subst (λ k. slice_get ALL k ≡ Some t) same e)) ∙ n)
+  | inr o ↦ elim o [ inl l ↦ below j t l e n | inr g ↦ absurd (omega arith) ]
+]
