@@ -74,14 +74,15 @@ pub fn signed_numbers_are_ordered()
 {}
 
 /// A match count is the length of the rising list of the positions at which a match begins.
-#[tactic(auto, using(crate::proofs::CutLaws::matches_counted))]
 pub fn matches_are_counted()
-    ensures { (r : List Token) → (t : List ℕ) → (ks : List ℕ) → AreMatches r t ks → (c : ℕ) → IsCount (Begins r t) (length t + 1) c ↔ (c ≡ length ks) }
+    ensures listed { (r : List Token) → (t : List ℕ) → (ks : List ℕ) × AreMatches r t ks }
+    ensures counted { (r : List Token) → (t : List ℕ) → (ks : List ℕ) → AreMatches r t ks → (c : ℕ) → IsCount (Begins r t) (length t + 1) c ↔ (c ≡ length ks) }
 {}
 
 /// A cut's number from the left is its place in the rising list of all cuts, and its number from the right its place in
 /// that list turned round. Both count from 1.
 pub fn cuts_are_numbered()
+    ensures listed { (r : List Token) → (s : List Token) → (t : List ℕ) → (ks : List ℕ) × AreCuts r s t ks }
     ensures left { (r : List Token) → (s : List Token) → (t : List ℕ) → (ks : List ℕ) → AreCuts r s t ks → (c : ℕ) → (k : ℕ) → IsCutFromLeft r s t c k ↔ (nth ks c ≡ Some k) }
     ensures right { (r : List Token) → (s : List Token) → (t : List ℕ) → (ks : List ℕ) → AreCuts r s t ks → (c : ℕ) → (k : ℕ) → IsCutFromRight r s t c k ↔ (nth (reverse ks) c ≡ Some k) }
 {}
