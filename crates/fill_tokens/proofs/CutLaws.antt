@@ -1,10 +1,10 @@
 -- Match counts and the cuts of a number, by the rising lists of the positions.
-use Rattle.std.proofs.Common.{◌≡◌, ℕ, zero, suc, ◌+◌, ◌-◌, ◌<◌, ◌≤◌, List, length, get_or, reverse, slice_get, Some, refl, sym, ap, ◌∙◌, subst, arith}
+use Rattle.std.proofs.Common.{◌≡◌, ℕ, zero, suc, ◌+◌, ◌-◌, ◌<◌, ◌≤◌, List, length, get_or, reverse, Some, refl, sym, ap, ◌∙◌, subst, arith}
 use Rattle.std.specs.Prelude.{◌↔◌}
 use Rattle.std.proofs.lemmas.List.{get_or-reverse, length-reverse}
 use Rattle.std.proofs.lemmas.Option.{slice_get-get_or, slice_get_within, get_or_from_slice_get}
 use Rattle.fill_text.specs.Data.{nth}
-use Rattle.fill_tokens.specs.Span.{Begins, Ends, IsCut}
+use Rattle.fill_tokens.specs.Span.{Begins, IsCut}
 use Rattle.fill_tokens.specs.Value.{IsCount, IsCutFromLeft, IsCutFromRight}
 use Rattle.fill_tokens.specs.Cuts.{AreCuts, AreMatches}
 use Rattle.fill_tokens.specs.declared.token.Token.{Token}

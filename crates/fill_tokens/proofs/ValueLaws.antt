@@ -1,5 +1,5 @@
 -- A place has at most one value in a text, which is a position of the text.
-use Rattle.std.proofs.Common.{◌≡◌, ℕ, suc, ◌+◌, ◌-◌, ◌<◌, ◌≤◌, inl, inr, List, pos, negsuc, length, sym, subst, arith}
+use Rattle.std.proofs.Common.{◌≡◌, ℕ, suc, ◌+◌, ◌-◌, ◌<◌, ◌≤◌, inl, inr, List, pos, negsuc, length, subst, arith}
 use Rattle.std.proofs.lemmas.Bool.{cases_order}
 use Rattle.fill_tokens.specs.Span.{IsCut}
 use Rattle.fill_tokens.specs.Value.{IsCount, IsCutFromLeft, IsCutFromRight, HasValue}

@@ -162,6 +162,8 @@ fn places_and_their_order(rt: HostRuntime) {
         );
     }
     assert_eq!(rt; lower.compare(&lower), Ordering::Equal);
+    assert_eq!(rt; Place::Pos(lower, none, 1), Place::Pos(lower, none, 1));
+    assert_ne!(rt; Place::Pos(lower, none, 1), Place::Pos(lower, none, -1));
 }
 
 /// A scan of the run from each of its characters would take minutes here.

@@ -1,7 +1,5 @@
-use Rattle.std.proofs.Common.{rules, arith, ◌≡◌, ◌≢◌, ◌∙◌, ◌+◌, ◌-◌, ◌<◌, ℕ, get_or}
-use Rattle.fill_tokens.specs.Token.{token_number, token_name}
-use Rattle.fill_tokens.specs.declared.token.TheConstants.Token.{ALL}
-use Rattle.fill_tokens.specs.declared.token.Token.{Token}
+use Rattle.std.proofs.Common.{arith, ◌∙◌, ◌-◌, ◌<◌}
+use Rattle.fill_tokens.specs.Token.{token_number}
 use Rattle.fill_tokens.specs.declared.token.Token.TheVariants.{Start}
 use Rattle.fill_tokens.proofs.TokenLaws.{listed, number_within, unlike, next_unnamed}
 use Rattle.fill_tokens.proofs.token.Token.from_name.Goals as goal
