@@ -1,5 +1,5 @@
 -- The values of trees on a row, as relations: a tree has a value where some text is it, and none where no text is.
-use Rattle.std.specs.Prelude.{◌≡◌, ◌≢◌, ℕ, ◌<◌, List, [], ◌∷◌, ◌++◌, Option, Some, map, slice_range}
+use Rattle.std.specs.Prelude.{◌≡◌, ◌≢◌, ℕ, ◌<◌, List, [], ◌∷◌, ◌++◌, Some, map, slice_range}
 use Rattle.fill_text.specs.Data.{SheetData, TableData, nth, cell_at, table_cell_at, key_at, table_row_at}
 use Rattle.fill_tokens.specs.Value.{HasValue}
 use Rattle.fill_tokens.specs.declared.place.Place.{Place}

@@ -5,7 +5,10 @@
 //! from Examples" (PVLDB 5(8), 2012), section 4.
 #![tactic(auto)]
 
+mod copy;
+mod cost;
 mod guard;
+mod order;
 mod tree;
 mod user;
 

@@ -1,0 +1,2 @@
+pub mod AtomLists
+mod Examples
