@@ -1,2 +1,5 @@
 pub mod AtomLists
 mod Examples
+pub mod ProgramOrder
+pub mod Ranked
+pub mod TreeOrder

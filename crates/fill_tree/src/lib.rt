@@ -8,6 +8,7 @@
 mod copy;
 mod cost;
 mod guard;
+pub mod laws;
 mod order;
 mod tree;
 mod user;
