@@ -1,5 +1,5 @@
 -- The order of places is total, and tells all places apart.
-use Rattle.std.proofs.Common.{◌≡◌, ℕ, ◌+◌, ◌==◌, if◌then◌else◌, List, ℤ, pos, negsuc, length, refl, ap, sym, ◌∙◌, arith}
+use Rattle.std.proofs.Common.{◌≡◌, List, ℤ, pos, negsuc, length, refl, ap, arith}
 use Rattle.std.specs.declared.cmp.Ordering.{Ordering}
 use Rattle.std.specs.declared.cmp.Ordering.TheVariants.{Less, Equal, Greater}
 use Rattle.std.specs.Ordering.{nat_cmp, ordering_reverse, on}
@@ -9,70 +9,10 @@ use Rattle.std.proofs.lemmas.Map.Lookups.{CmpEqualImpliesEq, exact_unsigned}
 use Rattle.fill_tokens.specs.Token.{token_number}
 use Rattle.fill_tokens.specs.Place.{magnitude, sign_number, signed_cmp, seq_cmp, place_cmp}
 use Rattle.fill_tokens.specs.declared.token.Token.{Token}
-use Rattle.fill_tokens.specs.declared.token.Token.TheVariants.{Start, End, Digits, Upper, Lower, Alpha, Word, Space, Hyphen, Dot, Comma, Semicolon, Colon, Slash, Backslash, Underscore, At, Hash, Ampersand, LeftParen, RightParen, DoubleQuote, SingleQuote, Percent, Plus, Dollar}
 use Rattle.fill_tokens.specs.declared.place.Place.{Place}
 use Rattle.fill_tokens.specs.declared.place.Place.TheVariants.{CPos, Pos}
+use Rattle.fill_tokens.proofs.TokenLaws.{exact_tokens}
 use Rattle.fill_tokens.proofs.OrderingLemmas.{then_first, then_second, then_reverse, then_chain, alike_left, alike_right, exact_lists}
-
--- the token of a number
-abbrev token_of : ℕ → Token
-token_of n = if n == 1 then Start else
-    if n == 2 then End else
-    if n == 3 then Digits else
-    if n == 4 then Upper else
-    if n == 5 then Lower else
-    if n == 6 then Alpha else
-    if n == 7 then Word else
-    if n == 8 then Space else
-    if n == 9 then Hyphen else
-    if n == 10 then Dot else
-    if n == 11 then Comma else
-    if n == 12 then Semicolon else
-    if n == 13 then Colon else
-    if n == 14 then Slash else
-    if n == 15 then Backslash else
-    if n == 16 then Underscore else
-    if n == 17 then At else
-    if n == 18 then Hash else
-    if n == 19 then Ampersand else
-    if n == 20 then LeftParen else
-    if n == 21 then RightParen else
-    if n == 22 then DoubleQuote else
-    if n == 23 then SingleQuote else
-    if n == 24 then Percent else
-    if n == 25 then Plus else
-    Dollar
-
-token_back : (t : Token) → token_of (token_number t) ≡ t
-token_back Start = refl
-token_back End = refl
-token_back Digits = refl
-token_back Upper = refl
-token_back Lower = refl
-token_back Alpha = refl
-token_back Word = refl
-token_back Space = refl
-token_back Hyphen = refl
-token_back Dot = refl
-token_back Comma = refl
-token_back Semicolon = refl
-token_back Colon = refl
-token_back Slash = refl
-token_back Backslash = refl
-token_back Underscore = refl
-token_back At = refl
-token_back Hash = refl
-token_back Ampersand = refl
-token_back LeftParen = refl
-token_back RightParen = refl
-token_back DoubleQuote = refl
-token_back SingleQuote = refl
-token_back Percent = refl
-token_back Plus = refl
-token_back Dollar = refl
-
-pub exact_tokens : CmpEqualImpliesEq (on token_number nat_cmp)
-exact_tokens a b h = sym (token_back a) ∙ ap token_of (exact_unsigned (token_number a) (token_number b) h) ∙ token_back b
 
 pub seq_total : IsTotalOrder seq_cmp
 seq_total = then_total (on_total length nat_cmp_total) (lists_total (on_total token_number nat_cmp_total))

@@ -1,8 +1,9 @@
--- The numbers of tokens, by which they are ordered.
-use Rattle.std.specs.Prelude.{ℕ}
+-- The numbers and the names of tokens.
+use Rattle.std.specs.Prelude.{ℕ, List, codes}
 use Rattle.fill_tokens.specs.declared.token.Token.{Token}
 use Rattle.fill_tokens.specs.declared.token.Token.TheVariants.{Start, End, Digits, Upper, Lower, Alpha, Word, Space, Hyphen, Dot, Comma, Semicolon, Colon, Slash, Backslash, Underscore, At, Hash, Ampersand, LeftParen, RightParen, DoubleQuote, SingleQuote, Percent, Plus, Dollar}
 
+-- the numbers, by which tokens are ordered
 abbrev pub token_number : Token → ℕ
 token_number Start = 1
 token_number End = 2
@@ -30,3 +31,32 @@ token_number SingleQuote = 23
 token_number Percent = 24
 token_number Plus = 25
 token_number Dollar = 26
+
+-- the names, as texts of trees spell them
+abbrev pub token_name : Token → List ℕ
+token_name Start = codes "Start"
+token_name End = codes "End"
+token_name Digits = codes "Digits"
+token_name Upper = codes "Upper"
+token_name Lower = codes "Lower"
+token_name Alpha = codes "Alpha"
+token_name Word = codes "Word"
+token_name Space = codes "Space"
+token_name Hyphen = codes "Hyphen"
+token_name Dot = codes "Dot"
+token_name Comma = codes "Comma"
+token_name Semicolon = codes "Semicolon"
+token_name Colon = codes "Colon"
+token_name Slash = codes "Slash"
+token_name Backslash = codes "Backslash"
+token_name Underscore = codes "Underscore"
+token_name At = codes "At"
+token_name Hash = codes "Hash"
+token_name Ampersand = codes "Ampersand"
+token_name LeftParen = codes "LeftParen"
+token_name RightParen = codes "RightParen"
+token_name DoubleQuote = codes "DoubleQuote"
+token_name SingleQuote = codes "SingleQuote"
+token_name Percent = codes "Percent"
+token_name Plus = codes "Plus"
+token_name Dollar = codes "Dollar"

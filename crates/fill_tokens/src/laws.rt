@@ -1,14 +1,32 @@
 //! Laws of the definitions that the contracts of this crate cite.
 //!
 //! Each function does nothing: what it tells is its clauses, which hold for all texts, tokens and places.
-ghost use Rattle.std.specs.Prelude.{◌≡◌, List, ℤ};
+ghost use Rattle.std.specs.Prelude.{◌≡◌, ◌-◌, List, ℤ, slice_get};
 ghost use Rattle.std.specs.Ordering.{ordering_reverse};
 ghost use Rattle.std.specs.Cmp.{IsTotalOrder};
 ghost use Rattle.std.specs.declared.cmp.Ordering.{Ordering};
 ghost use Rattle.std.specs.declared.cmp.Ordering.TheVariants.{Equal};
+ghost use Rattle.fill_tokens.specs.Token.{token_number, token_name};
 ghost use Rattle.fill_tokens.specs.Place.{place_cmp, seq_cmp, signed_cmp};
 ghost use Rattle.fill_tokens.specs.declared.token.Token.{Token};
 ghost use Rattle.fill_tokens.specs.declared.place.Place.{Place};
+
+use crate::token::Token;
+
+/// Tokens of one number are the same, and so are tokens of one name.
+#[tactic(auto, using(crate::proofs::TokenLaws::number_exact, crate::proofs::TokenLaws::name_exact))]
+pub fn tokens_are_told_apart()
+    ensures numbers { (x : Token) → (y : Token) → token_number x ≡ token_number y → x ≡ y }
+    ensures names { (x : Token) → (y : Token) → token_name x ≡ token_name y → x ≡ y }
+{
+}
+
+/// The list of all tokens has each of them at the place of its number.
+#[tactic(auto, using(crate::proofs::TokenLaws::listed))]
+pub fn all_tokens_are_listed()
+    ensures { (x : Token) → slice_get Token.ALL (token_number x - 1) ≡ Some x }
+{
+}
 
 /// Places are in a total order, and only equal places are alike in it.
 #[tactic(auto, using(crate::proofs::PlaceLaws::place_total, crate::proofs::PlaceLaws::place_antisymm, crate::proofs::PlaceLaws::exact_places))]

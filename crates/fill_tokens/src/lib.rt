@@ -5,13 +5,19 @@
 //! Input-Output Examples" (POPL 2011), section 3: there tokens, token sequences and positions.
 #![tactic(auto)]
 
+mod grammar;
 mod kind;
 pub mod laws;
 mod place;
 mod seq;
+mod spans;
 mod token;
+mod value;
 
+pub use grammar::is_place;
 pub use kind::{Kind, RunClass};
 pub use place::Place;
 pub use seq::Seq;
+pub use spans::{left_match, right_match, span, span_back};
 pub use token::Token;
+pub use value::{match_count, place_value};

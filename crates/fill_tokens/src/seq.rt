@@ -1,5 +1,5 @@
 //! Sequences of tokens.
-ghost use Rattle.std.specs.Prelude.{◌≡◌, [], ◌∷◌, ◌≤◌, ◌<◌, slice_get, length};
+ghost use Rattle.std.specs.Prelude.{◌≡◌, [], ◌∷◌, ◌≤◌, ◌<◌, ◌↔◌, IsTrue, slice_get, length};
 ghost use Rattle.fill_tokens.specs.Place.{seq_cmp};
 
 use crate::token::Token;
@@ -81,6 +81,13 @@ impl Seq {
             Tokens::Two(_, _) => 2,
             Tokens::Three(_, _, _) => 3,
         }
+    }
+
+    /// Whether there is no token.
+    pub fn is_empty(&self) -> bool
+        ensures { IsTrue result ↔ (self.now ≡ []) }
+    {
+        self.len() == 0
     }
 
     /// The token at a place, from 0.
