@@ -6,7 +6,7 @@ use Rattle.fill_tokens.specs.declared.place.Place.TheVariants.{CPos, Pos}
 use Rattle.fill_text.specs.Classes.{is_separator}
 use Rattle.fill_tree.specs.Tree.{AtomTree, Atoms, col, select, constant, whole, sub, end, more}
 use Rattle.fill_tree.specs.Cost.{program_cost}
-use Rattle.fill_tree.specs.Order.{program_cmp}
+use Rattle.fill_tree.specs.Order.{source_cmp, atom_cmp, atoms_cmp, program_cmp}
 
 abbrev one : AtomTree → Atoms
 one a = more a end
@@ -59,3 +59,23 @@ costs_chain = refl
 
 costs_nothing : program_cost end ≡ 0
 costs_nothing = refl
+
+-- a constant is before a whole source, and that before a piece, also where the first word or number is greater
+constant_first : atom_cmp (constant (122 ∷ [])) (whole (col 1)) ≡ Less
+constant_first = refl
+
+whole_next : atom_cmp (whole (col 9)) (sub (col 1) (CPos (pos 0)) (CPos (pos 1))) ≡ Less
+whole_next = refl
+
+prefix_first : atoms_cmp (one (whole (col 1))) (more (whole (col 1)) (one (whole (col 1)))) ≡ Less
+prefix_first = refl
+
+-- the second character decides, and not the length
+text_order : atom_cmp (constant (97 ∷ 98 ∷ [])) (constant (97 ∷ 99 ∷ [])) ≡ Less
+text_order = refl
+
+column_first : source_cmp (select 1 2 2 end) (select 2 1 1 end) ≡ Less
+column_first = refl
+
+table_next : source_cmp (select 1 1 2 end) (select 1 2 1 end) ≡ Less
+table_next = refl

@@ -3,3 +3,5 @@ mod Examples
 pub mod ProgramOrder
 pub mod Ranked
 pub mod TreeOrder
+mod ValueExamples
+pub mod ValueLaws

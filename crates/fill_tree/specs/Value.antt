@@ -10,6 +10,12 @@ abbrev pub IsKeyedRow : List TableData → ℕ → ℕ → List (List ℕ) → �
 IsKeyedRow tables table key texts row = (columns : List ℕ) × (cells : List (List ℕ)) × (key_at tables table key ≡ Some columns)
     × (table_row_at tables table row ≡ Some cells) × (map (nth cells) columns ≡ map Some texts)
 
+-- no two rows of a table have the same cells in the columns of one of its keys
+abbrev pub KeysDistinguish : List TableData → Type 0
+KeysDistinguish tables = (table key row other : ℕ) (columns : List ℕ) (cells others : List (List ℕ)) →
+    key_at tables table key ≡ Some columns → table_row_at tables table row ≡ Some cells → table_row_at tables table other ≡ Some others →
+    map (nth cells) columns ≡ map (nth others) columns → row ≡ other
+
 -- a lookup by texts of the property: the cell of the row whose key cells they are
 abbrev pub LooksUp : (List (List ℕ) → Type 0) → List TableData → ℕ → ℕ → ℕ → List ℕ → Type 0
 LooksUp P tables column table key v =
