@@ -1,12 +1,16 @@
 //! Laws of the definitions that the contracts of this crate cite.
 //!
 //! Each function does nothing: what it tells is its clauses, which hold for all texts, tokens and places.
-ghost use Rattle.std.specs.Prelude.{◌≡◌, ◌-◌, List, ℤ, slice_get};
+ghost use Rattle.std.specs.Prelude.{◌≡◌, ◌↔◌, ◌+◌, ◌-◌, ◌≤◌, ℕ, ℤ, List, length, reverse, slice_get};
 ghost use Rattle.std.specs.Ordering.{ordering_reverse};
 ghost use Rattle.std.specs.Cmp.{IsTotalOrder};
 ghost use Rattle.std.specs.declared.cmp.Ordering.{Ordering};
 ghost use Rattle.std.specs.declared.cmp.Ordering.TheVariants.{Equal};
+ghost use Rattle.fill_text.specs.Data.{nth};
 ghost use Rattle.fill_tokens.specs.Token.{token_number, token_name};
+ghost use Rattle.fill_tokens.specs.Span.{Spans, Begins};
+ghost use Rattle.fill_tokens.specs.Value.{HasValue, IsCount, IsCutFromLeft, IsCutFromRight};
+ghost use Rattle.fill_tokens.specs.Cuts.{AreCuts, AreMatches};
 ghost use Rattle.fill_tokens.specs.Place.{place_cmp, seq_cmp, signed_cmp};
 ghost use Rattle.fill_tokens.specs.declared.token.Token.{Token};
 ghost use Rattle.fill_tokens.specs.declared.place.Place.{Place};
@@ -25,6 +29,28 @@ pub fn tokens_are_told_apart()
 #[tactic(auto, using(crate::proofs::TokenLaws::listed))]
 pub fn all_tokens_are_listed()
     ensures { (x : Token) → slice_get Token.ALL (token_number x - 1) ≡ Some x }
+{
+}
+
+/// From each position a token spans at most one piece, and up to each position too.
+pub fn tokens_span_one_piece()
+    ensures end { (x : Token) → (t : List ℕ) → (a : ℕ) → (b : ℕ) → (c : ℕ) → Spans x t a b → Spans x t a c → b ≡ c }
+    ensures start { (x : Token) → (t : List ℕ) → (a : ℕ) → (b : ℕ) → (c : ℕ) → Spans x t a c → Spans x t b c → a ≡ b }
+    ensures within { (x : Token) → (t : List ℕ) → (a : ℕ) → (b : ℕ) → Spans x t a b → (a ≤ b) × (b ≤ length t) }
+{
+}
+
+/// A place has at most one value in a text, and it is a position of the text.
+pub fn places_have_one_value()
+    ensures one { (p : Place) → (t : List ℕ) → (k : ℕ) → (l : ℕ) → HasValue p t k → HasValue p t l → k ≡ l }
+    ensures within { (p : Place) → (t : List ℕ) → (k : ℕ) → HasValue p t k → k ≤ length t }
+{
+}
+
+/// Of the positions below a number there is one count of matches at most, and the count of a larger number is no less.
+pub fn match_counts_are_unique()
+    ensures one { (r : List Token) → (t : List ℕ) → (n : ℕ) → (c : ℕ) → (d : ℕ) → IsCount (Begins r t) n c → IsCount (Begins r t) n d → c ≡ d }
+    ensures monotone { (r : List Token) → (t : List ℕ) → (m : ℕ) → (n : ℕ) → (c : ℕ) → (d : ℕ) → m ≤ n → IsCount (Begins r t) m c → IsCount (Begins r t) n d → c ≤ d }
 {
 }
 
@@ -52,5 +78,20 @@ pub fn signed_numbers_are_ordered()
     ensures antisymmetric { (a : ℤ) → (b : ℤ) → signed_cmp a b ≡ ordering_reverse (signed_cmp b a) }
     ensures total { IsTotalOrder signed_cmp }
     ensures exact { (a : ℤ) → (b : ℤ) → signed_cmp a b ≡ Equal → a ≡ b }
+{
+}
+
+/// A match count is the length of the rising list of the positions at which a match begins.
+#[tactic(auto, using(crate::proofs::CutLaws::matches_counted))]
+pub fn matches_are_counted()
+    ensures { (r : List Token) → (t : List ℕ) → (ks : List ℕ) → AreMatches r t ks → (c : ℕ) → IsCount (Begins r t) (length t + 1) c ↔ (c ≡ length ks) }
+{
+}
+
+/// A cut's number from the left is its place in the rising list of all cuts, and its number from the right its place in
+/// that list turned round. Both count from 1.
+pub fn cuts_are_numbered()
+    ensures left { (r : List Token) → (s : List Token) → (t : List ℕ) → (ks : List ℕ) → AreCuts r s t ks → (c : ℕ) → (k : ℕ) → IsCutFromLeft r s t c k ↔ (nth ks c ≡ Some k) }
+    ensures right { (r : List Token) → (s : List Token) → (t : List ℕ) → (ks : List ℕ) → AreCuts r s t ks → (c : ℕ) → (k : ℕ) → IsCutFromRight r s t c k ↔ (nth (reverse ks) c ≡ Some k) }
 {
 }
