@@ -1,13 +1,14 @@
 //! Laws of the definitions that the contracts of this crate cite.
 //!
 //! Each function does nothing: what it tells is its clauses, which hold for all plain trees.
-ghost use Rattle.std.specs.Prelude.{◌≡◌, ◌≢◌, List};
+ghost use Rattle.std.specs.Prelude.{◌≡◌, ◌≢◌, ℕ, List};
 ghost use Rattle.std.specs.Cmp.{IsTotalOrder};
 ghost use Rattle.std.specs.declared.cmp.Ordering.TheVariants.{Equal};
 ghost use Rattle.fill_text.specs.Data.{SheetData, TableData};
 ghost use Rattle.fill_tree.specs.Tree.{SourceTree, AtomTree, Atoms, end, more};
 ghost use Rattle.fill_tree.specs.Order.{source_cmp, atom_cmp, atoms_cmp, program_cmp, Before, NotAfter, OneIsBefore};
 ghost use Rattle.fill_tree.specs.Chosen.{IsChosen};
+ghost use Rattle.fill_tree.specs.Value.{KeysDistinguish, SourceIs, AtomIs, ConditionIs, ProgramIs};
 ghost use Rattle.fill_tree.specs.declared.user.Settings.{Settings};
 ghost use Rattle.fill_tree.specs.declared.user.Example.{Example};
 
@@ -64,4 +65,16 @@ pub fn one_is_chosen()
     ensures { (settings : Settings) → (sheet : SheetData) → (tables : List TableData) → (examples : List Example) →
         (p : Atoms) → (q : Atoms) →
         IsChosen settings sheet tables examples p → IsChosen settings sheet tables examples q → p ≡ q }
+{}
+
+/// A tree has at most one value on a row, where the keys of the tables distinguish their rows.
+pub fn values_are_unique()
+    ensures sources { (sheet : SheetData) → (tables : List TableData) → KeysDistinguish tables → (row : ℕ) → (s : SourceTree) →
+        (v : List ℕ) → (w : List ℕ) → SourceIs sheet tables row s v → SourceIs sheet tables row s w → v ≡ w }
+    ensures atoms { (sheet : SheetData) → (tables : List TableData) → KeysDistinguish tables → (row : ℕ) → (a : AtomTree) →
+        (v : List ℕ) → (w : List ℕ) → AtomIs sheet tables row a v → AtomIs sheet tables row a w → v ≡ w }
+    ensures conditions { (sheet : SheetData) → (tables : List TableData) → KeysDistinguish tables → (row : ℕ) → (a : AtomTree) →
+        (v : List ℕ) → (w : List ℕ) → ConditionIs sheet tables row a v → ConditionIs sheet tables row a w → v ≡ w }
+    ensures programs { (sheet : SheetData) → (tables : List TableData) → KeysDistinguish tables → (row : ℕ) → (p : Atoms) →
+        (v : List ℕ) → (w : List ℕ) → ProgramIs sheet tables row p v → ProgramIs sheet tables row p w → v ≡ w }
 {}
