@@ -17,3 +17,6 @@ pub use fill_tokens::{Place, Seq, Token};
 pub use guard::{Case, Guard, Literal, Switch};
 pub use tree::{Atom, Program, Select, Source};
 pub use user::{Constants, Edit, Example, Settings};
+
+#[cfg(test)]
+mod tests;
