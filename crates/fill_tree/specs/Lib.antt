@@ -1,4 +1,5 @@
 pub mod Chosen
+pub mod Codes
 pub mod Cost
 pub mod Grammar
 pub mod Meaning
