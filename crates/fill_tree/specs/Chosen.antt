@@ -1,5 +1,5 @@
 -- Which programs explain examples, and which of them is chosen.
-use Rattle.std.specs.Prelude.{◌≡◌, ℕ, List, All}
+use Rattle.std.specs.Prelude.{List, All}
 use Rattle.fill_text.specs.Data.{SheetData, TableData}
 use Rattle.fill_tree.specs.Tree.{Atoms}
 use Rattle.fill_tree.specs.Grammar.{InGrammar}

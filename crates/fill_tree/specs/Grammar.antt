@@ -1,5 +1,5 @@
 -- Which trees the bounded grammar has, for settings, a sheet and tables.
-use Rattle.std.specs.Prelude.{◌≡◌, ◌≢◌, ◌⊎◌, ℕ, suc, ◌+◌, ◌<◌, ◌≤◌, ◌^◌, List, [], ◌∷◌, Option, Some, None, All, Contains, true, max, length}
+use Rattle.std.specs.Prelude.{◌≡◌, ◌≢◌, ◌⊎◌, ℕ, suc, ◌+◌, ◌<◌, ◌≤◌, ◌^◌, List, [], Some, All, Contains, true, max, length}
 use Rattle.std.specs.Char.{IsScalar}
 use Rattle.fill_text.specs.Classes.{is_separator}
 use Rattle.fill_text.specs.Data.{SheetData, TableData, key_at, width_at}

@@ -1,7 +1,5 @@
 -- The plain trees that the code's trees stand for.
-use Rattle.std.specs.Prelude.{ℕ, List, map}
-use Rattle.std.specs.declared.alloc.Global.{Global}
-use Rattle.std.specs.declared.boxed.Box.{Box}
+use Rattle.std.specs.Prelude.{map}
 use Rattle.fill_tree.specs.Tree.{SourceTree, AtomTree, Atoms, col, select, constant, whole, sub, atoms_of}
 use Rattle.fill_tree.specs.declared.tree.Source.{Source, Source-F, fold-Source}
 use Rattle.fill_tree.specs.declared.tree.Select.{Select, Select-F, fold-Select}

@@ -47,6 +47,10 @@ program_cmp p q = ordering_then (nat_cmp (program_cost p) (program_cost q)) (ato
 abbrev pub Before : Atoms → Atoms → Type 0
 Before p q = program_cmp p q ≡ Less
 
+-- the first program is the second or before it
+abbrev pub NotAfter : Atoms → Atoms → Type 0
+NotAfter p q = ¬ Before q p
+
 -- one of the two is before the other, and not both
 abbrev pub OneIsBefore : Atoms → Atoms → Type 0
 OneIsBefore p q = (Before p q × ¬ Before q p) ⊎ (Before q p × ¬ Before p q)

@@ -1,5 +1,5 @@
 -- The values of trees on a row, as relations: a tree has a value where some text is it, and none where no text is.
-use Rattle.std.specs.Prelude.{◌≡◌, ◌≢◌, ℕ, ◌<◌, List, [], ◌∷◌, ◌++◌, Option, Some, map, slice_range}
+use Rattle.std.specs.Prelude.{◌≡◌, ◌≢◌, ℕ, ◌<◌, List, [], ◌∷◌, ◌++◌, Some, map, slice_range}
 use Rattle.fill_text.specs.Data.{SheetData, TableData, nth, cell_at, table_cell_at, key_at, table_row_at}
 use Rattle.fill_tokens.specs.Value.{HasValue}
 use Rattle.fill_tokens.specs.declared.place.Place.{Place}
@@ -9,6 +9,12 @@ use Rattle.fill_tree.specs.Tree.{SourceTree, AtomTree, Atoms, col, select, const
 abbrev pub IsKeyedRow : List TableData → ℕ → ℕ → List (List ℕ) → ℕ → Type 0
 IsKeyedRow tables table key texts row = (columns : List ℕ) × (cells : List (List ℕ)) × (key_at tables table key ≡ Some columns)
     × (table_row_at tables table row ≡ Some cells) × (map (nth cells) columns ≡ map Some texts)
+
+-- no two rows of a table have the same cells in the columns of one of its keys
+abbrev pub KeysDistinguish : List TableData → Type 0
+KeysDistinguish tables = (table key row other : ℕ) (columns : List ℕ) (cells others : List (List ℕ)) →
+    key_at tables table key ≡ Some columns → table_row_at tables table row ≡ Some cells → table_row_at tables table other ≡ Some others →
+    map (nth cells) columns ≡ map (nth others) columns → row ≡ other
 
 -- a lookup by texts of the property: the cell of the row whose key cells they are
 abbrev pub LooksUp : (List (List ℕ) → Type 0) → List TableData → ℕ → ℕ → ℕ → List ℕ → Type 0

@@ -5,7 +5,11 @@
 //! from Examples" (PVLDB 5(8), 2012), section 4.
 #![tactic(auto)]
 
+mod copy;
+mod cost;
 mod guard;
+pub mod laws;
+mod order;
 mod tree;
 mod user;
 
@@ -13,3 +17,6 @@ pub use fill_tokens::{Place, Seq, Token};
 pub use guard::{Case, Guard, Literal, Switch};
 pub use tree::{Atom, Program, Select, Source};
 pub use user::{Constants, Edit, Example, Settings};
+
+#[cfg(test)]
+mod tests;

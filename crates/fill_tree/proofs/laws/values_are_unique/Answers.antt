@@ -1,0 +1,10 @@
+use Rattle.fill_tree.proofs.ValueLaws as laws
+use Rattle.fill_tree.proofs.laws.values_are_unique.Goals as goal
+
+pub returns : goal.returns
+returns c = record {
+  sources = laws.source_one;
+  atoms = laws.atom_one;
+  conditions = laws.condition_one;
+  programs = laws.program_one;
+}

@@ -1,0 +1,80 @@
+//! Laws of the definitions that the contracts of this crate cite.
+//!
+//! Each function does nothing: what it tells is its clauses, which hold for all plain trees.
+ghost use Rattle.std.specs.Prelude.{◌≡◌, ◌≢◌, ℕ, List};
+ghost use Rattle.std.specs.Cmp.{IsTotalOrder};
+ghost use Rattle.std.specs.declared.cmp.Ordering.TheVariants.{Equal};
+ghost use Rattle.fill_text.specs.Data.{SheetData, TableData};
+ghost use Rattle.fill_tree.specs.Tree.{SourceTree, AtomTree, Atoms, end, more};
+ghost use Rattle.fill_tree.specs.Order.{source_cmp, atom_cmp, atoms_cmp, program_cmp, Before, NotAfter, OneIsBefore};
+ghost use Rattle.fill_tree.specs.Chosen.{IsChosen};
+ghost use Rattle.fill_tree.specs.Value.{KeysDistinguish, SourceIs, AtomIs, ConditionIs, ProgramIs};
+ghost use Rattle.fill_tree.specs.declared.user.Settings.{Settings};
+ghost use Rattle.fill_tree.specs.declared.user.Example.{Example};
+
+/// Sources are in a total order, and only equal sources are alike in it.
+#[tactic(auto, using(crate::proofs::TreeOrder::source_total, crate::proofs::TreeOrder::exact_sources))]
+pub fn sources_are_ordered()
+    ensures total { IsTotalOrder source_cmp }
+    ensures exact { (a : SourceTree) → (b : SourceTree) → source_cmp a b ≡ Equal → a ≡ b }
+{}
+
+/// Atoms are in a total order, and only equal atoms are alike in it.
+#[tactic(auto, using(crate::proofs::TreeOrder::atom_total, crate::proofs::TreeOrder::exact_atoms))]
+pub fn atoms_are_ordered()
+    ensures total { IsTotalOrder atom_cmp }
+    ensures exact { (a : AtomTree) → (b : AtomTree) → atom_cmp a b ≡ Equal → a ≡ b }
+{}
+
+/// Programs are in a total order by their atoms, and only equal programs are alike in it.
+#[tactic(auto, using(crate::proofs::TreeOrder::atoms_total, crate::proofs::TreeOrder::exact_atom_lists))]
+pub fn programs_are_ordered()
+    ensures total { IsTotalOrder atoms_cmp }
+    ensures exact { (p : Atoms) → (q : Atoms) → atoms_cmp p q ≡ Equal → p ≡ q }
+{}
+
+/// So are they by their cost and then their atoms.
+#[tactic(auto, using(crate::proofs::ProgramOrder::program_total, crate::proofs::ProgramOrder::exact_programs))]
+pub fn programs_are_ordered_by_cost()
+    ensures total { IsTotalOrder program_cmp }
+    ensures exact { (p : Atoms) → (q : Atoms) → program_cmp p q ≡ Equal → p ≡ q }
+{}
+
+/// Of two different programs exactly one is before the other.
+#[tactic(auto, using(crate::proofs::ProgramOrder::one_is_before))]
+pub fn one_is_before()
+    ensures { (p : Atoms) → (q : Atoms) → p ≢ q → OneIsBefore p q }
+{}
+
+/// A program with an earlier first atom, or with the same one and an earlier rest, is earlier. So the least of programs
+/// whose first atoms and rests are free of each other is the least first atom before the least rest.
+pub fn earlier_parts_make_earlier_programs()
+    ensures head { (a : AtomTree) → (b : AtomTree) → (p : Atoms) → (q : Atoms) →
+        Before (more a end) (more b end) → NotAfter p q → Before (more a p) (more b q) }
+    ensures tail { (a : AtomTree) → (b : AtomTree) → (p : Atoms) → (q : Atoms) →
+        NotAfter (more a end) (more b end) → Before p q → Before (more a p) (more b q) }
+    ensures both { (a : AtomTree) → (b : AtomTree) → (p : Atoms) → (q : Atoms) →
+        NotAfter (more a end) (more b end) → NotAfter p q → NotAfter (more a p) (more b q) }
+    ensures head_back { (a : AtomTree) → (b : AtomTree) → (p : Atoms) →
+        NotAfter (more a p) (more b p) → NotAfter (more a end) (more b end) }
+    ensures tail_back { (a : AtomTree) → (p : Atoms) → (q : Atoms) → NotAfter (more a p) (more a q) → NotAfter p q }
+{}
+
+/// At most one program is chosen for examples.
+pub fn one_is_chosen()
+    ensures { (settings : Settings) → (sheet : SheetData) → (tables : List TableData) → (examples : List Example) →
+        (p : Atoms) → (q : Atoms) →
+        IsChosen settings sheet tables examples p → IsChosen settings sheet tables examples q → p ≡ q }
+{}
+
+/// A tree has at most one value on a row, where the keys of the tables distinguish their rows.
+pub fn values_are_unique()
+    ensures sources { (sheet : SheetData) → (tables : List TableData) → KeysDistinguish tables → (row : ℕ) → (s : SourceTree) →
+        (v : List ℕ) → (w : List ℕ) → SourceIs sheet tables row s v → SourceIs sheet tables row s w → v ≡ w }
+    ensures atoms { (sheet : SheetData) → (tables : List TableData) → KeysDistinguish tables → (row : ℕ) → (a : AtomTree) →
+        (v : List ℕ) → (w : List ℕ) → AtomIs sheet tables row a v → AtomIs sheet tables row a w → v ≡ w }
+    ensures conditions { (sheet : SheetData) → (tables : List TableData) → KeysDistinguish tables → (row : ℕ) → (a : AtomTree) →
+        (v : List ℕ) → (w : List ℕ) → ConditionIs sheet tables row a v → ConditionIs sheet tables row a w → v ≡ w }
+    ensures programs { (sheet : SheetData) → (tables : List TableData) → KeysDistinguish tables → (row : ℕ) → (p : Atoms) →
+        (v : List ℕ) → (w : List ℕ) → ProgramIs sheet tables row p v → ProgramIs sheet tables row p w → v ≡ w }
+{}
