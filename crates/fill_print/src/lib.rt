@@ -1,0 +1,12 @@
+//! The notation of programs, in which a user reads them.
+//!
+//! It has no blanks but the one between two tokens and those inside of texts, and each tree has one spelling.
+#![tactic(auto)]
+
+mod pieces;
+mod trees;
+
+pub use trees::print_program;
+
+#[cfg(test)]
+mod tests;

@@ -1,0 +1,6 @@
+pub mod Answer
+pub mod Number
+pub mod Opened
+pub mod Present
+pub mod Report
+pub mod Script
