@@ -1,7 +1,6 @@
 -- The order of places is total, and tells all places apart.
 use Rattle.std.proofs.Common.{◌≡◌, List, ℤ, pos, negsuc, length, refl, ap, arith}
-use Rattle.std.specs.declared.cmp.Ordering.{Ordering}
-use Rattle.std.specs.declared.cmp.Ordering.TheVariants.{Less, Equal, Greater}
+use Rattle.std.specs.declared.cmp.Ordering.TheVariants.{Less}
 use Rattle.std.specs.Ordering.{nat_cmp, ordering_reverse, on}
 use Rattle.std.specs.Cmp.{IsTotalOrder}
 use Rattle.std.proofs.lemmas.Cmp.{nat_cmp_total, on_total, then_total, lists_total}
@@ -65,8 +64,8 @@ place_trans (Pos r0 r1 c) (CPos b) r h k = cc
 place_trans (Pos r0 r1 c) (Pos s0 s1 d) (CPos e) h k = cc
 place_trans (Pos r0 r1 c) (Pos s0 s1 d) (Pos t0 t1 e) h k =
     then_chain _ _ _ _ _ _ (seq_total.trans r0 s0 t0) (alike_left seq_cmp exact_seqs r0 s0 t0) (alike_right seq_cmp exact_seqs r0 s0 t0)
-        (then_chain _ _ _ _ _ _ (seq_total.trans r1 s1 t1) (alike_left seq_cmp exact_seqs r1 s1 t1) (alike_right seq_cmp exact_seqs r1 s1 t1)
-            (signed_total.trans c d e)) h k
+    (then_chain _ _ _ _ _ _ (seq_total.trans r1 s1 t1) (alike_left seq_cmp exact_seqs r1 s1 t1) (alike_right seq_cmp exact_seqs r1 s1 t1)
+    (signed_total.trans c d e)) h k
 
 pub place_total : IsTotalOrder place_cmp
 place_total = record {

@@ -1,6 +1,5 @@
 -- Counting the numbers that have a property along the rising list of them.
-use Rattle.std.proofs.Common.{◌≡◌, ℕ, zero, suc, ◌+◌, ◌-◌, ◌<◌, ◌≤◌, ◌⊎◌, inl, inr, List, length, get_or, reverse, map, refl, sym, ap, ◌∙◌, subst, arith}
-use Rattle.std.specs.Prelude.{Contains}
+use Rattle.std.proofs.Common.{◌≡◌, ℕ, zero, suc, ◌+◌, ◌-◌, ◌<◌, ◌≤◌, inl, inr, List, length, get_or, reverse, map, refl, sym, ap, ◌∙◌, subst, arith}
 use Rattle.std.proofs.lemmas.Bool.{cases_order}
 use Rattle.std.proofs.lemmas.List.{get_or-map, get_or-reverse, length-map, length-reverse, get_or_read}
 use Rattle.std.proofs.lemmas.List.Elements.{Contains-get_or}
@@ -29,8 +28,9 @@ module _ (P : ℕ → Type 0) (ks : List ℕ) where
       counted = inl (i, refl, subst P is (e.each i h), p.counted);
       within = omega arith;
       low = λ j l. elim (cases_order j i) [
-          inl same ↦ let here : get_or ks j 0 ≡ n = subst (λ m. get_or ks m 0 ≡ n) (sym same) is in omega arith
-        | inr o ↦ elim o [ inl below ↦ let before = p.low j below in omega arith | inr above ↦ absurd (omega arith) ] ];
+        | inl same ↦ let here : get_or ks j 0 ≡ n = subst (λ m. get_or ks m 0 ≡ n) (sym same) is in omega arith
+        | inr o ↦ elim o [ inl below ↦ let before = p.low j below in omega arith | inr above ↦ absurd (omega arith) ]
+      ];
       high = λ j l within. let above = e.rising i j (omega arith) within in omega arith;
     }
 
@@ -40,43 +40,53 @@ module _ (P : ℕ → Type 0) (ks : List ℕ) where
       within = p.within;
       low = λ j l. let before = p.low j l in omega arith;
       high = λ j l within. elim (cases_order (get_or ks j 0) n) [
-          inl same ↦ absurd (none j within same)
-        | inr o ↦ let after = p.high j l within in omega arith ];
+        | inl same ↦ absurd (none j within same)
+        | inr o ↦ let after = p.high j l within in omega arith
+      ];
     }
 
     none_at : (n i : ℕ) → Passed n i → (i < length ks → n < get_or ks i 0) → (j : ℕ) → j < length ks → get_or ks j 0 ≡ n → ⊥
     none_at n i p above j within same = elim (cases_order j i) [
-        inl here ↦
+      | inl here ↦
           let next : n < get_or ks i 0 = above (omega arith) in
           let it : get_or ks i 0 ≡ n = subst (λ m. get_or ks m 0 ≡ n) here same in
           absurd (omega arith)
       | inr o ↦ elim o [
-          inl below ↦ let before = p.low j below in absurd (omega arith)
+        | inl below ↦ let before = p.low j below in absurd (omega arith)
         | inr after ↦
             let next : n < get_or ks i 0 = above (omega arith) in
             let more = e.rising i j after within in
-            absurd (omega arith) ] ]
+            absurd (omega arith)
+      ]
+    ]
 
     pub passed : (n : ℕ) → n ≤ b → (i : ℕ) × Passed n i
-    passed zero h = (0, record {
-      counted = refl;
-      within = omega arith;
-      low = λ j l. absurd (omega arith);
-      high = λ j l within. omega arith;
-    })
+    passed zero h = (
+      0,
+      record {
+        counted = refl;
+        within = omega arith;
+        low = λ j l. absurd (omega arith);
+        high = λ j l within. omega arith;
+      },
+    )
     passed (suc n) h =
         let before = passed n (omega arith) in
         let i = before.0 in
         let p = before.1 in
         elim (cases_order i (length ks)) [
-          inl end ↦ (i, pass_none n i p (omega arith) (none_at n i p (λ l. absurd (omega arith))))
-        | inr o ↦ elim o [
-            inr past ↦ absurd (omega (arith, p.within))
-          | inl within ↦ elim (cases_order n (get_or ks i 0)) [
-              inl same ↦ (i + 1, pass_item n i p within (sym same))
-            | inr c ↦ elim c [
-                inl above ↦ (i, pass_none n i p (omega arith) (none_at n i p (λ l. above)))
-              | inr below ↦ absurd (omega (arith, p.high i (omega arith) within)) ] ] ] ]
+          | inl end ↦ (i, pass_none n i p (omega arith) (none_at n i p (λ l. absurd (omega arith))))
+          | inr o ↦ elim o [
+            | inr past ↦ absurd (omega (arith, p.within))
+            | inl within ↦ elim (cases_order n (get_or ks i 0)) [
+              | inl same ↦ (i + 1, pass_item n i p within (sym same))
+              | inr c ↦ elim c [
+                | inl above ↦ (i, pass_none n i p (omega arith) (none_at n i p (λ l. above)))
+                | inr below ↦ absurd (omega (arith, p.high i (omega arith) within))
+              ]
+            ]
+          ]
+        ]
 
     -- up to an item of the list stand as many numbers as the list has items up to it
     pub count_at : (j : ℕ) → j < length ks → get_or ks j 0 < b → IsCount P (get_or ks j 0 + 1) (j + 1)
@@ -85,13 +95,15 @@ module _ (P : ℕ → Type 0) (ks : List ℕ) where
         let i = here.0 in
         let p = here.1 in
         elim (cases_order i (j + 1)) [
-          inl same ↦ subst (λ m. IsCount P (get_or ks j 0 + 1) m) same p.counted
-        | inr o ↦ elim o [
-            inl few ↦ let above = p.high j (omega arith) within in absurd (omega arith)
-          | inr many ↦
-              let below = p.low (j + 1) many in
-              let above = e.rising j (j + 1) (omega arith) (omega (arith, p.within)) in
-              absurd (omega arith) ] ]
+          | inl same ↦ subst (λ m. IsCount P (get_or ks j 0 + 1) m) same p.counted
+          | inr o ↦ elim o [
+            | inl few ↦ let above = p.high j (omega arith) within in absurd (omega arith)
+            | inr many ↦
+                let below = p.low (j + 1) many in
+                let above = e.rising j (j + 1) (omega arith) (omega (arith, p.within)) in
+                absurd (omega arith)
+          ]
+        ]
 
     -- in all stand as many numbers as the list has items
     pub count_all : ((j : ℕ) → j < length ks → get_or ks j 0 < b) → IsCount P b (length ks)
@@ -100,13 +112,15 @@ module _ (P : ℕ → Type 0) (ks : List ℕ) where
         let i = here.0 in
         let p = here.1 in
         elim (cases_order i (length ks)) [
-          inl same ↦ subst (λ m. IsCount P b m) same p.counted
-        | inr o ↦ elim o [
-            inl few ↦
-              let above = p.high i (omega arith) few in
-              let below = low i few in
-              absurd (omega arith)
-          | inr many ↦ absurd (omega (arith, p.within)) ] ]
+          | inl same ↦ subst (λ m. IsCount P b m) same p.counted
+          | inr o ↦ elim o [
+            | inl few ↦
+                let above = p.high i (omega arith) few in
+                let below = low i few in
+                absurd (omega arith)
+            | inr many ↦ absurd (omega (arith, p.within))
+          ]
+        ]
 
     -- a number up to which so many numbers stand is the item of that place
     pub item_of : (x c : ℕ) → x < b → P x → IsCount P (x + 1) c → (j : ℕ) × (j < length ks) × (get_or ks j 0 ≡ x) × (c ≡ suc j)

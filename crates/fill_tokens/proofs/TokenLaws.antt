@@ -1,5 +1,5 @@
 -- The numbers and the names of tokens tell them apart, and the list of all tokens has each at its number.
-use Rattle.std.proofs.Common.{◌≡◌, ◌<◌, ◌≤◌, ◌⊎◌, ℕ, zero, suc, ◌+◌, ◌-◌, ◌==◌, ◌&&◌, Bool, true, false, List, [], ◌∷◌, length, get_or, Some, slice_get, refl, ap, sym, ◌∙◌, inl, inr, arith, subst, eqb-true, add-zero}
+use Rattle.std.proofs.Common.{◌≡◌, ◌<◌, ◌≤◌, ℕ, zero, suc, ◌+◌, ◌-◌, ◌==◌, ◌&&◌, Bool, true, false, List, [], ◌∷◌, length, get_or, Some, slice_get, refl, ap, sym, ◌∙◌, inl, inr, arith, subst, eqb-true, add-zero}
 use Rattle.std.specs.Prelude.{◌≢◌, find, nat_eq, Option}
 use Rattle.std.specs.Cmp.Lexicographic.{pointwise}
 use Rattle.std.specs.Ordering.{nat_cmp, on}
@@ -16,9 +16,9 @@ pub listed : (t : Token) → slice_get ALL (token_number t - 1) ≡ Some t
 listed Start = refl
 listed _ = refl
 
-pub number_to_26 : (t : Token) → token_number t ≤ 26
-number_to_26 Start = omega arith
-number_to_26 _ = omega arith
+pub number_within : (t : Token) → token_number t ≤ length ALL
+number_within Start = omega arith
+number_within _ = omega arith
 
 -- the tokens of a list have the numbers from n on, in order
 abbrev numbered : ℕ → List Token → Bool
@@ -34,7 +34,7 @@ numbered_at n (u ∷ ts) (suc i) t h e =
     let rest : token_number t ≡ (n + 1) + i = numbered_at (n + 1) ts i t (and_parts (token_number u == n) (numbered (n + 1) ts) h).1 e in
     omega arith
 
-pub number_at : (i : ℕ) (d : Token) → i < 26 → token_number (get_or ALL i d) ≡ 1 + i
+pub number_at : (i : ℕ) (d : Token) → i < length ALL → token_number (get_or ALL i d) ≡ 1 + i
 number_at i d within = numbered_at 1 ALL i (get_or ALL i d) refl (slice_get-get_or ALL i d within)
 
 pub number_exact : (a b : Token) → token_number a ≡ token_number b → a ≡ b
@@ -60,9 +60,10 @@ unlike xs ys r e differ same =
     cc
 
 -- of the first tokens of the list none has the name, nor has the next one
-pub next_unnamed : (name : List ℕ) (i : ℕ) (d : Token) → i < 26 → token_name (get_or ALL i d) ≢ name →
+pub next_unnamed : (name : List ℕ) (i : ℕ) (d : Token) → i < length ALL → token_name (get_or ALL i d) ≢ name →
     ((j : ℕ) (t : Token) → j < i → slice_get ALL j ≡ Some t → token_name t ≢ name) →
     (j : ℕ) (t : Token) → j < i + 1 → slice_get ALL j ≡ Some t → token_name t ≢ name
 next_unnamed name i d within this below j t h e n = elim (cases_order j i) [
-    inl same ↦ this (ap token_name (get_or_from_slice_get ALL i t d (subst (λ k. slice_get ALL k ≡ Some t) same e)) ∙ n)
-  | inr o ↦ elim o [ inl l ↦ below j t l e n | inr g ↦ absurd (omega arith) ] ]
+  | inl same ↦ this (ap token_name (get_or_from_slice_get ALL i t d (subst (λ k. slice_get ALL k ≡ Some t) same e)) ∙ n)
+  | inr o ↦ elim o [ inl l ↦ below j t l e n | inr g ↦ absurd (omega arith) ]
+]

@@ -1,5 +1,5 @@
 -- A place has at most one value in a text, which is a position of the text.
-use Rattle.std.proofs.Common.{◌≡◌, ℕ, suc, ◌+◌, ◌-◌, ◌<◌, ◌≤◌, inl, inr, List, pos, negsuc, length, sym, subst, arith}
+use Rattle.std.proofs.Common.{◌≡◌, ℕ, suc, ◌+◌, ◌-◌, ◌<◌, ◌≤◌, inl, inr, List, pos, negsuc, length, subst, arith}
 use Rattle.std.proofs.lemmas.Bool.{cases_order}
 use Rattle.fill_tokens.specs.Span.{IsCut}
 use Rattle.fill_tokens.specs.Value.{IsCount, IsCutFromLeft, IsCutFromRight, HasValue}
@@ -13,13 +13,15 @@ count_apart : (P : ℕ → Type 0) (k l c : ℕ) → P l → k < l → IsCount P
 count_apart P k l c h o a b =
     let next : l + 1 ≡ suc l = omega arith in
     elim (subst (λ m. IsCount P m c) next b) [
-      inl y ↦ let less = count_mono P (k + 1) l c y.0 (omega arith) a y.3 in omega arith
-    | inr y ↦ y.0 h ]
+      | inl y ↦ let less = count_mono P (k + 1) l c y.0 (omega arith) a y.3 in omega arith
+      | inr y ↦ y.0 h
+    ]
 
 one_of_count : (P : ℕ → Type 0) (k l c : ℕ) → P k → P l → IsCount P (k + 1) c → IsCount P (l + 1) c → k ≡ l
 one_of_count P k l c h i a b = elim (cases_order k l) [
-    inl same ↦ same
-  | inr o ↦ elim o [ inl less ↦ absurd (count_apart P k l c i less a b) | inr more ↦ absurd (count_apart P l k c h more b a) ] ]
+  | inl same ↦ same
+  | inr o ↦ elim o [ inl less ↦ absurd (count_apart P k l c i less a b) | inr more ↦ absurd (count_apart P l k c h more b a) ]
+]
 
 one_from_left : (r s : List Token) (t : List ℕ) (c k l : ℕ) → IsCutFromLeft r s t c k → IsCutFromLeft r s t c l → k ≡ l
 one_from_left r s t c k l a b = one_of_count (IsCut r s t) k l c a.1 b.1 a.2 b.2

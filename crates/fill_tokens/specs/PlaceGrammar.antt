@@ -1,5 +1,5 @@
 -- Which places the grammar has.
-use Rattle.std.specs.Prelude.{◌≡◌, ◌≢◌, ℕ, ◌+◌, ◌<◌, ◌≤◌, List, [], ◌∷◌, ◌++◌, ℤ, pos, length, slice_get, Some, FitsSigned}
+use Rattle.std.specs.Prelude.{◌≡◌, ◌≢◌, ℕ, ◌+◌, ◌<◌, ◌≤◌, List, pos, length, slice_get, Some, FitsSigned}
 use Rattle.std.specs.Int.{w32}
 use Rattle.fill_tokens.specs.declared.token.Token.{Token}
 use Rattle.fill_tokens.specs.declared.token.Token.TheVariants.{Start, End}

@@ -1,5 +1,5 @@
 -- The value of a place in a text.
-use Rattle.std.specs.Prelude.{◌≡◌, ◌⊎◌, ℕ, zero, suc, ◌+◌, ◌-◌, ◌≤◌, List, ℤ, pos, negsuc, length}
+use Rattle.std.specs.Prelude.{◌≡◌, ◌⊎◌, ℕ, zero, suc, ◌+◌, ◌-◌, ◌≤◌, List, pos, negsuc, length}
 use Rattle.fill_tokens.specs.Span.{IsCut}
 use Rattle.fill_tokens.specs.declared.token.Token.{Token}
 use Rattle.fill_tokens.specs.declared.place.Place.{Place}

@@ -22,37 +22,32 @@ use crate::token::Token;
 pub fn tokens_are_told_apart()
     ensures numbers { (x : Token) → (y : Token) → token_number x ≡ token_number y → x ≡ y }
     ensures names { (x : Token) → (y : Token) → token_name x ≡ token_name y → x ≡ y }
-{
-}
+{}
 
 /// The list of all tokens has each of them at the place of its number.
 #[tactic(auto, using(crate::proofs::TokenLaws::listed))]
 pub fn all_tokens_are_listed()
     ensures { (x : Token) → slice_get Token.ALL (token_number x - 1) ≡ Some x }
-{
-}
+{}
 
 /// From each position a token spans at most one piece, and up to each position too.
 pub fn tokens_span_one_piece()
     ensures end { (x : Token) → (t : List ℕ) → (a : ℕ) → (b : ℕ) → (c : ℕ) → Spans x t a b → Spans x t a c → b ≡ c }
     ensures start { (x : Token) → (t : List ℕ) → (a : ℕ) → (b : ℕ) → (c : ℕ) → Spans x t a c → Spans x t b c → a ≡ b }
     ensures within { (x : Token) → (t : List ℕ) → (a : ℕ) → (b : ℕ) → Spans x t a b → (a ≤ b) × (b ≤ length t) }
-{
-}
+{}
 
 /// A place has at most one value in a text, and it is a position of the text.
 pub fn places_have_one_value()
     ensures one { (p : Place) → (t : List ℕ) → (k : ℕ) → (l : ℕ) → HasValue p t k → HasValue p t l → k ≡ l }
     ensures within { (p : Place) → (t : List ℕ) → (k : ℕ) → HasValue p t k → k ≤ length t }
-{
-}
+{}
 
 /// Of the positions below a number there is one count of matches at most, and the count of a larger number is no less.
 pub fn match_counts_are_unique()
     ensures one { (r : List Token) → (t : List ℕ) → (n : ℕ) → (c : ℕ) → (d : ℕ) → IsCount (Begins r t) n c → IsCount (Begins r t) n d → c ≡ d }
     ensures monotone { (r : List Token) → (t : List ℕ) → (m : ℕ) → (n : ℕ) → (c : ℕ) → (d : ℕ) → m ≤ n → IsCount (Begins r t) m c → IsCount (Begins r t) n d → c ≤ d }
-{
-}
+{}
 
 /// Places are in a total order, and only equal places are alike in it.
 #[tactic(auto, using(crate::proofs::PlaceLaws::place_total, crate::proofs::PlaceLaws::place_antisymm, crate::proofs::PlaceLaws::exact_places))]
@@ -60,8 +55,7 @@ pub fn places_are_ordered()
     ensures antisymmetric { (p : Place) → (q : Place) → place_cmp p q ≡ ordering_reverse (place_cmp q p) }
     ensures total { IsTotalOrder place_cmp }
     ensures exact { (p : Place) → (q : Place) → place_cmp p q ≡ Equal → p ≡ q }
-{
-}
+{}
 
 /// Sequences of tokens are in a total order, and only equal sequences are alike in it.
 #[tactic(auto, using(crate::proofs::PlaceLaws::seq_total, crate::proofs::PlaceLaws::seq_antisymm, crate::proofs::PlaceLaws::exact_seqs))]
@@ -69,8 +63,7 @@ pub fn sequences_are_ordered()
     ensures antisymmetric { (r : List Token) → (s : List Token) → seq_cmp r s ≡ ordering_reverse (seq_cmp s r) }
     ensures total { IsTotalOrder seq_cmp }
     ensures exact { (r : List Token) → (s : List Token) → seq_cmp r s ≡ Equal → r ≡ s }
-{
-}
+{}
 
 /// Signed numbers are in a total order, and only equal numbers are alike in it.
 #[tactic(auto, using(crate::proofs::PlaceLaws::signed_total, crate::proofs::PlaceLaws::signed_antisymm, crate::proofs::PlaceLaws::exact_signed))]
@@ -78,20 +71,18 @@ pub fn signed_numbers_are_ordered()
     ensures antisymmetric { (a : ℤ) → (b : ℤ) → signed_cmp a b ≡ ordering_reverse (signed_cmp b a) }
     ensures total { IsTotalOrder signed_cmp }
     ensures exact { (a : ℤ) → (b : ℤ) → signed_cmp a b ≡ Equal → a ≡ b }
-{
-}
+{}
 
 /// A match count is the length of the rising list of the positions at which a match begins.
-#[tactic(auto, using(crate::proofs::CutLaws::matches_counted))]
 pub fn matches_are_counted()
-    ensures { (r : List Token) → (t : List ℕ) → (ks : List ℕ) → AreMatches r t ks → (c : ℕ) → IsCount (Begins r t) (length t + 1) c ↔ (c ≡ length ks) }
-{
-}
+    ensures listed { (r : List Token) → (t : List ℕ) → (ks : List ℕ) × AreMatches r t ks }
+    ensures counted { (r : List Token) → (t : List ℕ) → (ks : List ℕ) → AreMatches r t ks → (c : ℕ) → IsCount (Begins r t) (length t + 1) c ↔ (c ≡ length ks) }
+{}
 
 /// A cut's number from the left is its place in the rising list of all cuts, and its number from the right its place in
 /// that list turned round. Both count from 1.
 pub fn cuts_are_numbered()
+    ensures listed { (r : List Token) → (s : List Token) → (t : List ℕ) → (ks : List ℕ) × AreCuts r s t ks }
     ensures left { (r : List Token) → (s : List Token) → (t : List ℕ) → (ks : List ℕ) → AreCuts r s t ks → (c : ℕ) → (k : ℕ) → IsCutFromLeft r s t c k ↔ (nth ks c ≡ Some k) }
     ensures right { (r : List Token) → (s : List Token) → (t : List ℕ) → (ks : List ℕ) → AreCuts r s t ks → (c : ℕ) → (k : ℕ) → IsCutFromRight r s t c k ↔ (nth (reverse ks) c ≡ Some k) }
-{
-}
+{}

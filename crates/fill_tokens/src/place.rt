@@ -6,7 +6,7 @@ use crate::seq::Seq;
 use std::cmp::Ordering;
 
 /// A place in a text, which names a position from 0 to the text's length.
-#[derive(Clone, Copy, Debug)]
+#[derive(Clone, Copy, Debug, PartialEq, Eq)]
 pub enum Place {
     /// The position counted from the left, or below 0 from the right, where -1 is the end of the text.
     CPos(i32),

@@ -15,7 +15,7 @@ enum Tokens {
 }
 
 /// A sequence of at most three tokens, which spans consecutive pieces. Contracts see it as the list of its tokens.
-#[derive(Clone, Copy, Debug)]
+#[derive(Clone, Copy, Debug, PartialEq, Eq)]
 pub struct Seq {
     tokens: Tokens,
 }

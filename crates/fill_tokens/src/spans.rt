@@ -75,7 +75,13 @@ pub fn span(token: Token, t: &Text, a: usize) -> Option<usize>
         Kind::AtStart => { if a == 0 { Some(a) } else { None } }
         Kind::AtEnd => { if a == t.len() { Some(a) } else { None } }
         Kind::Run(class) => span_run(class, t, a),
-        Kind::Single(c) => { if a < t.len() && t.at(a) == c { Some(a + 1) } else { None } }
+        Kind::Single(c) => {
+            if a < t.len() && t.at(a) == c {
+                Some(a + 1)
+            } else {
+                None
+            }
+        }
     }
 }
 
@@ -88,7 +94,13 @@ pub fn span_back(token: Token, t: &Text, b: usize) -> Option<usize>
         Kind::AtStart => { if b == 0 { Some(b) } else { None } }
         Kind::AtEnd => { if b == t.len() { Some(b) } else { None } }
         Kind::Run(class) => span_run_back(class, t, b),
-        Kind::Single(c) => { if b > 0 && t.at(b - 1) == c { Some(b - 1) } else { None } }
+        Kind::Single(c) => {
+            if b > 0 && t.at(b - 1) == c {
+                Some(b - 1)
+            } else {
+                None
+            }
+        }
     }
 }
 

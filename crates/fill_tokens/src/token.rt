@@ -73,7 +73,7 @@ impl Token {
     }
 
     /// The token of a number.
-    #[tactic(auto, using(crate::proofs::TokenLaws::number_to_26))]
+    #[tactic(auto, using(crate::proofs::TokenLaws::number_within))]
     pub fn from_number(n: u8) -> Option<Token>
         ensures { MatchOption result ((token : Token) → token_number token ≢ n) (λ token. token_number token ≡ n) }
     {

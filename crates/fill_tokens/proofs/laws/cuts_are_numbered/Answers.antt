@@ -1,5 +1,9 @@
 use Rattle.fill_tokens.proofs.CutLaws.{from_left, from_right}
+use Rattle.fill_tokens.proofs.ListsExist.{cuts_exist}
 use Rattle.fill_tokens.proofs.laws.cuts_are_numbered.Goals as goal
+
+pub returns-clause-listed : goal.returns-clause-listed
+returns-clause-listed c = cuts_exist
 
 pub returns-clause-left : goal.returns-clause-left
 returns-clause-left c = from_left

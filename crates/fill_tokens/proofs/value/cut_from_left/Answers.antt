@@ -6,5 +6,5 @@ use Rattle.fill_tokens.proofs.value.cut_from_left.Goals as goal
 pub returns : goal.returns
 returns c = λ k h.
     let enough : c.args.number ≤ c.loop-k.passed =
-        count_mono (IsCut c.args.left.now c.args.right.now c.args.t.now) (k + 1) c.loop-k.k c.args.number c.loop-k.passed (omega arith) h.2 c.loop-k.invariant.counted in
+    count_mono (IsCut c.args.left.now c.args.right.now c.args.t.now) (k + 1) c.loop-k.k c.args.number c.loop-k.passed (omega arith) h.2 c.loop-k.invariant.counted in
     omega arith

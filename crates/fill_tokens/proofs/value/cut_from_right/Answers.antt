@@ -23,6 +23,6 @@ pub returns : goal.returns
 returns c = λ k h.
     let n = length c.args.t.now in
     let enough : c.args.number ≤ c.loop-k.passed =
-        count_mono (λ i. IsCut c.args.left.now c.args.right.now c.args.t.now (n - i)) (n - k + 1) (n + 1 - c.loop-k.k) c.args.number c.loop-k.passed
-            (omega arith) h.2 c.loop-k.invariant.counted in
+    count_mono (λ i. IsCut c.args.left.now c.args.right.now c.args.t.now (n - i)) (n - k + 1) (n + 1 - c.loop-k.k) c.args.number c.loop-k.passed
+    (omega arith) h.2 c.loop-k.invariant.counted in
     omega arith

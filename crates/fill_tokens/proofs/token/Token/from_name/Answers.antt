@@ -1,9 +1,7 @@
-use Rattle.std.proofs.Common.{rules, arith, ◌≡◌, ◌≢◌, ◌∙◌, ◌+◌, ◌-◌, ◌<◌, ℕ, get_or}
-use Rattle.fill_tokens.specs.Token.{token_number, token_name}
-use Rattle.fill_tokens.specs.declared.token.TheConstants.Token.{ALL}
-use Rattle.fill_tokens.specs.declared.token.Token.{Token}
+use Rattle.std.proofs.Common.{arith, ◌∙◌, ◌-◌, ◌<◌}
+use Rattle.fill_tokens.specs.Token.{token_number}
 use Rattle.fill_tokens.specs.declared.token.Token.TheVariants.{Start}
-use Rattle.fill_tokens.proofs.TokenLaws.{listed, number_to_26, unlike, next_unnamed}
+use Rattle.fill_tokens.proofs.TokenLaws.{listed, number_within, unlike, next_unnamed}
 use Rattle.fill_tokens.proofs.token.Token.from_name.Goals as goal
 
 pub loop-token-preserved : goal.loop-token-preserved
@@ -13,5 +11,5 @@ loop-token-preserved c = next_unnamed c.args.name.now c.loop-token.token-index S
 
 pub returns : goal.returns
 returns c = λ t h.
-    let within : token_number t - 1 < c.loop-token.token-index = omega (arith, number_to_26 t) in
+    let within : token_number t - 1 < c.loop-token.token-index = omega (arith, number_within t) in
     c.loop-token.invariant (token_number t - 1) t within (listed t) h

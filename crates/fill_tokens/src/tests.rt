@@ -1,0 +1,189 @@
+use crate::*;
+use Token::{Alpha, Digits, End, Hyphen, Lower, Space, Start, Upper, Word};
+use fill_text::Text;
+use std::cmp::Ordering;
+use std::test::Fail;
+
+/// Whether the number and the name lead to one token, and from it back to both.
+fn there_and_back(number: u8, name: &str) -> bool {
+    let Some(token) = Token::from_number(number) else {
+        return false;
+    };
+    let named = Token::from_name(name.as_bytes());
+    token.number() == number && token.name() == name && named == Some(token)
+}
+
+#[test]
+fn numbers_and_names_of_tokens(rt: HostRuntime) {
+    for (number, name) in [
+        (1, "Start"),
+        (2, "End"),
+        (3, "Digits"),
+        (4, "Upper"),
+        (5, "Lower"),
+        (6, "Alpha"),
+        (7, "Word"),
+        (8, "Space"),
+        (9, "Hyphen"),
+        (10, "Dot"),
+        (11, "Comma"),
+        (12, "Semicolon"),
+        (13, "Colon"),
+        (14, "Slash"),
+        (15, "Backslash"),
+        (16, "Underscore"),
+        (17, "At"),
+        (18, "Hash"),
+        (19, "Ampersand"),
+        (20, "LeftParen"),
+        (21, "RightParen"),
+        (22, "DoubleQuote"),
+        (23, "SingleQuote"),
+        (24, "Percent"),
+        (25, "Plus"),
+        (26, "Dollar"),
+    ] {
+        assert!(rt; there_and_back(number, name), "{name}");
+    }
+    assert_eq!(rt; Token::from_number(0), None);
+    assert_eq!(rt; Token::from_number(27), None);
+    assert_eq!(rt; Token::from_name(b"digits"), None);
+    assert_eq!(rt; Token::from_name(b""), None);
+}
+
+#[test]
+fn values_of_places(rt: HostRuntime) -> Result<(), Fail> {
+    let none = Seq::empty();
+    let lower = Seq::one(Lower);
+    let digits = Seq::one(Digits);
+    for (place, text, value) in [
+        (Place::Pos(lower, none, 1), "aaa", Some(3)),
+        (Place::Pos(none, lower, -1), "a1a", Some(2)),
+        (Place::Pos(digits, lower, 1), "a1a", Some(2)),
+        (Place::Pos(digits, lower, 2), "a1a", None),
+        (Place::Pos(digits, lower, 0), "a1a", None),
+        (Place::Pos(none, none, 4), "abc", Some(3)),
+        (Place::Pos(none, none, -4), "abc", Some(0)),
+        (Place::CPos(0), "abc", Some(0)),
+        (Place::CPos(3), "abc", Some(3)),
+        (Place::CPos(4), "abc", None),
+        (Place::CPos(-1), "abc", Some(3)),
+        (Place::CPos(-4), "abc", Some(0)),
+        (Place::CPos(-5), "abc", None),
+    ] {
+        let text = Text::from_utf8(rt.alloc(), text.as_bytes())?;
+        assert_eq!(rt; place_value(&place, &text), value, "{place:?} in {text:?}");
+    }
+    Ok(())
+}
+
+#[test]
+fn counts_of_matches(rt: HostRuntime) -> Result<(), Fail> {
+    for (seq, text, count) in [
+        (Seq::one(Lower), "a1a", 2),
+        (Seq::one(Lower), "aaa", 1),
+        (Seq::empty(), "abc", 4),
+        (Seq::two(Upper, Lower), "Anna Bo", 2),
+        (Seq::three(Start, Word, End), "a1", 1),
+        (Seq::three(Start, Word, End), "a-1", 0),
+        // A title case letter is a letter, and neither upper nor lower.
+        (Seq::one(Alpha), "a\u{1c5}b", 1),
+        (Seq::one(Upper), "a\u{1c5}b", 0),
+        (Seq::one(Lower), "a\u{1c5}b", 2),
+        // So is a modifier letter.
+        (Seq::one(Alpha), "a\u{2b0}b", 1),
+        (Seq::one(Lower), "a\u{2b0}b", 2),
+        // A digit of another script joins a run of digits.
+        (Seq::one(Digits), "1\u{664}2", 1),
+        // A no-break space joins a run of spaces.
+        (Seq::one(Space), "a \u{a0} b", 1),
+        // A combining mark is no letter, and parts a run.
+        (Seq::one(Alpha), "e\u{301}e", 2),
+        (Seq::one(Word), "e\u{301}e", 2),
+    ] {
+        let text = Text::from_utf8(rt.alloc(), text.as_bytes())?;
+        assert_eq!(rt; match_count(&seq, &text), count, "{seq:?} in {text:?}");
+    }
+    Ok(())
+}
+
+#[test]
+fn pieces_of_tokens(rt: HostRuntime) -> Result<(), Fail> {
+    let text = Text::from_utf8(rt.alloc(), b"ab-12")?;
+    assert!(rt; text.len() == 5);
+    assert_eq!(rt; span(Lower, &text, 0), Some(2));
+    assert_eq!(rt; span(Lower, &text, 1), None);
+    assert_eq!(rt; span(Hyphen, &text, 2), Some(3));
+    assert_eq!(rt; span(Start, &text, 0), Some(0));
+    assert_eq!(rt; span(End, &text, 5), Some(5));
+    assert_eq!(rt; span_back(Lower, &text, 2), Some(0));
+    assert_eq!(rt; span_back(Lower, &text, 1), None);
+    assert_eq!(rt; span_back(Hyphen, &text, 3), Some(2));
+    assert!(rt; right_match(&Seq::two(Lower, Hyphen), &text, 0));
+    assert!(rt; left_match(&Seq::two(Hyphen, Digits), &text, 5));
+    assert!(rt; !left_match(&Seq::two(Hyphen, Digits), &text, 4));
+    Ok(())
+}
+
+#[test]
+fn places_and_their_order(rt: HostRuntime) {
+    let none = Seq::empty();
+    let start = Seq::one(Start);
+    let lower = Seq::one(Lower);
+    for (place, cost, in_grammar) in [
+        (Place::CPos(0), 1, true),
+        (Place::CPos(-1), 1, true),
+        (Place::CPos(1), 10, true),
+        (Place::Pos(lower, start, 1), 6, false),
+        (Place::Pos(start, lower, -3), 10, true),
+        (Place::Pos(lower, Seq::two(Digits, End), 1), 8, true),
+        (Place::Pos(none, none, 1), 2, false),
+        (Place::Pos(lower, none, 0), 4, false),
+    ] {
+        assert_eq!(rt; place.cost(), cost, "{place:?}");
+        assert_eq!(rt; is_place(&place), in_grammar, "{place:?}");
+    }
+    for (before, after) in [
+        (Place::CPos(1), Place::CPos(-1)),
+        (Place::CPos(-1), Place::CPos(2)),
+        (Place::CPos(-9), Place::Pos(none, lower, 1)),
+        (Place::Pos(none, lower, 1), Place::Pos(lower, none, 1)),
+        (Place::Pos(start, none, 1), Place::Pos(lower, none, 1)),
+    ] {
+        assert_eq!(rt;
+            before.compare(&after),
+            Ordering::Less,
+            "{before:?} and {after:?}"
+        );
+        assert_eq!(rt;
+            after.compare(&before),
+            Ordering::Greater,
+            "{after:?} and {before:?}"
+        );
+    }
+    assert_eq!(rt; lower.compare(&lower), Ordering::Equal);
+    assert_eq!(rt; Place::Pos(lower, none, 1), Place::Pos(lower, none, 1));
+    assert_ne!(rt; Place::Pos(lower, none, 1), Place::Pos(lower, none, -1));
+}
+
+/// A scan of the run from each of its characters would take minutes here.
+#[test]
+fn a_long_run_takes_no_time(rt: HostRuntime) -> Result<(), Fail> {
+    let mut text = Text::from_utf8(rt.alloc(), b"a")?;
+    for _ in 0..18 {
+        let again = text.copy()?;
+        text.append(&again)?;
+    }
+    let lower = Seq::one(Lower);
+    assert_eq!(rt; text.len(), 262144);
+    assert_eq!(rt;
+        place_value(&Place::Pos(lower, Seq::empty(), 1), &text),
+        Some(262144)
+    );
+    assert_eq!(rt;
+        place_value(&Place::Pos(Seq::empty(), lower, -1), &text),
+        Some(0)
+    );
+    assert_eq!(rt; match_count(&lower, &text), 1);
+    Ok(())
+}
