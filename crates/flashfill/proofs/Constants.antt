@@ -8,7 +8,6 @@ use Rattle.std.specs.Ordering.{nat_cmp, ordering_then}
 use Rattle.std.proofs.lemmas.Bool.Decides.{nat_tests}
 use Rattle.std.proofs.lemmas.List.Sums.{sum_by-append}
 use Rattle.fill_text.specs.Data.{SheetData}
-use Rattle.fill_tree.specs.Chosen.{Explains, IsLeast}
 use Rattle.fill_tree.specs.Cost.{char_cost, program_cost}
 use Rattle.fill_tree.specs.Meaning.{atom_tree}
 use Rattle.fill_tree.specs.declared.tree.Atom.TheVariants.{Const}
