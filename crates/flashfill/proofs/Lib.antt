@@ -4,3 +4,8 @@ pub mod Records
 pub mod Scripts
 pub mod Steps
 pub mod Texts
+pub mod Copies
+pub mod Starts
+pub mod Ends
+pub mod Tables
+pub mod Walks
