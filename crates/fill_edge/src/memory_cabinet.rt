@@ -174,3 +174,25 @@ fn copy_piece(file: &[u8], at: usize, most: usize, buf: &mut [u8]) -> usize
     buf[..count].copy_from_slice(piece);
     count
 }
+
+#[cfg(test)]
+mod tests {
+    use super::MemoryCabinet;
+    use crate::{Cabinet, ReadRefusal};
+    use std::test::Fail;
+
+    #[test]
+    fn counts_stand_still_at_their_last_value(rt: HostRuntime) -> Result<(), Fail> {
+        let mut cabinet = MemoryCabinet::new(rt.alloc(), 4);
+        cabinet.put("é", b"abc")?;
+        cabinet.fail_at(1)?;
+        cabinet.faults = u64::MAX;
+        cabinet.given = u64::MAX - 1;
+        let mut buf = [0u8; 4];
+        assert_eq!(rt; cabinet.read("é", 0, &mut buf), Err(ReadRefusal::Failed));
+        assert_eq!(rt; cabinet.read("é", 0, &mut buf), Ok(3));
+        assert_eq!(rt; cabinet.faults, u64::MAX);
+        assert_eq!(rt; cabinet.given, u64::MAX);
+        Ok(())
+    }
+}

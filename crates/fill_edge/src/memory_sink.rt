@@ -98,3 +98,21 @@ impl Sink for MemorySink {
         Ok(count)
     }
 }
+
+#[cfg(test)]
+mod tests {
+    use super::MemorySink;
+    use crate::{Failed, Sink};
+    use std::test::Fail;
+
+    #[test]
+    fn a_count_stands_still_at_its_last_value(rt: HostRuntime) -> Result<(), Fail> {
+        let mut sink = MemorySink::new(rt.alloc(), 2, 4)?;
+        sink.faults = u64::MAX;
+        assert_eq!(rt; sink.write(b"abc"), Ok(2));
+        assert_eq!(rt; sink.write(b"c"), Err(Failed));
+        assert_eq!(rt; sink.faults, u64::MAX);
+        assert_eq!(rt; sink.written(), b"ab".as_slice());
+        Ok(())
+    }
+}

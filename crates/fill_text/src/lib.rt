@@ -12,3 +12,6 @@ pub use error::{NoMemory, TextError};
 pub use list::List;
 pub use name::Name;
 pub use text::Text;
+
+#[cfg(test)]
+mod tests;

@@ -35,9 +35,6 @@ at_nth ks zero k h = cc
 at_nth ks (suc j) k h = (j, slice_get_within ks j k h, get_or_from_slice_get ks j k 0 h, refl)
 
 module _ (r s : List Token) (t ks : List ℕ) (l : AreCuts r s t ks) where
-  Cut : ℕ → Type 0
-  Cut = IsCut r s t
-
   cut_at : (j : ℕ) → j < length ks → IsCut r s t (get_or ks j 0)
   cut_at = has_each (IsCut r s t) ks l
 

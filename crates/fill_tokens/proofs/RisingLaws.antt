@@ -134,8 +134,8 @@ module _ (P : ℕ → Type 0) (ks : List ℕ) (l : IsRisingListOf P ks) where
   rises : (i j : ℕ) → i < j → j < length ks → get_or ks i 0 < get_or ks j 0
   rises i j = AllPairs-from_increasing ks l.rising i j 0
 
-  has : (j : ℕ) → j < length ks → P (get_or ks j 0)
-  has j within = (l.exact (get_or ks j 0)).0 (Contains-get_or ks j 0 within)
+  pub has_each : (j : ℕ) → j < length ks → P (get_or ks j 0)
+  has_each j within = (l.exact (get_or ks j 0)).0 (Contains-get_or ks j 0 within)
 
   place : (x : ℕ) → P x → (j : ℕ) × (j < length ks) × (get_or ks j 0 ≡ x)
   place x h =
@@ -143,10 +143,7 @@ module _ (P : ℕ → Type 0) (ks : List ℕ) (l : IsRisingListOf P ks) where
       (at.0, at.1, sym (get_or_read ks at.0 x at.1 (sym at.2) 0))
 
   pub enumerated : (b : ℕ) → Enumerates P b ks
-  enumerated b = record { rising = rises; each = has; all = λ x h. place x }
-
-  pub has_each : (j : ℕ) → j < length ks → P (get_or ks j 0)
-  has_each = has
+  enumerated b = record { rising = rises; each = has_each; all = λ x h. place x }
 
   -- the same list counted back from n
   module _ (n : ℕ) (small : (j : ℕ) → j < length ks → get_or ks j 0 ≤ n) where
@@ -170,7 +167,7 @@ module _ (P : ℕ → Type 0) (ks : List ℕ) (l : IsRisingListOf P ks) where
       each = λ j within.
           let most = small (length ks - 1 - j) (omega (arith, length-back)) in
           let it : get_or ks (length ks - 1 - j) 0 ≡ n - get_or back j 0 = omega (arith, back_at j (omega (arith, length-back))) in
-          subst P it (has (length ks - 1 - j) (omega (arith, length-back)));
+          subst P it (has_each (length ks - 1 - j) (omega (arith, length-back)));
       all = λ x h q.
           let at = place (n - x) q in
           let twice : length ks - 1 - (length ks - 1 - at.0) ≡ at.0 = omega arith in

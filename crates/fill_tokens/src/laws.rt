@@ -20,8 +20,8 @@ use crate::token::Token;
 /// Tokens of one number are the same, and so are tokens of one name.
 #[tactic(auto, using(crate::proofs::TokenLaws::number_exact, crate::proofs::TokenLaws::name_exact))]
 pub fn tokens_are_told_apart()
-    ensures numbers { (x : Token) → (y : Token) → token_number x ≡ token_number y → x ≡ y }
-    ensures names { (x : Token) → (y : Token) → token_name x ≡ token_name y → x ≡ y }
+    ensures numbers { (x y : Token) → token_number x ≡ token_number y → x ≡ y }
+    ensures names { (x y : Token) → token_name x ≡ token_name y → x ≡ y }
 {}
 
 /// The list of all tokens has each of them at the place of its number.
@@ -32,57 +32,62 @@ pub fn all_tokens_are_listed()
 
 /// From each position a token spans at most one piece, and up to each position too.
 pub fn tokens_span_one_piece()
-    ensures end { (x : Token) → (t : List ℕ) → (a : ℕ) → (b : ℕ) → (c : ℕ) → Spans x t a b → Spans x t a c → b ≡ c }
-    ensures start { (x : Token) → (t : List ℕ) → (a : ℕ) → (b : ℕ) → (c : ℕ) → Spans x t a c → Spans x t b c → a ≡ b }
-    ensures within { (x : Token) → (t : List ℕ) → (a : ℕ) → (b : ℕ) → Spans x t a b → (a ≤ b) × (b ≤ length t) }
+    ensures end { (x : Token) (t : List ℕ) (a b c : ℕ) → Spans x t a b → Spans x t a c → b ≡ c }
+    ensures start { (x : Token) (t : List ℕ) (a b c : ℕ) → Spans x t a c → Spans x t b c → a ≡ b }
+    ensures within { (x : Token) (t : List ℕ) (a b : ℕ) → Spans x t a b → (a ≤ b) × (b ≤ length t) }
 {}
 
 /// A place has at most one value in a text, and it is a position of the text.
 pub fn places_have_one_value()
-    ensures one { (p : Place) → (t : List ℕ) → (k : ℕ) → (l : ℕ) → HasValue p t k → HasValue p t l → k ≡ l }
-    ensures within { (p : Place) → (t : List ℕ) → (k : ℕ) → HasValue p t k → k ≤ length t }
+    ensures one { (p : Place) (t : List ℕ) (k l : ℕ) → HasValue p t k → HasValue p t l → k ≡ l }
+    ensures within { (p : Place) (t : List ℕ) (k : ℕ) → HasValue p t k → k ≤ length t }
 {}
 
-/// Of the positions below a number there is one count of matches at most, and the count of a larger number is no less.
+/// Below a number there is at most one count of matches, and the count below a larger number is no less.
 pub fn match_counts_are_unique()
-    ensures one { (r : List Token) → (t : List ℕ) → (n : ℕ) → (c : ℕ) → (d : ℕ) → IsCount (Begins r t) n c → IsCount (Begins r t) n d → c ≡ d }
-    ensures monotone { (r : List Token) → (t : List ℕ) → (m : ℕ) → (n : ℕ) → (c : ℕ) → (d : ℕ) → m ≤ n → IsCount (Begins r t) m c → IsCount (Begins r t) n d → c ≤ d }
+    ensures one { (r : List Token) (t : List ℕ) (n c d : ℕ) →
+        IsCount (Begins r t) n c → IsCount (Begins r t) n d → c ≡ d }
+    ensures monotone { (r : List Token) (t : List ℕ) (m n c d : ℕ) → m ≤ n →
+        IsCount (Begins r t) m c → IsCount (Begins r t) n d → c ≤ d }
 {}
 
 /// Places are in a total order, and only equal places are alike in it.
 #[tactic(auto, using(crate::proofs::PlaceLaws::place_total, crate::proofs::PlaceLaws::place_antisymm, crate::proofs::PlaceLaws::exact_places))]
 pub fn places_are_ordered()
-    ensures antisymmetric { (p : Place) → (q : Place) → place_cmp p q ≡ ordering_reverse (place_cmp q p) }
+    ensures antisymmetric { (p q : Place) → place_cmp p q ≡ ordering_reverse (place_cmp q p) }
     ensures total { IsTotalOrder place_cmp }
-    ensures exact { (p : Place) → (q : Place) → place_cmp p q ≡ Equal → p ≡ q }
+    ensures exact { (p q : Place) → place_cmp p q ≡ Equal → p ≡ q }
 {}
 
 /// Sequences of tokens are in a total order, and only equal sequences are alike in it.
 #[tactic(auto, using(crate::proofs::PlaceLaws::seq_total, crate::proofs::PlaceLaws::seq_antisymm, crate::proofs::PlaceLaws::exact_seqs))]
 pub fn sequences_are_ordered()
-    ensures antisymmetric { (r : List Token) → (s : List Token) → seq_cmp r s ≡ ordering_reverse (seq_cmp s r) }
+    ensures antisymmetric { (r s : List Token) → seq_cmp r s ≡ ordering_reverse (seq_cmp s r) }
     ensures total { IsTotalOrder seq_cmp }
-    ensures exact { (r : List Token) → (s : List Token) → seq_cmp r s ≡ Equal → r ≡ s }
+    ensures exact { (r s : List Token) → seq_cmp r s ≡ Equal → r ≡ s }
 {}
 
 /// Signed numbers are in a total order, and only equal numbers are alike in it.
 #[tactic(auto, using(crate::proofs::PlaceLaws::signed_total, crate::proofs::PlaceLaws::signed_antisymm, crate::proofs::PlaceLaws::exact_signed))]
 pub fn signed_numbers_are_ordered()
-    ensures antisymmetric { (a : ℤ) → (b : ℤ) → signed_cmp a b ≡ ordering_reverse (signed_cmp b a) }
+    ensures antisymmetric { (a b : ℤ) → signed_cmp a b ≡ ordering_reverse (signed_cmp b a) }
     ensures total { IsTotalOrder signed_cmp }
-    ensures exact { (a : ℤ) → (b : ℤ) → signed_cmp a b ≡ Equal → a ≡ b }
+    ensures exact { (a b : ℤ) → signed_cmp a b ≡ Equal → a ≡ b }
 {}
 
-/// A match count is the length of the rising list of the positions at which a match begins.
+/// A match count is the length of the rising list of the positions at which a match begins, which every text has.
 pub fn matches_are_counted()
-    ensures listed { (r : List Token) → (t : List ℕ) → (ks : List ℕ) × AreMatches r t ks }
-    ensures counted { (r : List Token) → (t : List ℕ) → (ks : List ℕ) → AreMatches r t ks → (c : ℕ) → IsCount (Begins r t) (length t + 1) c ↔ (c ≡ length ks) }
+    ensures listed { (r : List Token) (t : List ℕ) → (ks : List ℕ) × AreMatches r t ks }
+    ensures counted { (r : List Token) (t ks : List ℕ) → AreMatches r t ks →
+        (c : ℕ) → IsCount (Begins r t) (length t + 1) c ↔ (c ≡ length ks) }
 {}
 
-/// A cut's number from the left is its place in the rising list of all cuts, and its number from the right its place in
-/// that list turned round. Both count from 1.
+/// A cut's number from the left is its place in the rising list of all cuts, which every text has, and its number from
+/// the right its place in that list turned round. Both count from 1.
 pub fn cuts_are_numbered()
-    ensures listed { (r : List Token) → (s : List Token) → (t : List ℕ) → (ks : List ℕ) × AreCuts r s t ks }
-    ensures left { (r : List Token) → (s : List Token) → (t : List ℕ) → (ks : List ℕ) → AreCuts r s t ks → (c : ℕ) → (k : ℕ) → IsCutFromLeft r s t c k ↔ (nth ks c ≡ Some k) }
-    ensures right { (r : List Token) → (s : List Token) → (t : List ℕ) → (ks : List ℕ) → AreCuts r s t ks → (c : ℕ) → (k : ℕ) → IsCutFromRight r s t c k ↔ (nth (reverse ks) c ≡ Some k) }
+    ensures listed { (r s : List Token) (t : List ℕ) → (ks : List ℕ) × AreCuts r s t ks }
+    ensures left { (r s : List Token) (t ks : List ℕ) → AreCuts r s t ks →
+        (c k : ℕ) → IsCutFromLeft r s t c k ↔ (nth ks c ≡ Some k) }
+    ensures right { (r s : List Token) (t ks : List ℕ) → AreCuts r s t ks →
+        (c k : ℕ) → IsCutFromRight r s t c k ↔ (nth (reverse ks) c ≡ Some k) }
 {}

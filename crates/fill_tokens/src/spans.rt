@@ -1,8 +1,9 @@
 //! The pieces of a text that tokens and sequences of tokens span.
 //!
 //! A run token looks at the character beside its position first, since a run neither begins nor ends in the middle of a
-//! longer one, and scans only from the edge of a run. So over all positions of a text each run is scanned once for each
-//! token of a sequence, and not again from each of its characters.
+//! longer one, and scans only from the edge of a run. The next token of a sequence goes on where the piece before it
+//! ended, and no two pieces of one token end at the same position. So over all positions of a text each run is scanned
+//! once for each token of a sequence, and not again from each of its characters.
 ghost use Rattle.std.specs.Prelude.{◌≡◌, ℕ, ◌≤◌, ◌<◌, ◌+◌, ◌↔◌, true, false, length, slice_index, IsTrue, MatchOption};
 ghost use Rattle.fill_tokens.specs.Kind.{run_has};
 ghost use Rattle.fill_tokens.specs.Span.{IsRun, Spans, Begins, Ends};
@@ -45,7 +46,9 @@ fn run_start(class: RunClass, t: &Text, b: usize) -> usize
 /// The end of the run that begins at `a`.
 fn span_run(class: RunClass, t: &Text, a: usize) -> Option<usize>
     requires { a ≤ length t.now }
-    ensures { MatchOption result ((b : ℕ) → IsRun (run_has class) t.now a b → ⊥) (λ b. IsRun (run_has class) t.now a b) }
+    ensures { MatchOption result
+        ((b : ℕ) → IsRun (run_has class) t.now a b → ⊥)
+        (λ b. IsRun (run_has class) t.now a b) }
 {
     if a > 0 && class.has(t.at(a - 1)) {
         return None;
@@ -57,7 +60,9 @@ fn span_run(class: RunClass, t: &Text, a: usize) -> Option<usize>
 /// The start of the run that ends at `b`.
 fn span_run_back(class: RunClass, t: &Text, b: usize) -> Option<usize>
     requires { b ≤ length t.now }
-    ensures { MatchOption result ((a : ℕ) → IsRun (run_has class) t.now a b → ⊥) (λ a. IsRun (run_has class) t.now a b) }
+    ensures { MatchOption result
+        ((a : ℕ) → IsRun (run_has class) t.now a b → ⊥)
+        (λ a. IsRun (run_has class) t.now a b) }
 {
     if b < t.len() && class.has(t.at(b)) {
         return None;
@@ -69,7 +74,9 @@ fn span_run_back(class: RunClass, t: &Text, b: usize) -> Option<usize>
 /// The end of the piece from `a` on that the token spans.
 pub fn span(token: Token, t: &Text, a: usize) -> Option<usize>
     requires { a ≤ length t.now }
-    ensures { MatchOption result ((b : ℕ) → Spans token t.now a b → ⊥) (λ b. Spans token t.now a b) }
+    ensures { MatchOption result
+        ((b : ℕ) → Spans token t.now a b → ⊥)
+        (λ b. Spans token t.now a b) }
 {
     match token.kind() {
         Kind::AtStart => { if a == 0 { Some(a) } else { None } }
@@ -88,7 +95,9 @@ pub fn span(token: Token, t: &Text, a: usize) -> Option<usize>
 /// The start of the piece up to `b` that the token spans.
 pub fn span_back(token: Token, t: &Text, b: usize) -> Option<usize>
     requires { b ≤ length t.now }
-    ensures { MatchOption result ((a : ℕ) → Spans token t.now a b → ⊥) (λ a. Spans token t.now a b) }
+    ensures { MatchOption result
+        ((a : ℕ) → Spans token t.now a b → ⊥)
+        (λ a. Spans token t.now a b) }
 {
     match token.kind() {
         Kind::AtStart => { if b == 0 { Some(b) } else { None } }

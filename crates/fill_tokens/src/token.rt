@@ -75,7 +75,9 @@ impl Token {
     /// The token of a number.
     #[tactic(auto, using(crate::proofs::TokenLaws::number_within))]
     pub fn from_number(n: u8) -> Option<Token>
-        ensures { MatchOption result ((token : Token) → token_number token ≢ n) (λ token. token_number token ≡ n) }
+        ensures { MatchOption result
+            ((token : Token) → token_number token ≢ n)
+            (λ token. token_number token ≡ n) }
     {
         let place = usize::from(n);
         if place == 0 || place > Token::ALL.len() {
@@ -120,7 +122,9 @@ impl Token {
 
     /// The token of a name.
     pub fn from_name(name: &[u8]) -> Option<Token>
-        ensures { MatchOption result ((token : Token) → token_name token ≢ name.now) (λ token. token_name token ≡ name.now) }
+        ensures { MatchOption result
+            ((token : Token) → token_name token ≢ name.now)
+            (λ token. token_name token ≡ name.now) }
     {
         for token in Token::ALL {
             if token.name().as_bytes() == name {

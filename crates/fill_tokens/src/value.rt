@@ -34,7 +34,9 @@ fn is_cut(left: &Seq, right: &Seq, t: &Text, k: usize) -> bool
 /// The cut of this number from the left.
 fn cut_from_left(left: &Seq, right: &Seq, t: &Text, number: u32) -> Option<usize>
     requires { 0 < number }
-    ensures { MatchOption result ((k : ℕ) → IsCutFromLeft left.now right.now t.now number k → ⊥) (λ k. IsCutFromLeft left.now right.now t.now number k) }
+    ensures { MatchOption result
+        ((k : ℕ) → IsCutFromLeft left.now right.now t.now number k → ⊥)
+        (λ k. IsCutFromLeft left.now right.now t.now number k) }
 {
     let mut passed = 0;
     for k in 0..t.len() + 1 {
@@ -51,7 +53,9 @@ fn cut_from_left(left: &Seq, right: &Seq, t: &Text, number: u32) -> Option<usize
 /// The cut of this number from the right.
 fn cut_from_right(left: &Seq, right: &Seq, t: &Text, number: u32) -> Option<usize>
     requires { 0 < number }
-    ensures { MatchOption result ((k : ℕ) → IsCutFromRight left.now right.now t.now number k → ⊥) (λ k. IsCutFromRight left.now right.now t.now number k) }
+    ensures { MatchOption result
+        ((k : ℕ) → IsCutFromRight left.now right.now t.now number k → ⊥)
+        (λ k. IsCutFromRight left.now right.now t.now number k) }
 {
     let mut passed = 0;
     for k in (0..t.len() + 1).rev() {
@@ -67,7 +71,9 @@ fn cut_from_right(left: &Seq, right: &Seq, t: &Text, number: u32) -> Option<usiz
 
 /// The position of this number, or below 0 from the right.
 fn fixed_value(k: i32, t: &Text) -> Option<usize>
-    ensures { MatchOption result ((v : ℕ) → HasValue (Place.CPos k) t.now v → ⊥) (λ v. HasValue (Place.CPos k) t.now v) }
+    ensures { MatchOption result
+        ((v : ℕ) → HasValue (Place.CPos k) t.now v → ⊥)
+        (λ v. HasValue (Place.CPos k) t.now v) }
 {
     let size = k.unsigned_abs() as usize;
     if k >= 0 {
@@ -81,7 +87,9 @@ fn fixed_value(k: i32, t: &Text) -> Option<usize>
 ///
 /// A place outside of the grammar has one too where it names a position; one with the count 0 never has.
 pub fn place_value(p: &Place, t: &Text) -> Option<usize>
-    ensures { MatchOption result ((k : ℕ) → HasValue p.now t.now k → ⊥) (λ k. HasValue p.now t.now k) }
+    ensures { MatchOption result
+        ((k : ℕ) → HasValue p.now t.now k → ⊥)
+        (λ k. HasValue p.now t.now k) }
 {
     match p {
         Place::CPos(k) => fixed_value(*k, t),

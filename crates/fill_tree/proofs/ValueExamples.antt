@@ -2,9 +2,9 @@
 -- grammar.
 use Rattle.std.proofs.Common.{◌≡◌, ℕ, zero, suc, ◌<◌, List, [], ◌∷◌, None, Contains, pos, refl, inl, inr, ap, subst, length, get_or, lit<, lit≤, arith}
 use Rattle.std.specs.Char.{IsScalar}
-use Rattle.fill_text.specs.Data.{SheetData, TableData, cell_at, key_at, width_at, table_row_at, table_cell_at}
-use Rattle.fill_tokens.specs.declared.place.Place.TheVariants.{CPos, Pos}
-use Rattle.fill_tree.specs.Tree.{SourceTree, AtomTree, Atoms, col, select, constant, whole, sub, end, more}
+use Rattle.fill_text.specs.Data.{SheetData, TableData}
+use Rattle.fill_tokens.specs.declared.place.Place.TheVariants.{CPos}
+use Rattle.fill_tree.specs.Tree.{SourceTree, col, select, constant, whole, sub, end, more}
 use Rattle.fill_tree.specs.Grammar.{AreNumbersOf, IsSource, InGrammar, HasPart}
 use Rattle.fill_tree.specs.declared.user.Settings.{Settings}
 use Rattle.fill_tree.specs.declared.user.Constants.TheVariants.{Any}

@@ -1,6 +1,6 @@
 -- A tree has at most one value on a row, where the tables' keys distinguish their rows.
 use Rattle.std.proofs.Common.{◌≡◌, ℕ, List, [], ◌∷◌, ◌++◌, Some, map, slice_range, sym, ap, subst, ◌∙◌}
-use Rattle.fill_text.specs.Data.{SheetData, TableData, nth, key_at, table_row_at, table_cell_at}
+use Rattle.fill_text.specs.Data.{SheetData, TableData, nth, table_cell_at}
 use Rattle.fill_tokens.specs.Value.{HasValue}
 use Rattle.fill_tokens.specs.declared.place.Place.{Place}
 use Rattle.fill_tokens.proofs.ValueLaws.{one_value}

@@ -58,7 +58,7 @@ mutual
   source_code_apart (select a0 a1 a2 cs) (col b) e = absurd (subst IsPair e tt)
   source_code_apart (select a0 a1 a2 cs) (select b0 b1 b2 bs) e =
       λ i. select (ap (λ g. num (head g)) e i) (ap (λ g. num (head (tail g))) e i) (ap (λ g. num (head (tail (tail g)))) e i)
-          (atoms_code_apart cs bs (ap (λ g. tail (tail (tail g))) e) i)
+      (atoms_code_apart cs bs (ap (λ g. tail (tail (tail g))) e) i)
 
   pub atom_code_apart : (x y : AtomTree) → atom_code x ≡ atom_code y → x ≡ y
   atom_code_apart (constant s) (constant t) e = ap constant (coded_text.inj s t (ap tail e))
@@ -71,7 +71,7 @@ mutual
   atom_code_apart (sub a p0 p1) (whole b) e = absurd (subst (λ g. IsPair (head g)) e tt)
   atom_code_apart (sub a p0 p1) (sub b q0 q1) e =
       λ i. sub (source_code_apart a b (ap tail e) i) (place.the_row.coded.inj p0 q0 (ap (λ g. head (head g)) e) i)
-          (place.the_row.coded.inj p1 q1 (ap (λ g. tail (head g)) e) i)
+      (place.the_row.coded.inj p1 q1 (ap (λ g. tail (head g)) e) i)
 
   pub atoms_code_apart : (x y : Atoms) → atoms_code x ≡ atoms_code y → x ≡ y
   atoms_code_apart end end e = refl

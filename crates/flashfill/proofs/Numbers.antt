@@ -1,6 +1,6 @@
 -- The plain decimal of a number, and the number that it spells.
-use Rattle.std.proofs.Common.{◌≡◌, ℕ, ◌<◌, ◌^◌, List, Option, Some, None, Bool, true, false, refl, sym, ap, ◌∙◌, arith, subst}
-use Rattle.std.specs.Prelude.{◌&&◌, nat_lt, if◌then◌else◌, IsUtf8}
+use Rattle.std.proofs.Common.{◌≡◌, ℕ, ◌<◌, ◌^◌, List, Some, None, Bool, true, false, refl, ap, ◌∙◌, arith, subst}
+use Rattle.std.specs.Prelude.{nat_lt, if◌then◌else◌, IsUtf8}
 use Rattle.std.specs.Fmt.{decimal}
 use Rattle.std.specs.Str.{bytes_eq}
 use Rattle.std.specs.Str.Parse.{digits_value}

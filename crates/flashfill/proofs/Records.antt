@@ -1,5 +1,5 @@
 -- Records of a report, one entry after another.
-use Rattle.std.proofs.Common.{◌≡◌, ℕ, zero, suc, ◌+◌, ◌<◌, ◌≤◌, List, [], ◌∷◌, ◌++◌, length, take, drop, get_or, Option, Some, None, true, refl, sym, ap, ◌∙◌, subst, arith, append_assoc, append-nil, length-append, add-one}
+use Rattle.std.proofs.Common.{◌≡◌, ℕ, ◌+◌, ◌<◌, ◌≤◌, List, [], ◌∷◌, ◌++◌, length, take, drop, get_or, Option, Some, None, true, refl, sym, ap, ◌∙◌, subst, arith, append_assoc, append-nil, length-append}
 use Rattle.std.specs.Io.KnownBytes.{Appends}
 use Rattle.std.proofs.KnownBytes.{Appends-trans, Appends-nil}
 use Rattle.std.proofs.Math.Seq.{take-append-add}
@@ -9,9 +9,11 @@ use Rattle.std.specs.Prelude.{cond, OnOk, option_to_list, Result, Ok, Err}
 use Rattle.fill_text.specs.Data.{SheetData}
 use Rattle.fill_edge.specs.Outside.{AppendsPart}
 use Rattle.fill_sheet.specs.Report.{record_text}
+use Rattle.fill_tree.proofs.ProgramOrder.{least_is_one}
+use Rattle.fill_tree.specs.Tree.{Atoms}
 use Rattle.fill_tree.specs.declared.user.Example.{Example}
 use Rattle.flashfill.specs.Present.{present, present_after}
-use Rattle.flashfill.specs.Report.{EntryWrites, EntriesWrite, AreBranches, edit_record, EntryReports, EntryReportsPart, Reports, ReportsPart, ReportsRecords, report_text}
+use Rattle.flashfill.specs.Report.{EntryWrites, EntriesWrite, AreBranches, Represents, branch_record, edit_record, EntryReports, EntryReportsPart, ReportsPart, ReportsRecords, report_text}
 use Rattle.flashfill.specs.Script.{edits, is_edit}
 use Rattle.flashfill.specs.declared.script.Entry.{Entry}
 use Rattle.flashfill.specs.declared.script.Entry.TheVariants as entry
@@ -133,3 +135,22 @@ pub none_after : (e : Entry) (example after : Option Example) → option_to_list
 none_after (entry.Edit x) example after h no_edit none = absurd (no_edit refl)
 none_after entry.Programs example None h no_edit none = refl
 none_after entry.Programs example (Some x) h no_edit none = let e : option_to_list example ≡ [] = ap option_to_list none in cc
+
+-- the records of the branches, of an entry and of entries are determined
+one_branches : (sheet : SheetData) (examples : List Example) (r s : Lines) → AreBranches sheet examples r → AreBranches sheet examples s → r ≡ s
+one_branches sheet [] r s a b = a ∙ sym b
+one_branches sheet (x ∷ xs) r s a b =
+    let same : a.0 ≡ b.0 = least_is_one (Represents sheet (x ∷ xs)) a.0 b.0 a.1 b.1 in
+    a.2 ∙ ap (λ (p : Atoms). branch_record p ∷ []) same ∙ sym b.2
+
+one_entry : (sheet : SheetData) (examples : List Example) (e : Entry) (r s : Lines) → EntryWrites sheet examples e r → EntryWrites sheet examples e s → r ≡ s
+one_entry sheet examples (entry.Edit x) r s a b = a ∙ sym b
+one_entry sheet examples entry.Programs r s a b = one_branches sheet examples r s a b
+
+pub one_report : (sheet : SheetData) (examples : List Example) (entries : List Entry) (r s : Lines)
+    → EntriesWrite sheet examples entries r → EntriesWrite sheet examples entries s → r ≡ s
+one_report sheet examples [] r s a b = a ∙ sym b
+one_report sheet examples (e ∷ es) r s a b =
+    let first : a.0 ≡ b.0 = one_entry sheet examples e a.0 b.0 a.2 b.2 in
+    let others : a.1 ≡ b.1 = one_report sheet (present_after examples e) es a.1 b.1 a.3 b.3 in
+    a.4 ∙ ap (λ (l : Lines). l ++ a.1) first ∙ ap (λ (l : Lines). b.0 ++ l) others ∙ sym b.4

@@ -1,10 +1,10 @@
 -- Entries that were read, before those that are left.
-use Rattle.std.proofs.Common.{◌≡◌, ℕ, ◌+◌, ◌≤◌, List, [], ◌∷◌, ◌++◌, length, take, Option, Some, None, Bool, true, false, ◌<◌, subst, refl, sym, ap, ◌∙◌, arith, append_assoc, append-nil}
+use Rattle.std.proofs.Common.{◌≡◌, ℕ, ◌+◌, ◌≤◌, List, [], ◌∷◌, ◌++◌, length, take, Option, Some, None, true, false, ◌<◌, subst, refl, sym, ap, ◌∙◌, arith, append_assoc}
 use Rattle.std.specs.Prelude.{nat_lt}
 use Rattle.std.proofs.lemmas.Bool.Decides.{Decides-ltb, nat_tests}
 use Rattle.std.proofs.lemmas.List.{take_all, length-take}
 use Rattle.fill_records.specs.Records.{records_of}
-use Rattle.flashfill.specs.Script.{with_entry, entries_in, entry_in, script_of, script_in, most_records}
+use Rattle.flashfill.specs.Script.{with_entry, script_of, script_in, most_records}
 use Rattle.flashfill.specs.declared.script.Entry.{Entry}
 
 abbrev pub after_entries : List Entry → Option (List Entry) → Option (List Entry)

@@ -1,12 +1,11 @@
 -- A later step of the opening, seen from an earlier one.
-use Rattle.std.proofs.Common.{◌≡◌, ◌≢◌, ℕ, zero, suc, ◌+◌, ◌<◌, ◌≤◌, List, [], ◌∷◌, ◌++◌, ◌⊎◌, inl, inr, Bool, true, false, length, Option, None, Some, Ok, Err, refl, sym, ap, ◌∙◌, arith, subst}
-use Rattle.std.specs.Prelude.{nat_lt, Contains, string_bytes, encode_utf8_all, ⊤}
+use Rattle.std.proofs.Common.{◌≡◌, ◌≢◌, ℕ, suc, ◌≤◌, List, [], ◌∷◌, ◌⊎◌, inl, inr, false, length, Option, None, Some, refl, sym, ◌∙◌, arith, subst}
+use Rattle.std.specs.Prelude.{Contains, string_bytes, encode_utf8_all}
 use Rattle.std.proofs.lemmas.Bool.Decides.{nat_tests}
 use Rattle.std.proofs.KnownBytes.{Appends-nil, Keeps-refl}
-use Rattle.fill_text.specs.Data.{SheetData}
 use Rattle.fill_edge.specs.Outside.{Files, Rose, NoneFell}
-use Rattle.flashfill.specs.Opened.{Held, Told, Opening, Opened, NotACommand, Refused, Ready, Unread, from_session, from_script, from_sheet, from_words, read_before, ends_at, is_too_long, not_built_line}
-use Rattle.flashfill.specs.Answer.{Counts, Stops, StopsReading, IsUnread, ReadFails, Says, WritesRecords, status_of, line_of, unread_line}
+use Rattle.flashfill.specs.Opened.{Held, Told, Opening, Opened, NotACommand, Refused, Ready, Unread, from_session, from_sheet, from_words, read_before, is_too_long, not_built_line}
+use Rattle.flashfill.specs.Answer.{Counts, Stops, IsUnread, ReadFails, Says, WritesRecords, status_of, line_of, unread_line}
 use Rattle.flashfill.specs.Script.{script_of}
 use Rattle.flashfill.specs.declared.script.Script.{Script}
 use Rattle.flashfill.specs.declared.stop.Stop.{Stop}

@@ -1,5 +1,5 @@
 -- Bytes that are no text.
-use Rattle.std.proofs.Common.{◌≡◌, ℕ, List, length, true, false, sym, subst}
+use Rattle.std.proofs.Common.{◌≡◌, ℕ, List, length, false, sym, subst}
 use Rattle.std.specs.Prelude.{IsUtf8}
 use Rattle.std.specs.Str.{is_utf8, IsValidUpTo}
 use Rattle.std.proofs.lemmas.Bool.{false_from_ne_true}

@@ -1,5 +1,5 @@
 -- Why a run stops, what it leaves on its output, and what it says.
-use Rattle.std.specs.Prelude.{◌≡◌, ◌⊎◌, ℕ, ◌<◌, ◌≤◌, List, [], ◌∷◌, ◌++◌, ⊤, Option, Some, None, Contains, string_bytes, take, codes, length}
+use Rattle.std.specs.Prelude.{◌≡◌, ◌⊎◌, ℕ, List, ◌++◌, ⊤, Option, Some, None, Contains, string_bytes, codes}
 use Rattle.std.specs.Io.KnownBytes.{Appends, Keeps}
 use Rattle.fill_edge.specs.Outside.{Files, Rose, IsMissing, IsTooLong, AppendsPart}
 use Rattle.flashfill.specs.Opened.{Held, Told, Opened, Opening, NotACommand, Unread, Refused, Ready, not_built_line}

@@ -1,5 +1,5 @@
 -- What the words and the files open, and which files that reads.
-use Rattle.std.specs.Prelude.{◌≡◌, ℕ, ◌<◌, ◌≤◌, ◌==◌, ◌&&◌, not, nat_lt, nat_le, if◌then◌else◌, Bool, true, false, List, [], ◌∷◌, ◌++◌, length, codes, ⊤, Option, Some, None, Ok, Err, Result, Contains, encode_utf8_all}
+use Rattle.std.specs.Prelude.{ℕ, ◌==◌, ◌&&◌, not, nat_lt, nat_le, if◌then◌else◌, Bool, true, false, List, [], ◌∷◌, ◌++◌, length, codes, ⊤, Option, Some, None, Ok, Err, Result, encode_utf8_all}
 use Rattle.std.specs.Str.{bytes_eq}
 use Rattle.fill_text.specs.Data.{SheetData, cell_at}
 use Rattle.fill_edge.specs.Outside.{Files}

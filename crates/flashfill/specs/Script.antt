@@ -1,8 +1,7 @@
 -- The session file: the script that its records spell, in the form that is built so far.
-use Rattle.std.specs.Prelude.{ℕ, ◌≡◌, ◌<◌, ◌≤◌, ◌==◌, ◌&&◌, not, List, [], ◌∷◌, length, Option, Some, None, Bool, true, false, if◌then◌else◌, nat_lt, nat_le, codes, count_by, option_and_then, ⊤}
+use Rattle.std.specs.Prelude.{ℕ, ◌≡◌, ◌==◌, ◌&&◌, not, List, [], ◌∷◌, length, Option, Some, None, Bool, true, false, if◌then◌else◌, nat_lt, nat_le, codes, count_by, option_and_then, ⊤}
 use Rattle.std.specs.Str.{bytes_eq, chars, is_utf8}
 use Rattle.fill_records.specs.Records.{records_of, field_of}
-use Rattle.fill_tree.specs.declared.user.Edit.{Edit}
 use Rattle.fill_tree.specs.declared.user.Edit.TheVariants.{Add}
 use Rattle.flashfill.specs.Number.{number_in}
 use Rattle.flashfill.specs.declared.script.Script.{Script}

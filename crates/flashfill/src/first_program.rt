@@ -45,3 +45,6 @@ pub fn first_program(
     }
     Ok(Program { atoms })
 }
+
+#[cfg(test)]
+mod tests;

@@ -1,12 +1,14 @@
 //! Writing the report.
 ghost use Rattle.std.specs.Prelude.{◌≡◌, ◌<◌, ◌≤◌, length, List, [], ◌∷◌, None, IfOk, IfErr, OnOk, IsErrOf, IsTrue, true, map, option_to_list};
-ghost use Rattle.std.specs.Prelude.{codes};
+ghost use Rattle.std.specs.Prelude.{codes, ℕ};
 ghost use Rattle.std.specs.Fmt.{decimal};
 ghost use Rattle.std.specs.Io.KnownBytes.{Appends};
+ghost use Rattle.fill_text.specs.Data.{SheetData};
+ghost use Rattle.flashfill.specs.declared.script.Entry.{Entry};
 ghost use Rattle.fill_edge.specs.Outside.{Rose, AppendsPart};
 ghost use Rattle.fill_sheet.specs.Report.{record_text};
 ghost use Rattle.flashfill.specs.Present.{changed, present_after};
-ghost use Rattle.flashfill.specs.Report.{EntryReports, EntryReportsPart, Reports, ReportsPart, ReportsRecords, edit_record, AreBranches};
+ghost use Rattle.flashfill.specs.Report.{EntryReports, EntryReportsPart, IsReport, Reports, ReportsPart, ReportsRecords, edit_record, AreBranches};
 ghost use Rattle.flashfill.specs.Script.{edits, is_edit};
 
 use crate::first_program::first_program;
@@ -182,3 +184,10 @@ pub fn write_report<O: Sink>(
     }
     Ok(())
 }
+
+/// A script has at most one report over a sheet, so what a run writes is determined by the files that it reads. The
+/// function does nothing: what it tells is its clause.
+pub fn report_is_one()
+    ensures { (sheet : SheetData) → (entries : List Entry) → (r : List (List (List ℕ))) → (s : List (List (List ℕ))) →
+        IsReport sheet entries r → IsReport sheet entries s → r ≡ s }
+{}

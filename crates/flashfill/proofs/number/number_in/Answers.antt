@@ -1,4 +1,4 @@
-use Rattle.std.proofs.Common.{◌≡◌, ◌<◌, ◌^◌, sym, ◌∙◌, ap, arith, Ok, true, subst}
+use Rattle.std.proofs.Common.{◌≡◌, sym, ◌∙◌, arith, Ok, true, subst}
 use Rattle.std.specs.Fmt.{decimal}
 use Rattle.std.proofs.lemmas.Fmt.{parse-decimal}
 use Rattle.flashfill.proofs.Numbers.{decimal_text, number_of_decimal, number_of_others}

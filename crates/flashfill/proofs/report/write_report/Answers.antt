@@ -1,11 +1,11 @@
-use Rattle.std.proofs.Common.{◌≡◌, ◌≤◌, ◌+◌, take, subst, sym, ◌∙◌, ap, arith, true, List, []}
+use Rattle.std.proofs.Common.{◌≤◌, ◌+◌, subst, sym, ◌∙◌, ap, arith, List}
 use Rattle.std.specs.Prelude.{option_to_list}
-use Rattle.flashfill.specs.Present.{present, present_after}
+use Rattle.flashfill.specs.Present.{present_after}
 use Rattle.flashfill.specs.Report.{ReportsPart, ReportsRecords}
-use Rattle.flashfill.specs.Script.{edits, is_edit}
+use Rattle.flashfill.specs.Script.{edits}
 use Rattle.flashfill.specs.declared.script.Entry.{Entry}
 use Rattle.fill_tree.specs.declared.user.Example.{Example}
-use Rattle.flashfill.proofs.Records.{Written, written_next, written_part, written_so_far, present_next, edits_before, edits_fewer, edits_after, none_after}
+use Rattle.flashfill.proofs.Records.{written_next, written_part, written_so_far, present_next, edits_before, edits_fewer, edits_after, none_after}
 use Rattle.flashfill.proofs.report.write_report.Goals as goal
 
 pub returns-in-Err-clause-part : goal.returns-in-Err-clause-part

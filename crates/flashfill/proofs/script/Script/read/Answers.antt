@@ -1,6 +1,5 @@
-use Rattle.std.proofs.Common.{◌≡◌, ◌≤◌, ◌<◌, length, arith, sym, ◌∙◌, Some, None, take}
+use Rattle.std.proofs.Common.{◌≤◌, length, arith, sym, ◌∙◌}
 use Rattle.fill_records.specs.Records.{records_of}
-use Rattle.flashfill.specs.Script.{script_of, script_in}
 use Rattle.flashfill.proofs.Scripts.{take_few, take_many, too_many_lines, few_lines}
 use Rattle.flashfill.proofs.script.Script.read.Goals as goal
 

@@ -1,0 +1,254 @@
+//! Whole runs over files and output in memory.
+ghost use Rattle.std.specs.Prelude.{◌≡◌};
+
+use crate::command::run;
+use fill_edge::{Ledger, MemoryCabinet, MemorySink, Steps};
+use fill_text::NoMemory;
+use std::alloc::{AllocError, Global};
+use std::marker::Brand;
+use std::sync::ledger::Blank;
+use std::test::Fail;
+
+const PLENTY: usize = 10_000;
+
+/// A session with one example, over the sheet `ab`.
+const SESSION: &[u8] = b"sheet,sheet.csv\ninputs,1\nbegin\nadd,1,x\nprograms\n";
+
+const REPORT: &[u8] = b"ok,add,1\nbranch,1,else,Concat(Const('x'))\n";
+
+fn counting<L: Ledger>(
+    alloc: Global,
+    words: &[String],
+    cabinet: &mut MemoryCabinet,
+    out: &mut MemorySink,
+    err: &mut MemorySink,
+    blank: Blank,
+) -> u8
+    requires name { blank.name ≡ L.name }
+    requires parts { blank.parts ≡ L.parts }
+    requires one { blank.parts ≡ 1 }
+{
+    let (book, share) = blank.open::<L>();
+    let mut steps = Steps::new(book, share);
+    run(alloc, words, cabinet, out, err, &mut steps)
+}
+
+/// The status of a run.
+fn status(
+    alloc: Global,
+    words: &[String],
+    cabinet: &mut MemoryCabinet,
+    out: &mut MemorySink,
+    err: &mut MemorySink,
+) -> u8 {
+    counting::<Brand>(alloc, words, cabinet, out, err, Blank::new(1))
+}
+
+fn words(alloc: Global, texts: &[&str]) -> Result<Vec<String>, AllocError> {
+    let mut words = Vec::new(alloc);
+    for text in texts {
+        words.push(String::from_str(alloc, text)?)?;
+    }
+    Ok(words)
+}
+
+/// The files of a session over the sheet `ab`, with reads of so many bytes.
+fn files(alloc: Global, session: &[u8], most: usize) -> Result<MemoryCabinet, NoMemory> {
+    let mut cabinet = MemoryCabinet::new(alloc, most.max(1));
+    cabinet.put("s.csv", session)?;
+    cabinet.put("sheet.csv", b"ab\n")?;
+    Ok(cabinet)
+}
+
+#[test]
+fn sessions_have_their_status_report_and_line(rt: HostRuntime) -> Result<(), Fail> {
+    let alloc = rt.alloc();
+    let words = words(alloc, &["replay", "s.csv"])?;
+    let rows: [(&[u8], u8, &[u8], &[u8]); 11] = [
+        (SESSION, 0, REPORT, b""),
+        (
+            b"sheet,sheet.csv\ninputs,1\nbegin\nadd,1,\nprograms\n",
+            0,
+            b"ok,add,1\nbranch,1,else,Concat()\n",
+            b"",
+        ),
+        (
+            b"sheet,sheet.csv\r\ninputs,1\r\nbegin\r\nprograms\r\nadd,1,\"it's\"\r\nprograms",
+            0,
+            b"ok,add,1\nbranch,1,else,Concat(Const('it\\'s'))\n",
+            b"",
+        ),
+        (
+            b"sheet,sheet.csv\ninputs,7\nbegin\nadd,1,a\n",
+            0,
+            b"ok,add,1\n",
+            b"",
+        ),
+        (
+            b"sheet,sheet.csv\ninputs,1\nbegin\nadd,2,x\nprograms\n",
+            5,
+            b"",
+            b"flashfill: s.csv: not built\n",
+        ),
+        (
+            b"sheet,sheet.csv\ninputs,1\nbegin\nadd,0,x\n",
+            5,
+            b"",
+            b"flashfill: s.csv: not built\n",
+        ),
+        (
+            b"sheet,sheet.csv\ninputs,1\nbegin\nadd,01,x\n",
+            5,
+            b"",
+            b"flashfill: s.csv: not built\n",
+        ),
+        (
+            b"sheet,sheet.csv\ninputs,1\nbegin\nadd,1,x\nadd,1,x\n",
+            5,
+            b"",
+            b"flashfill: s.csv: not built\n",
+        ),
+        (
+            b"sheet,sheet.csv\ninputs,1\n",
+            5,
+            b"",
+            b"flashfill: s.csv: not built\n",
+        ),
+        (
+            b"sheet,sheet.csv\ninputs,1001\nbegin\n",
+            5,
+            b"",
+            b"flashfill: s.csv: not built\n",
+        ),
+        (
+            b"sheet,gone.csv\ninputs,1\nbegin\n",
+            3,
+            b"",
+            b"flashfill: gone.csv: cannot be read\n",
+        ),
+    ];
+    for (session, wanted, report, line) in rows {
+        for most in [1, PLENTY] {
+            let mut cabinet = files(alloc, session, most)?;
+            let mut out = MemorySink::new(alloc, PLENTY, most.max(1))?;
+            let mut err = MemorySink::new(alloc, PLENTY, most.max(1))?;
+            assert_eq!(rt;
+                status(alloc, &words, &mut cabinet, &mut out, &mut err),
+                wanted
+            );
+            assert_eq!(rt; out.written(), report);
+            assert_eq!(rt; err.written(), line);
+        }
+    }
+    Ok(())
+}
+
+#[test]
+fn other_words_are_no_command(rt: HostRuntime) -> Result<(), Fail> {
+    let alloc = rt.alloc();
+    let rows: [&[&str]; 6] = [
+        &[],
+        &["replay"],
+        &["replay", ""],
+        &["play", "s.csv"],
+        &["replay", "s.csv", "s.csv"],
+        &["made", "5"],
+    ];
+    for texts in rows {
+        let words = words(alloc, texts)?;
+        let mut cabinet = files(alloc, SESSION, PLENTY)?;
+        let mut out = MemorySink::new(alloc, PLENTY, PLENTY)?;
+        let mut err = MemorySink::new(alloc, PLENTY, PLENTY)?;
+        assert_eq!(rt; status(alloc, &words, &mut cabinet, &mut out, &mut err), 2);
+        assert_eq!(rt; out.written(), b"".as_slice());
+        assert_eq!(rt;
+            err.written(),
+            b"usage: flashfill replay SESSION or flashfill made N\n".as_slice()
+        );
+    }
+    Ok(())
+}
+
+#[test]
+fn a_refused_sheet_is_named(rt: HostRuntime) -> Result<(), Fail> {
+    let alloc = rt.alloc();
+    let words = words(alloc, &["replay", "s.csv"])?;
+    let mut cabinet = files(alloc, SESSION, PLENTY)?;
+    cabinet.put("sheet.csv", b"a\n\xff\n")?;
+    let mut out = MemorySink::new(alloc, PLENTY, PLENTY)?;
+    let mut err = MemorySink::new(alloc, PLENTY, PLENTY)?;
+    assert_eq!(rt; status(alloc, &words, &mut cabinet, &mut out, &mut err), 5);
+    assert_eq!(rt; out.written(), b"".as_slice());
+    assert_eq!(rt;
+        err.written(),
+        b"flashfill: sheet.csv: not built\n".as_slice()
+    );
+    Ok(())
+}
+
+/// Each read fails in turn: with reads of 20 bytes the session takes 4 calls and the sheet 2.
+#[test]
+fn a_failed_read_is_told(rt: HostRuntime) -> Result<(), Fail> {
+    let alloc = rt.alloc();
+    let words = words(alloc, &["replay", "s.csv"])?;
+    for call in 1..8 {
+        let mut cabinet = files(alloc, SESSION, 20)?;
+        cabinet.fail_at(call)?;
+        let mut out = MemorySink::new(alloc, PLENTY, PLENTY)?;
+        let mut err = MemorySink::new(alloc, PLENTY, PLENTY)?;
+        let status = status(alloc, &words, &mut cabinet, &mut out, &mut err);
+        let (wanted, report, line) = match call {
+            1..=4 => (
+                3,
+                b"".as_slice(),
+                b"flashfill: s.csv: cannot be read\n".as_slice(),
+            ),
+            5 | 6 => (
+                3,
+                b"".as_slice(),
+                b"flashfill: sheet.csv: cannot be read\n".as_slice(),
+            ),
+            _ => (0, REPORT, b"".as_slice()),
+        };
+        assert_eq!(rt; status, wanted);
+        assert_eq!(rt; out.written(), report);
+        assert_eq!(rt; err.written(), line);
+    }
+    Ok(())
+}
+
+/// Each write fails in turn: the report is 42 bytes, of which a write takes 10, and no record shares a write.
+#[test]
+fn a_failed_write_leaves_the_front_of_the_report(rt: HostRuntime) -> Result<(), Fail> {
+    let alloc = rt.alloc();
+    let words = words(alloc, &["replay", "s.csv"])?;
+    for (call, written) in [(1, 0), (2, 9), (3, 19), (4, 29), (5, 39), (6, 42)] {
+        let mut cabinet = files(alloc, SESSION, PLENTY)?;
+        let mut out = MemorySink::new(alloc, PLENTY, 10)?;
+        out.fail_at(call)?;
+        let mut err = MemorySink::new(alloc, PLENTY, PLENTY)?;
+        let status = status(alloc, &words, &mut cabinet, &mut out, &mut err);
+        assert_eq!(rt; out.written(), REPORT.get(..written).unwrap_or(b""));
+        let (wanted, line) = if call == 6 {
+            (0, b"".as_slice())
+        } else {
+            (4, b"flashfill: output cannot be written\n".as_slice())
+        };
+        assert_eq!(rt; status, wanted);
+        assert_eq!(rt; err.written(), line);
+    }
+    Ok(())
+}
+
+#[test]
+fn a_fault_of_the_line_changes_nothing(rt: HostRuntime) -> Result<(), Fail> {
+    let alloc = rt.alloc();
+    let words = words(alloc, &["replay", "gone.csv"])?;
+    let mut cabinet = files(alloc, SESSION, PLENTY)?;
+    let mut out = MemorySink::new(alloc, PLENTY, PLENTY)?;
+    let mut err = MemorySink::new(alloc, 11, PLENTY)?;
+    assert_eq!(rt; status(alloc, &words, &mut cabinet, &mut out, &mut err), 3);
+    assert_eq!(rt; out.written(), b"".as_slice());
+    assert_eq!(rt; err.written(), b"flashfill: ".as_slice());
+    Ok(())
+}
