@@ -22,15 +22,15 @@ use Rattle.fill_tree.specs.Tree.{AtomTree, col, sub}
 use Rattle.fill_tree.specs.declared.tree.Atom.TheVariants.{Sub}
 use Rattle.fill_tree.specs.declared.tree.Source.TheVariants.{Col}
 use Rattle.fill_tree.specs.declared.tree.Atom.TheFolds.{the_lemmas}
-use Rattle.flashfill.specs.Start.{AtMost, NoLater, PlaceNoLater, IsBestPlace, IsCopy, IsCopyStart, IsCopyOn, BeatsCopies, BeatsColumn, total}
+use Rattle.flashfill.specs.Start.{AtMost, NoLater, PlaceNoLater, IsBestPlace, IsCopy, IsCopyStart, IsCopyOn, BeatsCopies, BeatsColumn, BeatsPlaces, LackPlaces, total}
 use Rattle.flashfill.proofs.Starts.{no_later-trans}
 use Rattle.flashfill.specs.declared.first_program.start.Start.{Start}
 
 tree_of_copy : (column : ℕ) (p q : Place) → atom_tree (Sub (Col column) p q) ≡ sub (col column) p q
 tree_of_copy column p q = search (rules, the_lemmas)
 
-nat_cmp-shift : (x b d : ℕ) (c : ℕ) → nat_cmp (b + x) (d + x) ≡ nat_cmp b d
-nat_cmp-shift x b d c = grind (arith, nat_tests)
+nat_cmp-shift : (x b d : ℕ) → nat_cmp (b + x) (d + x) ≡ nat_cmp b d
+nat_cmp-shift x b d = grind (arith, nat_tests)
 
 -- of two copies with the same rest, that with the better places
 better_places : (column : ℕ) (p q r s : Place) (costs : List ℕ) (left : ℕ) → PlaceNoLater p r → PlaceNoLater q s →
@@ -41,7 +41,7 @@ better_places column p q r s costs left first second =
     let one : total costs (sub (col column) p q) left ≡ (place_cost p + place_cost q) + (11 + x) = omega arith in
     let other : total costs (sub (col column) r s) left ≡ (place_cost r + place_cost s) + (11 + x) = omega arith in
     let numbers : nat_cmp (total costs (sub (col column) p q) left) (total costs (sub (col column) r s) left) ≡ nat_cmp (place_cost p + place_cost q) (place_cost r + place_cost s) =
-    (λ i. nat_cmp (one i) (other i)) ∙ nat_cmp-shift (11 + x) (place_cost p + place_cost q) (place_cost r + place_cost s) 0 in
+    (λ i. nat_cmp (one i) (other i)) ∙ nat_cmp-shift (11 + x) (place_cost p + place_cost q) (place_cost r + place_cost s) in
     let columns : atom_cmp (sub (col column) p q) (sub (col column) r s) ≡ ordering_then (place_cmp p r) (place_cmp q s) =
     ap (λ (o : Ordering). ordering_then o (ordering_then (place_cmp p r) (place_cmp q s))) (nat_cmp-same column) in
     subst AtMost (λ i. ordering_then (sym numbers i) (sym columns i)) both
@@ -75,8 +75,7 @@ module _ (column : ℕ) (cell t costs : List ℕ) (start stop : ℕ) (p q : Plac
       )
 
   pub copy_best : IsBestPlace cell start p → IsBestPlace cell stop q → cost ≡ 11 + place_cost p + place_cost q + get_or costs left 0 →
-      (y z : ℤ) → IsPlace (CPos y) → IsPlace (CPos z) → HasValue (CPos y) cell start → HasValue (CPos z) cell stop →
-      NoLater copy (total costs (sub (col column) (CPos y) (CPos z)) left) (sub (col column) (CPos y) (CPos z))
+      BeatsPlaces column cell costs start stop copy
   copy_best first second is y z in_first in_second starts stops =
       let best = better_places column p q (CPos y) (CPos z) costs left (first.best y in_first starts) (second.best z in_second stops) in
       let a : AtomTree = sub (col column) (CPos y) (CPos z) in
@@ -136,14 +135,7 @@ module _ (column : ℕ) (cell t costs : List ℕ) (start : ℕ) where
     abbrev Leaves : Start → Type 0
     Leaves s = s.left + stop ≡ length t + start
 
-    abbrev BeatsPlaces : Start → Type 0
-    BeatsPlaces s = (y : ℤ) → (z : ℤ) → IsPlace (CPos y) → IsPlace (CPos z) → HasValue (CPos y) cell start → HasValue (CPos z) cell stop →
-        NoLater s (total costs (sub (col column) (CPos y) (CPos z)) s.left) (sub (col column) (CPos y) (CPos z))
-
-    abbrev HasNoPlaces : Type 0
-    HasNoPlaces = (y : ℤ) → (z : ℤ) → IsPlace (CPos y) → IsPlace (CPos z) → HasValue (CPos y) cell start → ¬ HasValue (CPos z) cell stop
-
-    beats_here : (r : Option Start) → IfSome r (λ s. NoLater new s.cost (atom_tree s.atom)) → IfSome r Leaves → IfSome r BeatsPlaces → IfNone r HasNoPlaces →
+    beats_here : (r : Option Start) → IfSome r (λ s. NoLater new s.cost (atom_tree s.atom)) → IfSome r Leaves → IfSome r (BeatsPlaces column cell costs start stop) → IfNone r (LackPlaces cell start stop) →
         (a : AtomTree) (left : ℕ) (k : IsCopy column cell t start a left) → k.stop ≡ stop → NoLater new (total costs a left) a
     beats_here None second leaves beats none a left k e =
         absurd (none k.first k.second k.first_place k.second_place k.starts (subst (HasValue (CPos k.second) cell) e k.stops))
@@ -156,7 +148,7 @@ module _ (column : ℕ) (cell t costs : List ℕ) (start : ℕ) where
         (subst (λ (l : ℕ). NoLater new (total costs b l) b) rest (no_later-trans new s (total costs b s.left) b second here))
 
     pub beats_more : (r : Option Start) → NoLater new best.cost (atom_tree best.atom) → IfSome r (λ s. NoLater new s.cost (atom_tree s.atom)) → IfSome r Leaves →
-        IfSome r BeatsPlaces → IfNone r HasNoPlaces → BeatsBefore stop best → BeatsBefore (stop + 1) new
+        IfSome r (BeatsPlaces column cell costs start stop) → IfNone r (LackPlaces cell start stop) → BeatsBefore stop best → BeatsBefore (stop + 1) new
     beats_more r first second leaves beats none before a left k lt = elim (cases_lt k.stop stop) [
       | inl less ↦ no_later-trans new best (total costs a left) a first (before a left k less)
       | inr most ↦ beats_here r second leaves beats none a left k (omega arith)

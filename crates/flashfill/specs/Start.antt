@@ -87,6 +87,16 @@ abbrev pub IsCopyStart : ℕ → List ℕ → List ℕ → List ℕ → ℕ → 
 IsCopyStart column cell t costs start s =
     IsCopy column cell t start (atom_tree s.atom) s.left × (s.cost ≡ total costs (atom_tree s.atom) s.left)
 
+-- some position of the two has no counted place
+abbrev pub LackPlaces : List ℕ → ℕ → ℕ → Type 0
+LackPlaces cell start stop = (y : ℤ) → (z : ℤ) → IsPlace (CPos y) → IsPlace (CPos z) → HasValue (CPos y) cell start → ¬ HasValue (CPos z) cell stop
+
+-- the start is no later than any copy between counted places of the two positions that leaves as much
+abbrev pub BeatsPlaces : ℕ → List ℕ → List ℕ → ℕ → ℕ → Start → Type 0
+BeatsPlaces column cell costs start stop s =
+    (y : ℤ) → (z : ℤ) → IsPlace (CPos y) → IsPlace (CPos z) → HasValue (CPos y) cell start → HasValue (CPos z) cell stop →
+    let a = sub (col column) (CPos y) (CPos z) in NoLater s (total costs a s.left) a
+
 -- the start is no later than any copy from the position
 abbrev pub BeatsCopies : ℕ → List ℕ → List ℕ → List ℕ → ℕ → Start → Type 0
 BeatsCopies column cell t costs start s =

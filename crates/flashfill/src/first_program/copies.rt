@@ -1,11 +1,7 @@
 //! Copies: pieces of a cell that a text begins with.
 ghost use Rattle.std.specs.Prelude.{◌≡◌, ◌≢◌, ◌⊎◌, ℕ, ℤ, ◌+◌, ◌-◌, ◌<◌, ◌≤◌, ◌^◌, length, take, slice_index, slice_range, IfSome, IfNone, Contains};
-ghost use Rattle.fill_tokens.specs.PlaceGrammar.{IsPlace};
-ghost use Rattle.fill_tokens.specs.Value.{HasValue};
-ghost use Rattle.fill_tokens.specs.declared.place.Place.TheVariants.{CPos};
 ghost use Rattle.fill_tree.specs.Meaning.{atom_tree};
-ghost use Rattle.fill_tree.specs.Tree.{col, sub};
-ghost use Rattle.flashfill.specs.Start.{AreSmall, NoLater, IsCopy, IsCopyStart, IsCopyOn, BeatsCopies, BeatsColumn, total};
+ghost use Rattle.flashfill.specs.Start.{AreSmall, NoLater, IsCopy, IsCopyStart, IsCopyOn, BeatsCopies, BeatsColumn, BeatsPlaces, LackPlaces};
 
 use super::place::best_place;
 use super::start::Start;
@@ -49,8 +45,8 @@ fn copy_between(
     requires same { slice_range cell.now start stop ≡ take (stop - start) text.now }
     ensures copy { IfSome result (IsCopyStart column cell.now text.now costs.now start) }
     ensures left { IfSome result (λ s. s.left + stop ≡ length text.now + start) }
-    ensures best { IfSome result (λ s. (y : ℤ) → (z : ℤ) → IsPlace (CPos y) → IsPlace (CPos z) → HasValue (CPos y) cell.now start → HasValue (CPos z) cell.now stop → NoLater s (total costs.now (sub (col column) (CPos y) (CPos z)) s.left) (sub (col column) (CPos y) (CPos z))) }
-    ensures none { IfNone result ((y : ℤ) → (z : ℤ) → IsPlace (CPos y) → IsPlace (CPos z) → HasValue (CPos y) cell.now start → ¬ HasValue (CPos z) cell.now stop) }
+    ensures best { IfSome result (BeatsPlaces column cell.now costs.now start stop) }
+    ensures none { IfNone result (LackPlaces cell.now start stop) }
 {
     let first = best_place(cell, start)?;
     let second = best_place(cell, stop)?;

@@ -38,7 +38,7 @@ fn a_cell_and_a_text_give_a_program(rt: HostRuntime) -> Result<(), Fail> {
         ("xaxa", "a", "Sub(Col(1),CPos(-2),CPos(-1))"),
         // a piece from the middle, its end counted from the nearer side
         ("abcdefgh", "cdefg", "Sub(Col(1),CPos(2),CPos(-2))"),
-        // plus before minus, at the middle position
+        // position 2 of 3 characters is 2 and -2: plus before minus
         ("abc", "c", "Sub(Col(1),CPos(2),CPos(-1))"),
         ("abcd-", "-", "Const('-')"),
         ("", "a", "Const('a')"),
