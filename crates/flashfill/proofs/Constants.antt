@@ -1,129 +1,83 @@
--- The least program of a text over lists of constants.
-use Rattle.std.proofs.Common.{◌≡◌, ◌≢◌, ℕ, zero, suc, ◌+◌, ◌<◌, ◌≤◌, List, [], ◌∷◌, ◌++◌, length, refl, sym, ap, ◌∙◌, subst, arith, append-nil, sum_by, rules}
-use Rattle.std.specs.Prelude.{All}
-use Rattle.std.specs.Char.{IsScalar}
-use Rattle.std.specs.declared.cmp.Ordering.{Ordering}
-use Rattle.std.specs.declared.cmp.Ordering.TheVariants.{Less, Equal, Greater}
-use Rattle.std.specs.Ordering.{nat_cmp, ordering_then}
-use Rattle.std.proofs.lemmas.Bool.Decides.{nat_tests}
+-- Constants of a text: what they stand for and what they cost.
+use Rattle.std.proofs.Common.{◌≡◌, ℕ, ◌+◌, ◌-◌, ◌*◌, ◌<◌, ◌≤◌, ◌⊎◌, inl, inr, refl, subst, ◌^◌, Option, None, Some, IsSome, IfNone, IfSome, drop, slice_range, Bool, true, false, List, [], ◌∷◌, length, take, sum_by, get_or, if◌then◌else◌, sym, ap, ◌∙◌, arith, rules, length-take}
 use Rattle.std.proofs.lemmas.List.Sums.{sum_by-append}
-use Rattle.fill_text.specs.Data.{SheetData}
-use Rattle.fill_tree.specs.Cost.{char_cost, program_cost}
+use Rattle.fill_text.specs.Classes.{is_separator}
+use Rattle.fill_tree.specs.Cost.{char_cost, text_cost, atom_cost}
 use Rattle.fill_tree.specs.Meaning.{atom_tree}
+use Rattle.fill_tree.specs.Tree.{AtomTree, constant}
 use Rattle.fill_tree.specs.declared.tree.Atom.TheVariants.{Const}
 use Rattle.fill_tree.specs.declared.tree.Atom.TheFolds.{the_lemmas}
-use Rattle.fill_tree.specs.Order.{Before, text_cmp}
-use Rattle.fill_tree.specs.Tree.{Atoms, constant, whole, sub, end, more}
-use Rattle.fill_tree.specs.Value.{ProgramIs}
-use Rattle.fill_tree.specs.declared.user.Example.{Example}
-use Rattle.flashfill.specs.Report.{IsBuilt, Represents, IsChosen}
+use Rattle.flashfill.specs.Start.{IsConstant, BeatsConstant, NoLater, total}
+use Rattle.flashfill.specs.declared.first_program.start.Start.{Start}
+use Rattle.flashfill.proofs.Starts.{no_later-itself, no_later-trans}
+use Rattle.std.proofs.lemmas.Bool.{cases_lt}
 
-module _ (sheet : SheetData) (row : ℕ) where
-  -- a program costs at least what the characters of its text cost, and 15 more where it has an atom
-  cost_of_more : (t : List ℕ) (rest : Atoms) (v : List ℕ) → IsBuilt rest → ProgramIs sheet [] row (more (constant t) rest) v → 15 + sum_by char_cost v ≤ program_cost (more (constant t) rest)
-  cost_of_more t end v b h =
-      let joined : sum_by char_cost v ≡ sum_by char_cost h.0 + sum_by char_cost h.1 = ap (sum_by char_cost) h.4 ∙ sum_by-append char_cost h.0 h.1 in
-      let first : sum_by char_cost h.0 ≡ sum_by char_cost t = ap (sum_by char_cost) h.2.0 in
-      let rest : sum_by char_cost h.1 ≡ 0 = ap (sum_by char_cost) h.3 in
-      omega arith
-  cost_of_more t (more (constant u) rest) v b h =
-      let joined : sum_by char_cost v ≡ sum_by char_cost h.0 + sum_by char_cost h.1 = ap (sum_by char_cost) h.4 ∙ sum_by-append char_cost h.0 h.1 in
-      let first : sum_by char_cost h.0 ≡ sum_by char_cost t = ap (sum_by char_cost) h.2.0 in
-      let later : 15 + sum_by char_cost h.1 ≤ program_cost (more (constant u) rest) = cost_of_more u rest h.1 b.1 h.3 in
-      omega arith
-  cost_of_more t (more (whole s) rest) v b h = absurd b.0
-  cost_of_more t (more (sub s p q) rest) v b h = absurd b.0
-
-after_greater : (r o : Ordering) → r ≡ Greater → ordering_then r o ≡ Less → ⊥
-after_greater Less o e h = cc
-after_greater Equal o e h = cc
-after_greater Greater o e h = cc
-
-dearer : (a b : ℕ) (o : Ordering) → b < a → ordering_then (nat_cmp a b) o ≡ Less → ⊥
-dearer a b o lt h = after_greater (nat_cmp a b) o (grind (arith, nat_tests)) h
-
-nat_cmp_same : (n : ℕ) → nat_cmp n n ≡ Equal
-nat_cmp_same n = grind (arith, nat_tests)
-
-text_cmp_same : (t : List ℕ) → text_cmp t t ≡ Equal
-text_cmp_same [] = refl
-text_cmp_same (c ∷ cs) = rw (nat_cmp_same c) (text_cmp_same cs)
-
-both_same : (a b : Ordering) → a ≡ Equal → b ≡ Equal → ordering_then a (ordering_then b Equal) ≡ Less → ⊥
-both_same Less b ea eb h = cc
-both_same Greater b ea eb h = cc
-both_same Equal Less ea eb h = cc
-both_same Equal Greater ea eb h = cc
-both_same Equal Equal ea eb h = cc
-
--- a constant is not before itself
-constant_same : (t : List ℕ) → Before (more (constant t) end) (more (constant t) end) → ⊥
-constant_same t h = both_same _ (text_cmp t t) (nat_cmp_same (program_cost (more (constant t) end))) (text_cmp_same t) h
-
--- what a constant stands for
 pub tree_of_constant : (t : List ℕ) → atom_tree (Const t) ≡ constant t
 tree_of_constant t = search (rules, the_lemmas)
 
-pub nil_of_length : (xs : List ℕ) → length xs ≡ 0 → xs ≡ []
-nil_of_length [] h = refl
-nil_of_length (x ∷ xs) h = absurd (omega arith)
+char_cost_small : (c : ℕ) → char_cost c ≤ 12
+char_cost_small c = small (is_separator c)
+  where
+    small : (b : Bool) → (if b then 1 else 12) ≤ 12
+    small true = omega arith
+    small false = omega arith
 
-empty_front : (x y : List ℕ) → x ++ y ≡ [] → x ≡ []
-empty_front [] y e = refl
-empty_front (c ∷ cs) y e = cc
+costs_small : (t : List ℕ) → sum_by char_cost t ≤ 12 * length t
+costs_small [] = omega arith
+costs_small (c ∷ cs) =
+    let first = char_cost_small c in
+    let rest = costs_small cs in
+    omega (arith, sum_by-append char_cost (c ∷ []) cs)
 
-module _ (sheet : SheetData) (row : ℕ) (text : List ℕ) where
-  abbrev one : List Example
-  one = record { row = row; text = text } ∷ []
+-- a constant costs no more than 12 for each character, and 10
+pub text_small : (t : List ℕ) → atom_cost (constant t) ≤ 10 + 12 * length t
+text_small t = let small = costs_small t in omega arith
 
-  value_of : (q : Atoms) → Represents sheet one q → ProgramIs sheet [] row q text
-  value_of q r = r.1.values 0 (record { row = row; text = text }) (omega arith)
+constant_small : (t : List ℕ) → atom_cost (atom_tree (Const t)) ≤ 10 + 12 * length t
+constant_small t = let same = ap atom_cost (tree_of_constant t) in let small = text_small t in omega arith
 
-  all_of : (q : Atoms) → ProgramIs sheet [] row q text → All (λ e. ProgramIs sheet [] e.row q e.text) one
-  all_of q h zero d lt = h
-  all_of q h (suc k) d lt = absurd (omega arith)
+pub piece_small : (t piece : List ℕ) (size : ℕ) → piece ≡ slice_range t 0 size → atom_cost (atom_tree (Const piece)) ≤ 10 + 12 * size
+piece_small t piece size is =
+    let small = constant_small piece in
+    let short = ap length is in
+    omega (arith, short, small, length-take (size - 0) (drop 0 t))
 
-  -- the empty text
-  none_before_empty : text ≡ [] → (q : Atoms) → Represents sheet one q → Before q end → ⊥
-  none_before_empty nil end r h = cc
-  none_before_empty nil (more (constant t) rest) r h =
-      let v = value_of (more (constant t) rest) r in
-      v.2.1 (empty_front v.0 v.1 (sym v.4 ∙ nil))
-  none_before_empty nil (more (whole s) rest) r h = absurd r.0.0
-  none_before_empty nil (more (sub s p q) rest) r h = absurd r.0.0
+pub is_some_below : (r : Option ℕ) (n : ℕ) → n < 2 ^ 64 → IfNone r (2 ^ 64 ≤ n) → IsSome r
+is_some_below None n small none = absurd (omega arith)
+is_some_below (Some x) n small none = search rules
 
-  pub empty_chosen : text ≡ [] → IsChosen sheet one end
-  empty_chosen nil = record {
-    has = (tt, record { in_grammar = tt; values = all_of end nil });
-    least = none_before_empty nil;
-  }
+pub the_some : (r : Option ℕ) (x n : ℕ) → r ≡ Some x → IfSome r (λ m. m ≡ n) → x ≡ n
+the_some None x n is some = cc
+the_some (Some y) x n is some = cc
 
-  -- any other text
-  none_before_constant : text ≢ [] → (q : Atoms) → Represents sheet one q → Before q (more (constant text) end) → ⊥
-  none_before_constant some end r h = some (value_of end r)
-  none_before_constant some (more (constant t) end) r h =
-      let v = value_of (more (constant t) end) r in
-      let e : t ≡ text = sym v.2.0 ∙ sym (append-nil v.0) ∙ ap (λ (y : List ℕ). v.0 ++ y) (sym v.3) ∙ sym v.4 in
-      constant_same text (subst (λ (u : List ℕ). Before (more (constant u) end) (more (constant text) end)) e h)
-  none_before_constant some (more (constant t) (more (constant u) rest)) r h =
-      let v = value_of (more (constant t) (more (constant u) rest)) r in
-      let joined : sum_by char_cost text ≡ sum_by char_cost v.0 + sum_by char_cost v.1 = ap (sum_by char_cost) v.4 ∙ sum_by-append char_cost v.0 v.1 in
-      let first : sum_by char_cost v.0 ≡ sum_by char_cost t = ap (sum_by char_cost) v.2.0 in
-      let later : 15 + sum_by char_cost v.1 ≤ program_cost (more (constant u) rest) = cost_of_more sheet row u rest v.1 r.0.1.1 v.3 in
-      dearer (program_cost (more (constant t) (more (constant u) rest))) (program_cost (more (constant text) end)) _ (omega arith) h
-  none_before_constant some (more (constant t) (more (whole s) rest)) r h = absurd r.0.1.0
-  none_before_constant some (more (constant t) (more (sub s p q) rest)) r h = absurd r.0.1.0
-  none_before_constant some (more (whole s) rest) r h = absurd r.0.0
-  none_before_constant some (more (sub s p q) rest) r h = absurd r.0.0
+-- a constant of a text beats itself
+pub beats_itself : (t costs : List ℕ) (s : Start) → IsConstant t costs s → BeatsConstant t costs s.left s
+beats_itself t costs s is =
+    let same : s.cost ≡ total costs (constant (take (length t - s.left) t)) s.left = is.2 ∙ ap (λ (a : AtomTree). total costs a s.left) is.1 in
+    subst (λ (c : ℕ). NoLater s c (constant (take (length t - s.left) t))) same
+    (subst (λ (a : AtomTree). NoLater s s.cost a) is.1 (no_later-itself s))
 
-  pub constant_chosen : text ≢ [] → All IsScalar text → IsChosen sheet one (more (constant text) end)
-  constant_chosen some scalars = record {
-    has = (
-      (tt, tt),
-      record {
-        in_grammar = ((some, scalars, tt), tt);
-        values = all_of (more (constant text) end) (text, [], (refl, some), refl, sym (append-nil text));
-      },
-    );
-    least = none_before_constant some;
-  }
+abbrev pub BeatsLonger : List ℕ → List ℕ → ℕ → Start → Type 0
+BeatsLonger t costs size s = (left : ℕ) → left < length t → length t < left + size → BeatsConstant t costs left s
+
+pub longer_first : (t costs : List ℕ) (s : Start) → IsConstant t costs s → s.left + 1 ≡ length t → BeatsLonger t costs 2 s
+longer_first t costs s is only left within lt =
+    let e : s.left ≡ left = omega arith in subst (λ (l : ℕ). BeatsConstant t costs l s) e (beats_itself t costs s is)
+
+pub longer_next : (t costs : List ℕ) (size : ℕ) (best next new : Start) → NoLater new best.cost (atom_tree best.atom) → NoLater new next.cost (atom_tree next.atom) →
+    IsConstant t costs next → next.left + size ≡ length t → BeatsLonger t costs size best → BeatsLonger t costs (size + 1) new
+longer_next t costs size best next new first second is here longer left within lt =
+    let a : AtomTree = constant (take (length t - left) t) in
+    elim (cases_lt (length t) (left + size)) [
+      | inl more ↦ no_later-trans new best (total costs a left) a first (longer left within more)
+      | inr most ↦
+          let e : next.left ≡ left = omega arith in
+          no_later-trans new next (total costs a left) a second (subst (λ (l : ℕ). BeatsConstant t costs l next) e (beats_itself t costs next is))
+    ]
+
+pub longer_all : (t costs : List ℕ) (size : ℕ) (s : Start) → length t < size → BeatsLonger t costs size s → (left : ℕ) → left < length t → BeatsConstant t costs left s
+longer_all t costs size s past longer left within = longer left within (omega arith)
+
+pub constant_of_two : (t costs : List ℕ) (best next new : Start) → (new ≡ best) ⊎ (new ≡ next) → IsConstant t costs best → IsConstant t costs next → IsConstant t costs new
+constant_of_two t costs best next new (inl e) h k = subst (IsConstant t costs) (sym e) h
+constant_of_two t costs best next new (inr e) h k = subst (IsConstant t costs) (sym e) k

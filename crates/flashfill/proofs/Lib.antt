@@ -1,6 +1,11 @@
 pub mod Constants
+pub mod Copies
+pub mod Ends
 pub mod Numbers
 pub mod Records
 pub mod Scripts
+pub mod Starts
 pub mod Steps
+pub mod Tables
 pub mod Texts
+pub mod Walks

@@ -4,3 +4,4 @@ pub mod Opened
 pub mod Present
 pub mod Report
 pub mod Script
+pub mod Start

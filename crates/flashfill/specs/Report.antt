@@ -7,7 +7,9 @@ use Rattle.fill_edge.specs.Outside.{AppendsPart}
 use Rattle.fill_text.specs.Data.{SheetData}
 use Rattle.fill_sheet.specs.Report.{record_text}
 use Rattle.fill_tree.specs.Chosen.{Explains, IsLeast}
-use Rattle.fill_tree.specs.Tree.{AtomTree, Atoms, constant, whole, sub, end, more}
+use Rattle.fill_tokens.specs.declared.place.Place.{Place}
+use Rattle.fill_tokens.specs.declared.place.Place.TheVariants.{CPos, Pos}
+use Rattle.fill_tree.specs.Tree.{SourceTree, AtomTree, Atoms, col, select, constant, whole, sub, end, more}
 use Rattle.fill_tree.specs.declared.user.Constants.TheVariants.{Any}
 use Rattle.fill_tree.specs.declared.user.Edit.{Edit}
 use Rattle.fill_tree.specs.declared.user.Edit.TheVariants.{Add, Correct, Retract, Clear}
@@ -22,11 +24,21 @@ use Rattle.flashfill.specs.declared.script.Entry.TheVariants as entry
 abbrev pub default_settings : Settings
 default_settings = record { depth = 1; constants = Any; profile = 1 }
 
--- the atoms that are built so far
+-- a cell of the row
+abbrev pub IsCell : SourceTree → Type 0
+IsCell (col c) = ⊤
+IsCell (select column table key conditions) = ⊥
+
+-- a position counted from an end of the text
+abbrev pub IsCounted : Place → Type 0
+IsCounted (CPos k) = ⊤
+IsCounted (Pos r s c) = ⊥
+
+-- the atoms that are built so far: constants, and pieces of a cell between counted positions
 abbrev pub IsBuiltAtom : AtomTree → Type 0
 IsBuiltAtom (constant t) = ⊤
 IsBuiltAtom (whole s) = ⊥
-IsBuiltAtom (sub s p q) = ⊥
+IsBuiltAtom (sub s p q) = IsCell s × IsCounted p × IsCounted q
 
 -- the programs that are built so far
 abbrev pub IsBuilt : Atoms → Type 0
