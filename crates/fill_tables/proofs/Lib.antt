@@ -1,0 +1,4 @@
+pub mod Agree
+pub mod Decisions
+pub mod Fields
+pub mod Found

@@ -1,0 +1,14 @@
+//! Lookup tables: the rows of CSV files, and keys, by which a row is found.
+#![tactic(auto)]
+
+mod error;
+mod reading;
+mod rows;
+mod table;
+mod tables;
+
+pub use error::TableError;
+pub use tables::Tables;
+
+#[cfg(test)]
+mod tests;

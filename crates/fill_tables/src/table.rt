@@ -1,0 +1,128 @@
+//! A table.
+ghost use Rattle.std.specs.Prelude.{◌≡◌, ◌≢◌, nat_lt, Ok, Err, IfOk, IfErr, OnOk, OnErr};
+ghost use Rattle.std.specs.List.{list_any};
+ghost use Rattle.std.specs.Str.{bytes_eq, chars};
+ghost use Rattle.fill_tables.specs.Keys.{AreKeyColumns};
+ghost use Rattle.fill_tables.specs.Reading.{read_table, table_of};
+ghost use Rattle.fill_tables.specs.Tables.{IsTable, with_key};
+
+use crate::TableError;
+use crate::reading::{LIMIT, first_bad, first_records, rows_of, width_of};
+use crate::rows::first_clash;
+use fill_records::{Record, read_records};
+use fill_text::{List, Name, NoMemory, Text};
+use std::alloc::Global;
+use std::marker::Model;
+
+/// How many keys a table can have.
+const MOST_KEYS: usize = 4;
+
+/// A table: rows of texts, and keys, each a list of columns in which no two rows agree.
+#[derive(Debug, Drop)]
+pub(crate) struct Table {
+    pub(crate) name: Name,
+    pub(crate) width: u32,
+    pub(crate) rows: Vec<List<Text>>,
+    pub(crate) keys: Vec<List<u32>>,
+}
+
+impl Model for Table {
+    ghost use Rattle.fill_text.specs.Data.{TableData};
+    ghost use Rattle.fill_tables.specs.Tables.{IsTable};
+
+    ghost Value = { TableData };
+
+    ghost view = { λ table. record { name = table.name; width = table.width; rows = table.rows.items; keys = table.keys.items } };
+
+    ghost invariant = { λ table. IsTable (record { name = table.name; width = table.width; rows = table.rows.items; keys = table.keys.items }) };
+}
+
+impl Table {
+    /// The table of a CSV file's bytes, whose records are its rows. It has no key.
+    pub(crate) fn read(alloc: Global, name: Name, bytes: &[u8]) -> Result<Table, TableError>
+        ensures ok { IfOk result (λ table. read_table name bytes.now ≡ Ok table) }
+        ensures err { IfErr result (λ e. e ≢ TableError.NoMemory → read_table name bytes.now ≡ Err e) }
+        ensures name { IfOk result (λ table. table.name ≡ name) }
+        ensures shape { IfOk result IsTable }
+    {
+        let records = read_records(alloc, bytes, LIMIT + 1)?;
+        Table::of_records(alloc, name, records.as_slice())
+    }
+
+    /// The table of a file's records, or of the first of them, more than a table may have.
+    fn of_records(alloc: Global, name: Name, records: &[Record]) -> Result<Table, TableError>
+        ensures ok { IfOk result (λ table. table_of name records.now ≡ Ok table) }
+        ensures err { IfErr result (λ e. e ≢ TableError.NoMemory → table_of name records.now ≡ Err e) }
+        ensures name { IfOk result (λ table. table.name ≡ name) }
+        ensures shape { IfOk result IsTable }
+    {
+        if let Some((number, column)) = first_bad(first_records(records)) {
+            return Err(TableError::NotUtf8 { number, column });
+        }
+        if records.len() > LIMIT {
+            return Err(TableError::TooManyRows {
+                limit: LIMIT as u32,
+            });
+        }
+        let width = width_of(records);
+        let rows = rows_of(alloc, records, width)?;
+        Ok(Table {
+            name,
+            width,
+            rows,
+            keys: Vec::new(alloc),
+        })
+    }
+
+    /// Whether the table has this name.
+    pub(crate) fn is_named(&self, name: &str) -> bool
+        ensures { result ≡ bytes_eq self.now.name (chars name.now) }
+    {
+        self.name.as_str() == name
+    }
+
+    /// Adds a key.
+    pub(crate) fn add_key(&mut self, columns: &[u32]) -> Result<(), TableError>
+        requires columns { AreKeyColumns columns.now }
+        ensures ok { OnOk result (with_key self.old columns.now ≡ Ok self.new) }
+        ensures err { IfErr result (λ e. e ≢ TableError.NoMemory → with_key self.old columns.now ≡ Err e) }
+        ensures kept { OnErr result (self.new ≡ self.old) }
+        ensures name { self.new.name ≡ self.old.name }
+        ensures shape { IsTable self.new }
+    {
+        if is_past(columns, self.width) {
+            return Err(TableError::NoSuchColumn {
+                columns: self.width,
+            });
+        }
+        if self.keys.len() == MOST_KEYS {
+            return Err(TableError::TooManyKeys {
+                limit: MOST_KEYS as u32,
+            });
+        }
+        if let Some((row1, row2)) = first_clash(&self.rows, columns) {
+            return Err(TableError::NotAKey { row1, row2 });
+        }
+        let key = key_of(*self.keys.allocator(), columns)?;
+        if self.keys.push(key).is_err() {
+            return Err(TableError::NoMemory);
+        }
+        Ok(())
+    }
+}
+
+/// Whether one of these columns is past the last.
+fn is_past(columns: &[u32], width: u32) -> bool
+    ensures { result ≡ list_any (λ column. nat_lt width column) columns.now }
+{
+    columns.iter().any(|column| width < *column)
+}
+
+/// The key of these columns.
+fn key_of(alloc: Global, columns: &[u32]) -> Result<List<u32>, NoMemory>
+    ensures { IfOk result (λ key. key ≡ columns.now) }
+{
+    let mut key = List::new(alloc);
+    key.append(columns)?;
+    Ok(key)
+}

@@ -1,0 +1,215 @@
+use super::*;
+use fill_text::{List, Text};
+use std::alloc::Global;
+use std::test::Fail;
+
+/// Whether a text has these characters.
+fn is(text: &Text, expected: &str) -> bool {
+    let mut i = 0;
+    for c in expected.chars() {
+        if i >= text.len() || text.at(i) != c {
+            return false;
+        }
+        i += 1;
+    }
+    i == text.len()
+}
+
+/// Whether a table has a row of these cells.
+fn has_row(tables: &Tables, table: u32, row: u32, expected: &[&str]) -> bool {
+    if table < 1 || table > tables.count() || row < 1 || row > tables.rows(table) {
+        return false;
+    }
+    if tables.width(table) as usize != expected.len() || expected.len() > 1000 {
+        return false;
+    }
+    for (i, text) in expected.iter().enumerate() {
+        let column = i as u32 + 1;
+        if column > tables.width(table) || !is(tables.cell(table, row, column), text) {
+            return false;
+        }
+    }
+    true
+}
+
+/// A list of these texts.
+fn texts(alloc: Global, all: &[&str]) -> Result<List<Text>, Fail> {
+    let mut list = List::new(alloc);
+    for text in all {
+        list.push(Text::from_utf8(alloc, text.as_bytes())?)?;
+    }
+    Ok(list)
+}
+
+/// What a key finds.
+fn found(
+    tables: &Tables,
+    alloc: Global,
+    table: u32,
+    key: u32,
+    cells: &[&str],
+) -> Result<Option<u32>, Fail> {
+    if table < 1 || table > tables.count() || key < 1 || key > tables.keys(table) {
+        return Ok(None);
+    }
+    Ok(tables.find(table, key, &texts(alloc, cells)?))
+}
+
+/// Whether a key has these columns.
+fn has_key(tables: &Tables, table: u32, key: u32, expected: &[u32]) -> bool {
+    if table < 1 || table > tables.count() || key < 1 || key > tables.keys(table) {
+        return false;
+    }
+    tables.key(table, key) == expected
+}
+
+#[test]
+fn a_table_and_its_keys(rt: HostRuntime) -> Result<(), Fail> {
+    let alloc = rt.alloc();
+    let mut tables = Tables::new(alloc);
+    let bytes =
+        b"\xef\xbb\xbfItem,Date,\"Price, in $\"\r\nStroller,10/2010,145.67\r\nStroller,11/2010\r\n\"Bib\n\"\"x\"\"\",10/2010,3.56";
+    tables.add_table("prices", bytes)?;
+    assert_eq!(rt; tables.count(), 1);
+    assert!(rt; tables.count() == 1);
+    assert_eq!(rt; tables.rows(1), 4);
+    assert_eq!(rt; tables.width(1), 3);
+    assert!(rt; has_row(&tables, 1, 1, &["Item", "Date", "Price, in $"]));
+    assert!(rt; has_row(&tables, 1, 2, &["Stroller", "10/2010", "145.67"]));
+    assert!(rt; has_row(&tables, 1, 3, &["Stroller", "11/2010", ""]));
+    assert!(rt; has_row(&tables, 1, 4, &["Bib\n\"x\"", "10/2010", "3.56"]));
+    assert_eq!(rt;
+        tables.add_key("prices", &[4]).err(),
+        Some(TableError::NoSuchColumn { columns: 3 })
+    );
+    assert_eq!(rt;
+        tables.add_key("costs", &[1]).err(),
+        Some(TableError::NoSuchTable)
+    );
+    assert_eq!(rt;
+        tables.add_key("prices", &[1]).err(),
+        Some(TableError::NotAKey { row1: 2, row2: 3 })
+    );
+    assert_eq!(rt;
+        tables.add_key("prices", &[2]).err(),
+        Some(TableError::NotAKey { row1: 2, row2: 4 })
+    );
+    assert_eq!(rt; tables.keys(1), 0);
+    tables.add_key("prices", &[2, 1])?;
+    tables.add_key("prices", &[3])?;
+    assert!(rt; tables.count() == 1);
+    assert_eq!(rt; tables.keys(1), 2);
+    assert!(rt; has_key(&tables, 1, 1, &[2, 1]));
+    assert!(rt; has_key(&tables, 1, 2, &[3]));
+    assert_eq!(rt;
+        found(&tables, alloc, 1, 1, &["11/2010", "Stroller"])?,
+        Some(3)
+    );
+    assert_eq!(rt;
+        found(&tables, alloc, 1, 1, &["10/2010", "Stroller"])?,
+        Some(2)
+    );
+    assert_eq!(rt; found(&tables, alloc, 1, 1, &["11/2010", "Bib"])?, None);
+    assert_eq!(rt; found(&tables, alloc, 1, 1, &["11/2010"])?, None);
+    assert_eq!(rt; found(&tables, alloc, 1, 2, &["3.56"])?, Some(4));
+    assert!(rt; tables.count() == 1);
+    assert!(rt; !tables.is_key(1, &[1]));
+    assert!(rt; tables.is_key(1, &[1, 2]));
+    Ok(())
+}
+
+#[test]
+fn names_and_numbers_of_tables(rt: HostRuntime) -> Result<(), Fail> {
+    let mut tables = Tables::new(rt.alloc());
+    tables.add_table("rates", b"1\n")?;
+    tables.add_table("prices", b"")?;
+    assert_eq!(rt;
+        tables.add_table("prices", b"\xff").err(),
+        Some(TableError::SameName { first: 2 })
+    );
+    for name in ["a", "b", "c", "d", "e", "f"] {
+        tables.add_table(name, b"1\n1\n")?;
+    }
+    assert_eq!(rt;
+        tables.add_table("prices", b"").err(),
+        Some(TableError::TooManyTables { limit: 8 })
+    );
+    assert_eq!(rt; tables.count(), 8);
+    assert!(rt; tables.count() == 8);
+    assert_eq!(rt; tables.rows(2), 0);
+    assert_eq!(rt; tables.width(2), 0);
+    for _ in 0..4 {
+        tables.add_key("rates", &[1])?;
+    }
+    assert_eq!(rt;
+        tables.add_key("rates", &[1]).err(),
+        Some(TableError::TooManyKeys { limit: 4 })
+    );
+    assert_eq!(rt;
+        tables.add_key("f", &[1]).err(),
+        Some(TableError::NotAKey { row1: 1, row2: 2 })
+    );
+    Ok(())
+}
+
+/// A file of this many records of one field.
+fn file(alloc: Global, records: usize) -> Result<List<u8>, Fail> {
+    let mut bytes: List<u8> = List::new(alloc);
+    for _ in 0..records {
+        bytes.append(b"a\n")?;
+    }
+    Ok(bytes)
+}
+
+#[test]
+fn a_table_has_at_most_2000_records(rt: HostRuntime) -> Result<(), Fail> {
+    let alloc = rt.alloc();
+    let mut tables = Tables::new(alloc);
+    let mut bytes = file(alloc, 2000)?;
+    tables.add_table("a", bytes.as_slice())?;
+    assert!(rt; tables.count() == 1);
+    assert_eq!(rt; tables.rows(1), 2000);
+    bytes.append(b"\xff")?;
+    assert_eq!(rt;
+        tables.add_table("b", bytes.as_slice()).err(),
+        Some(TableError::TooManyRows { limit: 2000 })
+    );
+    assert_eq!(rt; tables.count(), 1);
+    Ok(())
+}
+
+/// A record of this many fields and two more, `b` and one that is no UTF-8.
+fn record(alloc: Global, fields: usize) -> Result<List<u8>, Fail> {
+    let mut bytes: List<u8> = List::new(alloc);
+    for _ in 0..fields {
+        bytes.append(b"a,")?;
+    }
+    bytes.append(b"b,\xff\n")?;
+    Ok(bytes)
+}
+
+#[test]
+fn fields_past_the_thousandth(rt: HostRuntime) -> Result<(), Fail> {
+    let alloc = rt.alloc();
+    let mut tables = Tables::new(alloc);
+    assert_eq!(rt;
+        tables.add_table("a", record(alloc, 998)?.as_slice()).err(),
+        Some(TableError::NotUtf8 {
+            number: 1,
+            column: 1000
+        })
+    );
+    tables.add_table("b", record(alloc, 999)?.as_slice())?;
+    assert!(rt; tables.count() == 1);
+    assert_eq!(rt; tables.width(1), 1000);
+    assert!(rt; tables.rows(1) == 1 && tables.width(1) == 1000);
+    assert!(rt; is(tables.cell(1, 1, 1000), "b"));
+    assert_eq!(rt;
+        tables.add_table("c", b"a\nb,c,\xff,\xff\n\xff").err(),
+        Some(TableError::NotUtf8 {
+            number: 2,
+            column: 3
+        })
+    );
+    Ok(())
+}
