@@ -26,8 +26,8 @@ module _ (M : List Token → ℕ → Type 0) (n : ℕ) where
   ends_more base m x old mid new num a b =
       grows_then M n (EndsWithOne base m) (IsOnly (base ++ x ∷ [])) (EndsWithOne base (m + 1)) old mid new a b
       (λ r s p q.
-          let lt : token_number p.0 < token_number x = (let u : token_number p.0 < m = p.1 in omega arith) in
-          subst (λ z. seq_cmp z s ≡ Less) (sym p.2) (subst (λ z. seq_cmp (base ++ p.0 ∷ []) z ≡ Less) (sym q) (snoc_less base p.0 x lt)))
+      let lt : token_number p.0 < token_number x = (let u : token_number p.0 < m = p.1 in omega arith) in
+      subst (λ z. seq_cmp z s ≡ Less) (sym p.2) (subst (λ z. seq_cmp (base ++ p.0 ∷ []) z ≡ Less) (sym q) (snoc_less base p.0 x lt)))
       (λ r p. elim (cases_order (token_number p.0) m) [
         | inl e ↦ inr (let same : p.0 ≡ x = number_exact p.0 x (e ∙ sym num) in p.2 ∙ ap (λ z. base ++ z ∷ []) same)
         | inr o ↦ elim o [ inl l ↦ inl (p.0, l, p.2) | inr g ↦ absurd (let u : token_number p.0 < m + 1 = p.1 in omega arith) ]
@@ -43,11 +43,11 @@ module _ (M : List Token → ℕ → Type 0) (n : ℕ) where
   any_end_more es j m e old mid new layer at a b =
       grows_then M n (EndsWithAny es m) (EndsWithOne e.seq 27) (EndsWithAny es (m + 1)) old mid new a b
       (λ r s p q.
-          let less : seq_cmp p.1.seq e.seq ≡ Less = layer.rising p.0 m p.1 e p.2 p.3 at in
-          let l1 : length p.1.seq ≡ j = (layer.each p.0 p.1 p.3).1 in
-          let l2 : length e.seq ≡ j = (layer.each m e at).1 in
-          let x = p.4 in
-          subst (λ z. seq_cmp z s ≡ Less) (sym x.2) (subst (λ z. seq_cmp (p.1.seq ++ x.0 ∷ []) z ≡ Less) (sym q.2) (base_less p.1.seq e.seq x.0 q.0 (l1 ∙ sym l2) less)))
+      let less : seq_cmp p.1.seq e.seq ≡ Less = layer.rising p.0 m p.1 e p.2 p.3 at in
+      let l1 : length p.1.seq ≡ j = (layer.each p.0 p.1 p.3).1 in
+      let l2 : length e.seq ≡ j = (layer.each m e at).1 in
+      let x = p.4 in
+      subst (λ z. seq_cmp z s ≡ Less) (sym x.2) (subst (λ z. seq_cmp (p.1.seq ++ x.0 ∷ []) z ≡ Less) (sym q.2) (base_less p.1.seq e.seq x.0 q.0 (l1 ∙ sym l2) less)))
       (λ r p. elim (cases_order p.0 m) [
         | inl q ↦ (let same : p.1 ≡ e = same_Some p.1 e (sym p.3 ∙ ap (slice_get es) q ∙ at) in inr (subst (λ (z : Entry). EndsWithOne z.seq 27 r) same p.4))
         | inr o ↦ elim o [ inl l ↦ inl (p.0, p.1, l, p.3, p.4) | inr g ↦ absurd (let u : p.0 < m + 1 = p.2 in omega arith) ]
@@ -64,10 +64,10 @@ module _ (M : List Token → ℕ → Type 0) (n : ℕ) where
   it_more x es j m e old mid new layer at a b =
       grows_then M n (BeginsWithIt x es m) (IsOnly (x ∷ e.seq)) (BeginsWithIt x es (m + 1)) old mid new a b
       (λ r s p q.
-          let less : seq_cmp p.1.seq e.seq ≡ Less = layer.rising p.0 m p.1 e p.2 p.3 at in
-          let l1 : length p.1.seq ≡ j = (layer.each p.0 p.1 p.3).1 in
-          let l2 : length e.seq ≡ j = (layer.each m e at).1 in
-          subst (λ z. seq_cmp z s ≡ Less) (sym p.4) (subst (λ z. seq_cmp (x ∷ p.1.seq) z ≡ Less) (sym q) (behind_less x p.1.seq e.seq (l1 ∙ sym l2) less)))
+      let less : seq_cmp p.1.seq e.seq ≡ Less = layer.rising p.0 m p.1 e p.2 p.3 at in
+      let l1 : length p.1.seq ≡ j = (layer.each p.0 p.1 p.3).1 in
+      let l2 : length e.seq ≡ j = (layer.each m e at).1 in
+      subst (λ z. seq_cmp z s ≡ Less) (sym p.4) (subst (λ z. seq_cmp (x ∷ p.1.seq) z ≡ Less) (sym q) (behind_less x p.1.seq e.seq (l1 ∙ sym l2) less)))
       (λ r p. elim (cases_order p.0 m) [
         | inl q ↦ (let same : p.1 ≡ e = same_Some p.1 e (sym p.3 ∙ ap (slice_get es) q ∙ at) in inr (p.4 ∙ ap (λ (z : Entry). x ∷ z.seq) same))
         | inr o ↦ elim o [ inl l ↦ inl (p.0, p.1, l, p.3, p.4) | inr g ↦ absurd (let u : p.0 < m + 1 = p.2 in omega arith) ]
@@ -83,11 +83,11 @@ module _ (M : List Token → ℕ → Type 0) (n : ℕ) where
   begins_more es j m x old mid new layer num a b =
       grows_then M n (BeginsWithAny es m) (BeginsWithIt x es (length es)) (BeginsWithAny es (m + 1)) old mid new a b
       (λ r s p q.
-          let lt : token_number p.0 < token_number x = (let u : token_number p.0 < m = p.1 in omega arith) in
-          let g = p.2 in
-          let l1 : length g.1.seq ≡ j = (layer.each g.0 g.1 g.3).1 in
-          let l2 : length q.1.seq ≡ j = (layer.each q.0 q.1 q.3).1 in
-          subst (λ z. seq_cmp z s ≡ Less) (sym g.4) (subst (λ z. seq_cmp (p.0 ∷ g.1.seq) z ≡ Less) (sym q.4) (front_less p.0 x g.1.seq q.1.seq (l1 ∙ sym l2) lt)))
+      let lt : token_number p.0 < token_number x = (let u : token_number p.0 < m = p.1 in omega arith) in
+      let g = p.2 in
+      let l1 : length g.1.seq ≡ j = (layer.each g.0 g.1 g.3).1 in
+      let l2 : length q.1.seq ≡ j = (layer.each q.0 q.1 q.3).1 in
+      subst (λ z. seq_cmp z s ≡ Less) (sym g.4) (subst (λ z. seq_cmp (p.0 ∷ g.1.seq) z ≡ Less) (sym q.4) (front_less p.0 x g.1.seq q.1.seq (l1 ∙ sym l2) lt)))
       (λ r p. elim (cases_order (token_number p.0) m) [
         | inl e ↦ inr (let same : p.0 ≡ x = number_exact p.0 x (e ∙ sym num) in subst (λ z. BeginsWithIt z es (length es) r) same p.2)
         | inr o ↦ elim o [ inl l ↦ inl (p.0, l, p.2) | inr g ↦ absurd (let u : token_number p.0 < m + 1 = p.1 in omega arith) ]

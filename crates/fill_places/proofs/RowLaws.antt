@@ -131,6 +131,7 @@ row_all t k l es numbers old new are some a = adds_same place_cmp (RowOf t k l e
     to : (p : Place) → RowOf t k l es numbers (length numbers) p → FromLeft t k l p
     to (CPos i) h = h
     to (Pos x y c) h = (h.0, h.2)
+
     back : (p : Place) → FromLeft t k l p → RowOf t k l es numbers (length numbers) p
     back (CPos i) h = h
     back (Pos x y c) h =
@@ -201,12 +202,15 @@ all_lists t k es old mid new are e a b = adds_all place_cmp (IsWanted t k) old n
     less (CPos i) (CPos j) a b = absurd b
     less (CPos i) (Pos x y c) a b = refl
     less (Pos x y c) q a b = absurd a
+
     split : (p : Place) → IsWanted t k p → FixedOf t k p ⊎ FromLefts t k es (length es) p
     split (CPos i) h = inl h
     split (Pos x y c) h = inr (are.full x h.0.2.short_left k (wanted_left t k x y c h), h)
+
     fixed : (p : Place) → FixedOf t k p → IsWanted t k p
     fixed (CPos i) h = h
     fixed (Pos x y c) h = absurd h
+
     between : (p : Place) → FromLefts t k es (length es) p → IsWanted t k p
     between (CPos i) h = absurd h
     between (Pos x y c) h = h.1

@@ -60,6 +60,7 @@ right_cons x r l m = record {
     start_at : (i : ℕ) → slice_get (x ∷ r) i ≡ Some Start → ⊥
     start_at zero h = m.0 (same_Some x Start h)
     start_at (suc i) h = l.start i h
+
     end_at : (i : ℕ) → slice_get (x ∷ r) i ≡ Some End → i + 1 ≡ length (x ∷ r)
     end_at zero h = let e = ap length (m.1 (same_Some x End h)) in omega arith
     end_at (suc i) h = let e = l.end i h in omega arith

@@ -46,7 +46,11 @@ impl PlaceIndex {
         let back = hops_back(alloc, &forth, &text)?;
         let lefts = lefts(alloc, &forth, &text)?;
         let rights = rights(alloc, &back, &text)?;
-        Ok(PlaceIndex { text, lefts, rights })
+        Ok(PlaceIndex {
+            text,
+            lefts,
+            rights,
+        })
     }
 
     /// All places of the grammar whose value in the text is `k`, in their order and each once.

@@ -37,7 +37,13 @@ fn may_end(seq: &Seq, token: Token) -> bool
 }
 
 /// Puts the entry of the sequence with the token after it to the list, where it ends somewhere.
-fn push_left(alloc: Global, out: &mut Vec<Entry>, e: &Entry, row: &TokenHops, t: &Text) -> Result<(), NoMemory>
+fn push_left(
+    alloc: Global,
+    out: &mut Vec<Entry>,
+    e: &Entry,
+    row: &TokenHops,
+    t: &Text,
+) -> Result<(), NoMemory>
     requires entry { AreMarks (LeftAt t.now e.now.seq) (length t.now) e.now.at.items }
     requires hops { AreHops (Spans row.now.token t.now) row.now.hops.items }
     requires short { length e.now.seq < 3 }
@@ -57,7 +63,13 @@ fn push_left(alloc: Global, out: &mut Vec<Entry>, e: &Entry, row: &TokenHops, t:
 }
 
 /// Puts the entries of the sequence with each token after it to the list.
-fn push_lefts_after(alloc: Global, out: &mut Vec<Entry>, e: &Entry, table: &[TokenHops], t: &Text) -> Result<(), NoMemory>
+fn push_lefts_after(
+    alloc: Global,
+    out: &mut Vec<Entry>,
+    e: &Entry,
+    table: &[TokenHops],
+    t: &Text,
+) -> Result<(), NoMemory>
     requires entry { AreMarks (LeftAt t.now e.now.seq) (length t.now) e.now.at.items }
     requires table { AreTables (λ token. Spans token t.now) table.now }
     requires short { length e.now.seq < 3 }
@@ -81,7 +93,13 @@ fn first_lefts(alloc: Global, t: &Text) -> Result<Vec<Entry>, NoMemory>
 }
 
 /// The sequences of one token more, in order.
-fn longer_lefts(alloc: Global, layer: &[Entry], j: usize, table: &[TokenHops], t: &Text) -> Result<Vec<Entry>, NoMemory>
+fn longer_lefts(
+    alloc: Global,
+    layer: &[Entry],
+    j: usize,
+    table: &[TokenHops],
+    t: &Text,
+) -> Result<Vec<Entry>, NoMemory>
     requires short { j < 3 }
     requires layer { Entries (LeftAt t.now) (length t.now) (HasLength j) layer.now }
     requires table { AreTables (λ token. Spans token t.now) table.now }

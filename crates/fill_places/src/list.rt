@@ -18,7 +18,13 @@ use fill_tokens::Place;
 use std::alloc::Global;
 
 /// Puts the number of the entry to the list, where it is marked at the position.
-fn push_number(numbers: &mut List<usize>, entries: &[Entry], i: usize, t: &Text, k: usize) -> Result<(), NoMemory>
+fn push_number(
+    numbers: &mut List<usize>,
+    entries: &[Entry],
+    i: usize,
+    t: &Text,
+    k: usize,
+) -> Result<(), NoMemory>
     requires within { k ≤ length t.now }
     requires entries { AreRights t.now entries.now }
     requires number { i < length entries.now }
@@ -48,7 +54,14 @@ fn marked_at(alloc: Global, entries: &[Entry], t: &Text, k: usize) -> Result<Lis
 }
 
 /// Puts the places between the left sequence and the right one of the number at this place to the list.
-fn push_numbered(out: &mut List<Place>, l: &Entry, rights: &[Entry], number: usize, t: &Text, k: usize) -> Result<(), NoMemory>
+fn push_numbered(
+    out: &mut List<Place>,
+    l: &Entry,
+    rights: &[Entry],
+    number: usize,
+    t: &Text,
+    k: usize,
+) -> Result<(), NoMemory>
     requires within { k ≤ length t.now }
     requires left { AreMarks (LeftAt t.now l.now.seq) (length t.now) l.now.at.items }
     requires few { length l.now.seq ≤ 3 }
@@ -62,7 +75,14 @@ fn push_numbered(out: &mut List<Place>, l: &Entry, rights: &[Entry], number: usi
 }
 
 /// Puts the places between the left sequence and all right ones to the list.
-fn push_row(out: &mut List<Place>, l: &Entry, rights: &[Entry], numbers: &[usize], t: &Text, k: usize) -> Result<(), NoMemory>
+fn push_row(
+    out: &mut List<Place>,
+    l: &Entry,
+    rights: &[Entry],
+    numbers: &[usize],
+    t: &Text,
+    k: usize,
+) -> Result<(), NoMemory>
     requires within { k ≤ length t.now }
     requires left { AreMarks (LeftAt t.now l.now.seq) (length t.now) l.now.at.items }
     requires few { length l.now.seq ≤ 3 }
@@ -79,7 +99,14 @@ fn push_row(out: &mut List<Place>, l: &Entry, rights: &[Entry], numbers: &[usize
 }
 
 /// Puts the places with this left sequence to the list, where it ends at the position.
-fn push_left(out: &mut List<Place>, l: &Entry, rights: &[Entry], numbers: &[usize], t: &Text, k: usize) -> Result<(), NoMemory>
+fn push_left(
+    out: &mut List<Place>,
+    l: &Entry,
+    rights: &[Entry],
+    numbers: &[usize],
+    t: &Text,
+    k: usize,
+) -> Result<(), NoMemory>
     requires within { k ≤ length t.now }
     requires left { AreMarks (LeftAt t.now l.now.seq) (length t.now) l.now.at.items }
     requires few { length l.now.seq ≤ 3 }
@@ -94,7 +121,14 @@ fn push_left(out: &mut List<Place>, l: &Entry, rights: &[Entry], numbers: &[usiz
 }
 
 /// Puts the places between sequences to the list.
-fn push_between(out: &mut List<Place>, lefts: &[Entry], rights: &[Entry], numbers: &[usize], t: &Text, k: usize) -> Result<(), NoMemory>
+fn push_between(
+    out: &mut List<Place>,
+    lefts: &[Entry],
+    rights: &[Entry],
+    numbers: &[usize],
+    t: &Text,
+    k: usize,
+) -> Result<(), NoMemory>
     requires within { k ≤ length t.now }
     requires lefts { AreLefts t.now lefts.now }
     requires rights { AreRights t.now rights.now }
@@ -108,7 +142,13 @@ fn push_between(out: &mut List<Place>, lefts: &[Entry], rights: &[Entry], number
 }
 
 /// All places of the grammar whose value in the text is `k`.
-pub fn list_places(alloc: Global, lefts: &[Entry], rights: &[Entry], t: &Text, k: usize) -> Result<List<Place>, NoMemory>
+pub fn list_places(
+    alloc: Global,
+    lefts: &[Entry],
+    rights: &[Entry],
+    t: &Text,
+    k: usize,
+) -> Result<List<Place>, NoMemory>
     requires within { k ≤ length t.now }
     requires lefts { AreLefts t.now lefts.now }
     requires rights { AreRights t.now rights.now }

@@ -115,7 +115,15 @@ fn push_from_right(out: &mut List<Place>, l: &Seq, r: &Seq, count: usize) -> Res
 }
 
 /// Puts the places of the position between the two sequences to the list, by the numbers of the cut.
-fn push_counted(out: &mut List<Place>, l: &Seq, r: &Seq, a: usize, b: usize, t: &Text, k: usize) -> Result<(), NoMemory>
+fn push_counted(
+    out: &mut List<Place>,
+    l: &Seq,
+    r: &Seq,
+    a: usize,
+    b: usize,
+    t: &Text,
+    k: usize,
+) -> Result<(), NoMemory>
     requires around { AreAround l.now r.now }
     requires counts { Counts t.now k l.now r.now a b }
     ensures { OnOk result (Adds place_cmp out.old out.new (PairOf t.now k l.now r.now)) }
@@ -132,7 +140,13 @@ fn push_counted(out: &mut List<Place>, l: &Seq, r: &Seq, a: usize, b: usize, t: 
 }
 
 /// Puts the places of the position between the two sequences to the list.
-pub fn push_pair(out: &mut List<Place>, l: &Entry, r: &Entry, t: &Text, k: usize) -> Result<(), NoMemory>
+pub fn push_pair(
+    out: &mut List<Place>,
+    l: &Entry,
+    r: &Entry,
+    t: &Text,
+    k: usize,
+) -> Result<(), NoMemory>
     requires within { k ≤ length t.now }
     requires left { AreMarks (LeftAt t.now l.now.seq) (length t.now) l.now.at.items }
     requires right { AreMarks (RightAt t.now r.now.seq) (length t.now) r.now.at.items }

@@ -36,7 +36,13 @@ fn may_begin(token: Token, seq: &Seq) -> bool
 }
 
 /// Puts the entry of the sequence with the token before it to the list, where it begins somewhere.
-fn push_right(alloc: Global, out: &mut Vec<Entry>, row: &TokenHops, e: &Entry, t: &Text) -> Result<(), NoMemory>
+fn push_right(
+    alloc: Global,
+    out: &mut Vec<Entry>,
+    row: &TokenHops,
+    e: &Entry,
+    t: &Text,
+) -> Result<(), NoMemory>
     requires entry { AreMarks (RightAt t.now e.now.seq) (length t.now) e.now.at.items }
     requires hops { AreHops (SpansBack t.now row.now.token) row.now.hops.items }
     requires short { length e.now.seq < 3 }
@@ -56,7 +62,14 @@ fn push_right(alloc: Global, out: &mut Vec<Entry>, row: &TokenHops, e: &Entry, t
 }
 
 /// Puts the entries of the sequences with the token before them to the list.
-fn push_rights_behind(alloc: Global, out: &mut Vec<Entry>, row: &TokenHops, layer: &[Entry], j: usize, t: &Text) -> Result<(), NoMemory>
+fn push_rights_behind(
+    alloc: Global,
+    out: &mut Vec<Entry>,
+    row: &TokenHops,
+    layer: &[Entry],
+    j: usize,
+    t: &Text,
+) -> Result<(), NoMemory>
     requires hops { AreHops (SpansBack t.now row.now.token) row.now.hops.items }
     requires short { j < 3 }
     requires layer { Entries (RightAt t.now) (length t.now) (HasLength j) layer.now }
@@ -81,7 +94,13 @@ fn first_rights(alloc: Global, t: &Text) -> Result<Vec<Entry>, NoMemory>
 }
 
 /// The sequences of one token more, in order.
-fn longer_rights(alloc: Global, layer: &[Entry], j: usize, table: &[TokenHops], t: &Text) -> Result<Vec<Entry>, NoMemory>
+fn longer_rights(
+    alloc: Global,
+    layer: &[Entry],
+    j: usize,
+    table: &[TokenHops],
+    t: &Text,
+) -> Result<Vec<Entry>, NoMemory>
     requires short { j < 3 }
     requires layer { Entries (RightAt t.now) (length t.now) (HasLength j) layer.now }
     requires table { AreTables (SpansBack t.now) table.now }

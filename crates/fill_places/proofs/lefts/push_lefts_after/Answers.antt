@@ -15,7 +15,7 @@ push_left-requires-clause-hops c = (c.requires.table.each c.loop-row.row-index c
 pub loop-row-preserved : goal.loop-row-preserved
 loop-row-preserved c =
     let num = (c.requires.table.each c.loop-row.row-index c.row-item.result
-      (slice_get_read c.args.table.now (length c.args.table.now) c.loop-row.row-index c.row-item.result refl (omega arith) c.row-item.is)).0 in
+    (slice_get_read c.args.table.now (length c.args.table.now) c.loop-row.row-index c.row-item.result refl (omega arith) c.row-item.is)).0 in
     ends_more (LeftAt c.args.t.now) (length c.args.t.now) c.args.e.now.seq (c.loop-row.row-index + 1) c.row-item.result.token
     c.args.out.now.items c.loop-row.out.items c.push_left.new.out.items num c.loop-row.invariant c.in_ok-push_left.ensures
 

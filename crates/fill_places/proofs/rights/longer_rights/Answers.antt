@@ -13,7 +13,7 @@ push_rights_behind-requires-clause-hops c = (c.requires.table.each c.loop-row.ro
 pub loop-row-preserved : goal.loop-row-preserved
 loop-row-preserved c =
     let num = (c.requires.table.each c.loop-row.row-index c.row-item.result
-      (slice_get_read c.args.table.now (length c.args.table.now) c.loop-row.row-index c.row-item.result refl (omega arith) c.row-item.is)).0 in
+    (slice_get_read c.args.table.now (length c.args.table.now) c.loop-row.row-index c.row-item.result refl (omega arith) c.row-item.is)).0 in
     begins_more (RightAt c.args.t.now) (length c.args.t.now) c.args.layer.now c.args.j (c.loop-row.row-index + 1) c.row-item.result.token
     c.new-out.result.items c.loop-row.out.items c.push_rights_behind.new.out.items c.requires.layer num c.loop-row.invariant c.in_ok-push_rights_behind.ensures
 
