@@ -1,5 +1,5 @@
 -- Lists of entries, put together.
-use Rattle.std.proofs.Common.{◌≡◌, ℕ, zero, suc, ◌+◌, ◌-◌, ◌<◌, ◌≤◌, ◌⊎◌, inl, inr, List, [], ◌∷◌, ◌++◌, length, refl, sym, ap, ◌∙◌, subst, arith, slice_get, Some, None, append_assoc}
+use Rattle.std.proofs.Common.{◌≡◌, ℕ, zero, suc, ◌+◌, ◌<◌, ◌⊎◌, inl, inr, List, [], ◌∷◌, ◌++◌, length, refl, sym, ap, ◌∙◌, subst, arith, slice_get, Some, None, append_assoc}
 use Rattle.std.proofs.lemmas.Option.{slice_get_within, same_Some}
 use Rattle.std.proofs.lemmas.List.{append-nil}
 use Rattle.std.specs.declared.cmp.Ordering.TheVariants.{Less}
@@ -7,7 +7,7 @@ use Rattle.fill_tokens.specs.Place.{seq_cmp}
 use Rattle.fill_tokens.specs.declared.token.Token.{Token}
 use Rattle.fill_places.specs.declared.entry.Entry.{Entry}
 use Rattle.fill_places.specs.Marks.{AreMarks}
-use Rattle.fill_places.specs.Entries.{AreInOrder, HasSeq, Entries, AddsEntries, IsOnly}
+use Rattle.fill_places.specs.Entries.{HasSeq, Entries, AddsEntries, IsOnly}
 
 get_cases : (xs ys : List Entry) (i : ℕ) (e : Entry) → slice_get (xs ++ ys) i ≡ Some e →
     ((i < length xs) × (slice_get xs i ≡ Some e)) ⊎ ((j : ℕ) × (i ≡ length xs + j) × (slice_get ys j ≡ Some e))

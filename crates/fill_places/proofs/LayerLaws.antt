@@ -1,5 +1,5 @@
 -- The sequences of one length from those of the length before.
-use Rattle.std.proofs.Common.{◌≡◌, ℕ, zero, suc, ◌+◌, ◌-◌, ◌<◌, ◌≤◌, ◌⊎◌, inl, inr, List, [], ◌∷◌, ◌++◌, length, refl, sym, ap, ◌∙◌, subst, arith, slice_get, Some, None, length-append}
+use Rattle.std.proofs.Common.{◌≡◌, ℕ, ◌+◌, ◌<◌, ◌≤◌, inl, inr, List, [], ◌∷◌, ◌++◌, length, refl, sym, ap, ◌∙◌, subst, arith, slice_get, Some, length-append}
 use Rattle.std.proofs.lemmas.Option.{same_Some}
 use Rattle.std.proofs.lemmas.Bool.{cases_order}
 use Rattle.std.specs.declared.cmp.Ordering.TheVariants.{Less}
@@ -11,10 +11,10 @@ use Rattle.fill_tokens.proofs.SpanLaws.{seq_unsnoc}
 use Rattle.fill_places.specs.declared.entry.Entry.{Entry}
 use Rattle.fill_places.specs.Marks.{AreMarks}
 use Rattle.fill_places.specs.Sides.{LeftAt, RightAt}
-use Rattle.fill_places.specs.Entries.{HasSeq, Entries, AddsEntries, HasLength, HasAtMost, IsOnly, EndsWithOne, EndsWithAny, BeginsWithIt, BeginsWithAny}
+use Rattle.fill_places.specs.Entries.{Entries, AddsEntries, HasLength, HasAtMost, IsOnly, EndsWithOne, EndsWithAny, BeginsWithIt, BeginsWithAny}
 use Rattle.fill_places.proofs.SideLaws.{left_front, right_rest}
 use Rattle.fill_places.proofs.OrderLaws.{snoc_less, base_less, behind_less, front_less, shorter_less, number_some}
-use Rattle.fill_places.proofs.EntryLaws.{entries_append, entries_same, entries_one, grows_none, grows_then, grows_all}
+use Rattle.fill_places.proofs.EntryLaws.{entries_append, entries_same, entries_one, grows_none, grows_then}
 
 module _ (M : List Token → ℕ → Type 0) (n : ℕ) where
   -- a token after a sequence

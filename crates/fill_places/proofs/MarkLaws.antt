@@ -1,18 +1,17 @@
 -- Marks, and the hops between positions.
-use Rattle.std.proofs.Common.{◌≡◌, ℕ, zero, suc, ◌+◌, ◌-◌, ◌<◌, ◌≤◌, ◌⊎◌, inl, inr, List, [], ◌∷◌, ◌++◌, length, refl, sym, ap, ◌∙◌, subst, arith, Bool, true, false, slice_get, Some, None, get_or}
-use Rattle.std.specs.Prelude.{◌↔◌, Contains}
+use Rattle.std.proofs.Common.{◌≡◌, ℕ, zero, suc, ◌+◌, ◌<◌, ◌≤◌, ◌⊎◌, inl, inr, List, [], ◌∷◌, ◌++◌, length, refl, ap, subst, arith, Bool, true, slice_get, Some, get_or}
 use Rattle.std.specs.List.{All}
 use Rattle.std.proofs.Math.ListN.{set}
 use Rattle.std.proofs.lemmas.Bool.{cases_order}
-use Rattle.std.proofs.lemmas.Option.{same_Some, slice_get_read, slice_get_within}
-use Rattle.std.proofs.lemmas.List.Elements.{Contains-push, Contains-push_cases, Contains-append_left, Contains-get_or}
-use Rattle.fill_tokens.specs.Span.{Spans, SeqSpans, Begins, Ends}
+use Rattle.std.proofs.lemmas.Option.{slice_get_read, slice_get_within}
+use Rattle.std.proofs.lemmas.List.Elements.{Contains-get_or}
+use Rattle.fill_tokens.specs.Span.{Spans}
 use Rattle.fill_tokens.specs.declared.token.Token.{Token}
-use Rattle.fill_tokens.proofs.SpanLaws.{within, seq_snoc, seq_unsnoc, seq_within}
+use Rattle.fill_tokens.proofs.SpanLaws.{within, seq_snoc, seq_unsnoc}
 use Rattle.fill_places.specs.declared.hops.Hop.{Hop}
 use Rattle.fill_places.specs.Hops.{AreHops, SpansBack}
 use Rattle.fill_places.specs.Marks.{AreMarks, AreAll, IsHopWithin, Reached}
-use Rattle.fill_places.specs.Sides.{IsLeft, IsRight, MayEnd, MayBegin, LeftAt, RightAt}
+use Rattle.fill_places.specs.Sides.{MayEnd, MayBegin, LeftAt, RightAt}
 use Rattle.fill_places.proofs.SideLaws.{left_snoc, left_front, left_last, left_none, right_cons, right_rest, right_first, right_none}
 
 pub marked_read : (flags : List Bool) (k : ℕ) (b : Bool) → k < length flags → b ≡ get_or flags k b → slice_get flags k ≡ Some b

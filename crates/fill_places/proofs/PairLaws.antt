@@ -1,13 +1,13 @@
 -- The places of a position between two sequences, and its fixed places.
-use Rattle.std.proofs.Common.{◌≡◌, ℕ, zero, suc, ◌+◌, ◌-◌, ◌<◌, ◌≤◌, ◌⊎◌, inl, inr, List, [], ◌∷◌, ◌++◌, length, refl, sym, ap, ◌∙◌, subst, arith, ℤ, pos, negsuc, Bool, true, slice_get, Some}
-use Rattle.std.specs.Prelude.{◌≢◌, FitsSigned}
+use Rattle.std.proofs.Common.{◌≡◌, ℕ, ◌+◌, ◌-◌, ◌<◌, ◌≤◌, ◌⊎◌, inl, inr, List, length, refl, sym, ap, ◌∙◌, subst, arith, ℤ, pos, negsuc, Bool, true, slice_get, Some}
+use Rattle.std.specs.Prelude.{FitsSigned}
 use Rattle.std.specs.Int.{w32}
 use Rattle.std.specs.declared.cmp.Ordering.TheVariants.{Less}
 use Rattle.std.specs.Ordering.{ordering_then}
-use Rattle.fill_tokens.specs.Span.{IsCut, Begins, Ends}
+use Rattle.fill_tokens.specs.Span.{IsCut}
 use Rattle.fill_tokens.specs.Value.{HasValue, IsCount}
 use Rattle.fill_tokens.specs.Place.{place_cmp, seq_cmp, signed_cmp}
-use Rattle.fill_tokens.specs.PlaceGrammar.{IsPlace, AreAround}
+use Rattle.fill_tokens.specs.PlaceGrammar.{AreAround}
 use Rattle.fill_tokens.specs.declared.token.Token.{Token}
 use Rattle.fill_tokens.specs.declared.place.Place.{Place}
 use Rattle.fill_tokens.specs.declared.place.Place.TheVariants.{CPos, Pos}
@@ -15,7 +15,7 @@ use Rattle.fill_tokens.proofs.CountLaws.{count_unique, count_some, count_same}
 use Rattle.fill_places.specs.Lists.{Adds}
 use Rattle.fill_places.specs.Marks.{AreMarks, Common}
 use Rattle.fill_places.specs.Sides.{IsLeft, IsRight, LeftAt, RightAt}
-use Rattle.fill_places.specs.Wanted.{IsWanted, FittingFixed, FittingPair, FixedOf, PairOf, Counts}
+use Rattle.fill_places.specs.Wanted.{FittingFixed, FittingPair, FixedOf, PairOf, Counts}
 use Rattle.fill_places.proofs.OrderLaws.{plus_first, minus_first, seq_same}
 use Rattle.fill_places.proofs.ListsLaws.{adds_then}
 

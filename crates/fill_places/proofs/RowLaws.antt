@@ -1,25 +1,23 @@
 -- All places of a position, put together.
-use Rattle.std.proofs.Common.{◌≡◌, ℕ, zero, suc, ◌+◌, ◌-◌, ◌<◌, ◌≤◌, ◌⊎◌, inl, inr, List, [], ◌∷◌, ◌++◌, length, refl, sym, ap, ◌∙◌, subst, arith, Bool, true, false, ℤ, pos, negsuc, slice_get, Some, get_or}
-use Rattle.std.specs.Prelude.{◌↔◌, Contains}
+use Rattle.std.proofs.Common.{◌≡◌, ℕ, ◌+◌, ◌<◌, ◌⊎◌, inl, inr, List, [], ◌∷◌, ◌++◌, length, refl, sym, ap, ◌∙◌, subst, arith, Bool, true, false, ℤ, pos, negsuc, slice_get, Some, get_or}
 use Rattle.std.specs.declared.cmp.Ordering.TheVariants as Ordering
 use Rattle.std.specs.declared.cmp.Ordering.TheVariants.{Less}
 use Rattle.std.specs.Ordering.{nat_cmp, ordering_then}
 use Rattle.std.proofs.lemmas.Option.{same_Some, slice_get_read, slice_get_within, get_or_from_slice_get}
 use Rattle.std.proofs.lemmas.Bool.{cases_order}
-use Rattle.fill_tokens.specs.Span.{IsCut, Begins, Ends}
+use Rattle.fill_tokens.specs.Span.{IsCut}
 use Rattle.fill_tokens.specs.Place.{place_cmp, seq_cmp, signed_cmp}
-use Rattle.fill_tokens.specs.PlaceGrammar.{AreAround}
 use Rattle.fill_tokens.specs.declared.token.Token.{Token}
 use Rattle.fill_tokens.specs.declared.place.Place.{Place}
 use Rattle.fill_tokens.specs.declared.place.Place.TheVariants.{CPos, Pos}
 use Rattle.fill_places.specs.declared.entry.Entry.{Entry}
 use Rattle.fill_places.specs.Lists.{Lists, Adds}
 use Rattle.fill_places.specs.Marks.{AreMarks}
-use Rattle.fill_places.specs.Sides.{IsLeft, IsRight, LeftAt, RightAt}
-use Rattle.fill_places.specs.Entries.{AreInOrder, HasSeq, AreLefts, AreRights, IsMarkedAt}
-use Rattle.fill_places.specs.Wanted.{IsWanted, FixedOf, PairOf, HasNumbered, RowOf, FromLeft, FromLefts}
+use Rattle.fill_places.specs.Sides.{LeftAt, RightAt}
+use Rattle.fill_places.specs.Entries.{AreInOrder, AreLefts, AreRights, IsMarkedAt}
+use Rattle.fill_places.specs.Wanted.{IsWanted, FixedOf, PairOf, RowOf, FromLeft, FromLefts}
 use Rattle.fill_places.proofs.OrderLaws.{seq_same, less_nat, nat_less}
-use Rattle.fill_places.proofs.ListsLaws.{adds_none, adds_one, adds_same, adds_then, lists_append, adds_all}
+use Rattle.fill_places.proofs.ListsLaws.{adds_none, adds_one, adds_same, adds_then, adds_all}
 
 wanted_cut : (t : List ℕ) (k : ℕ) (a b : List Token) (c : ℤ) → IsWanted t k (Pos a b c) → IsCut a b t k
 wanted_cut t k a b (pos c) h = h.1.1

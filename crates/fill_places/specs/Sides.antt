@@ -1,5 +1,5 @@
 -- The sequences before and after a position.
-use Rattle.std.specs.Prelude.{◌≡◌, ◌≢◌, ℕ, List, [], length}
+use Rattle.std.specs.Prelude.{◌≡◌, ◌≢◌, ℕ, List, []}
 use Rattle.fill_tokens.specs.Span.{Begins, Ends}
 use Rattle.fill_tokens.specs.PlaceGrammar.{OnlyFirst, OnlyLast, Nowhere}
 use Rattle.fill_tokens.specs.declared.token.Token.{Token}

@@ -1,5 +1,5 @@
-use Rattle.std.proofs.Common.{arith, ◌≡◌, ◌+◌, ◌<◌, ◌≤◌, ℕ, length, refl, sym, subst, ap, ◌∙◌, get_or, slice_get, Some, true, false}
-use Rattle.std.proofs.lemmas.Option.{slice_get-get_or, same_Some}
+use Rattle.std.proofs.Common.{arith, ◌≡◌, refl, get_or, slice_get, Some, true, false}
+use Rattle.std.proofs.lemmas.Option.{slice_get-get_or}
 use Rattle.fill_places.specs.declared.hops.Hop.{Hop}
 use Rattle.fill_places.proofs.HopLaws.{contains_read, read_contains}
 use Rattle.fill_places.proofs.MarkLaws.{until_more}

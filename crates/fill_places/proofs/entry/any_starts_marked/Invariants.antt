@@ -1,4 +1,4 @@
-use Rattle.std.proofs.Common.{◌≡◌, ◌<◌, ℕ, length, slice_get, Some, true}
+use Rattle.std.proofs.Common.{◌≡◌, ◌<◌, ℕ, slice_get, Some, true}
 use Rattle.fill_places.specs.declared.hops.Hop.{Hop}
 use Rattle.fill_places.proofs.entry.any_starts_marked.Given as goal
 

@@ -1,4 +1,4 @@
-use Rattle.std.proofs.Common.{arith, ◌≡◌, ◌+◌, ◌∙◌, ℕ, length, refl, sym, subst, ap}
+use Rattle.std.proofs.Common.{arith, ◌+◌, ◌∙◌, ℕ, length, refl, sym, subst, ap}
 use Rattle.std.proofs.lemmas.Option.{slice_get_read}
 use Rattle.fill_tokens.specs.Span.{Spans}
 use Rattle.fill_tokens.specs.Token.{token_number}

@@ -1,4 +1,4 @@
-use Rattle.std.proofs.Common.{arith, ◌≡◌, ℕ}
+use Rattle.std.proofs.Common.{arith}
 use Rattle.fill_tokens.specs.Span.{Spans}
 use Rattle.fill_places.proofs.HopLaws.{rows_all}
 use Rattle.fill_places.proofs.hops.hops_forth.Goals as goal

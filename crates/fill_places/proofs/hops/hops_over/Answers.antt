@@ -1,4 +1,4 @@
-use Rattle.std.proofs.Common.{arith, ◌≡◌, ◌+◌, ◌<◌, ◌≤◌, ℕ, length}
+use Rattle.std.proofs.Common.{arith}
 use Rattle.fill_tokens.specs.Span.{Spans}
 use Rattle.fill_places.proofs.HopLaws.{below_all}
 use Rattle.fill_places.proofs.MarkLaws.{spans_small}

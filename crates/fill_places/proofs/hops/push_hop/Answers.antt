@@ -1,4 +1,4 @@
-use Rattle.std.proofs.Common.{◌≡◌, ◌+◌, ◌++◌, ◌∷◌, [], ℕ, List, sym, subst, refl}
+use Rattle.std.proofs.Common.{◌≡◌, ◌+◌, ◌++◌, ◌∷◌, [], ℕ, sym, subst, refl}
 use Rattle.fill_tokens.specs.Span.{Spans}
 use Rattle.fill_tokens.proofs.SpanLaws.{one_end}
 use Rattle.fill_places.specs.declared.hops.Hop.{Hop}

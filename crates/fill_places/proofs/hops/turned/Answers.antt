@@ -1,4 +1,4 @@
-use Rattle.std.proofs.Common.{arith, ◌≡◌, ◌+◌, ◌<◌, ◌≤◌, ℕ, length, refl, sym, subst, get_or, slice_get, Some}
+use Rattle.std.proofs.Common.{arith, ◌≡◌, ◌+◌, refl, sym, subst, get_or, slice_get, Some}
 use Rattle.std.proofs.lemmas.Option.{slice_get-get_or}
 use Rattle.fill_places.specs.declared.hops.Hop.{Hop}
 use Rattle.fill_places.specs.Hops.{AreTurned}

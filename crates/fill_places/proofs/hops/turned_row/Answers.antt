@@ -1,4 +1,4 @@
-use Rattle.std.proofs.Common.{◌≡◌, refl, subst, List}
+use Rattle.std.proofs.Common.{refl, subst, List}
 use Rattle.std.specs.Prelude.{◌↔◌, Contains}
 use Rattle.fill_places.specs.declared.hops.Hop.{Hop}
 use Rattle.fill_places.proofs.hops.turned_row.Goals as goal

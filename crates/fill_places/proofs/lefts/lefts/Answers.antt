@@ -1,4 +1,4 @@
-use Rattle.std.proofs.Common.{◌≡◌, ◌++◌, length, sym, subst, ap, ◌∙◌}
+use Rattle.std.proofs.Common.{◌++◌, length, sym, subst, ap, ◌∙◌}
 use Rattle.fill_places.specs.Sides.{LeftAt}
 use Rattle.fill_places.specs.Entries.{Entries, HasAtMost}
 use Rattle.fill_places.proofs.LayerLaws.{all_layers}

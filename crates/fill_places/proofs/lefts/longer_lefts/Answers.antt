@@ -1,4 +1,4 @@
-use Rattle.std.proofs.Common.{arith, ◌≡◌, ◌+◌, ◌<◌, ◌≤◌, ℕ, length, refl, sym, subst, slice_get, Some}
+use Rattle.std.proofs.Common.{arith, ◌≡◌, ℕ, length, refl, subst}
 use Rattle.std.proofs.lemmas.Option.{slice_get_read}
 use Rattle.fill_places.specs.Sides.{LeftAt}
 use Rattle.fill_places.specs.Entries.{AddsEntries, EndsWithAny}

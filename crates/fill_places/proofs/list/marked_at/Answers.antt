@@ -1,4 +1,4 @@
-use Rattle.std.proofs.Common.{arith, ◌≡◌, ◌<◌, ℕ, length}
+use Rattle.std.proofs.Common.{arith}
 use Rattle.fill_places.proofs.RowLaws.{marked_none, marked_all}
 use Rattle.fill_places.proofs.list.marked_at.Goals as goal
 

@@ -1,4 +1,4 @@
-use Rattle.std.proofs.Common.{arith, ◌≡◌, ◌<◌, ℕ, length, refl, subst}
+use Rattle.std.proofs.Common.{arith, ◌≡◌, ℕ, length, refl, subst}
 use Rattle.std.proofs.lemmas.Option.{slice_get_read}
 use Rattle.fill_tokens.specs.Place.{place_cmp}
 use Rattle.fill_places.specs.Lists.{Adds}

@@ -1,4 +1,4 @@
-use Rattle.std.proofs.Common.{arith, ◌≡◌, ◌<◌, ◌≤◌, ◌+◌, length, sym, ap, ◌∙◌, get_or, true, false}
+use Rattle.std.proofs.Common.{arith, sym, ap, ◌∙◌, get_or, true, false}
 use Rattle.fill_places.proofs.MarkLaws.{marked_read}
 use Rattle.fill_places.proofs.RowLaws.{no_left}
 use Rattle.fill_places.proofs.list.push_left.Goals as goal

@@ -1,4 +1,4 @@
-use Rattle.std.proofs.Common.{arith, ◌≡◌, length, refl, sym, subst, ap, ◌∙◌, slice_get, Some}
+use Rattle.std.proofs.Common.{◌≡◌, length, refl, sym, subst, ◌∙◌, slice_get, Some}
 use Rattle.std.specs.Prelude.{OnOk}
 use Rattle.std.proofs.lemmas.Option.{slice_get_read, slice_get_within, same_Some}
 use Rattle.fill_tokens.specs.Place.{place_cmp}

@@ -1,4 +1,4 @@
-use Rattle.std.proofs.Common.{arith, ◌≡◌, ◌<◌, ℕ, length, subst, get_or, slice_get, Some}
+use Rattle.std.proofs.Common.{arith, ◌≡◌, ℕ, length, subst, get_or, slice_get, Some}
 use Rattle.std.proofs.lemmas.Option.{slice_get-get_or}
 use Rattle.fill_tokens.specs.Place.{place_cmp}
 use Rattle.fill_places.specs.Lists.{Adds}

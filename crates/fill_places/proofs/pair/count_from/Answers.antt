@@ -1,4 +1,4 @@
-use Rattle.std.proofs.Common.{arith, ◌≡◌, ◌≤◌, ◌+◌, ◌-◌, ℕ, sym, subst}
+use Rattle.std.proofs.Common.{arith, ◌+◌, ◌-◌, ℕ, sym, subst}
 use Rattle.std.proofs.lemmas.Bool.{iff_false}
 use Rattle.fill_tokens.specs.Value.{IsCount}
 use Rattle.fill_tokens.proofs.CountLaws.{yes, no}

@@ -1,4 +1,4 @@
-use Rattle.std.proofs.Common.{◌≤◌, ◌-◌, ℕ}
+use Rattle.std.proofs.Common.{◌≤◌, ◌-◌}
 use Rattle.fill_tokens.specs.Value.{IsCount}
 use Rattle.fill_places.specs.Marks.{Common}
 use Rattle.fill_places.proofs.pair.count_from.Given as goal

@@ -1,4 +1,4 @@
-use Rattle.std.proofs.Common.{arith, ◌≡◌, ◌≤◌, ◌<◌, ◌+◌, ◌-◌, ℕ, length, subst, pos, negsuc}
+use Rattle.std.proofs.Common.{arith, ◌≡◌, ◌+◌, ◌-◌, ℕ, length, subst, pos, negsuc}
 use Rattle.fill_tokens.specs.Place.{place_cmp}
 use Rattle.fill_places.specs.Lists.{Adds}
 use Rattle.fill_places.specs.Wanted.{FittingFixed, FixedOf}

@@ -1,4 +1,4 @@
-use Rattle.std.proofs.Common.{arith, ◌≡◌, ◌<◌, ◌≤◌, ◌+◌, length}
+use Rattle.std.proofs.Common.{arith}
 use Rattle.fill_places.proofs.PairLaws.{counts_from_marks, around_from}
 use Rattle.fill_places.proofs.pair.push_pair.Goals as goal
 

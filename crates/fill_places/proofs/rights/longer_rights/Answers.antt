@@ -1,9 +1,9 @@
-use Rattle.std.proofs.Common.{arith, ◌≡◌, ◌+◌, ◌<◌, ◌≤◌, ℕ, length, refl, sym, subst, slice_get, Some}
+use Rattle.std.proofs.Common.{arith, ◌≡◌, ◌+◌, ℕ, length, refl, subst}
 use Rattle.std.proofs.lemmas.Option.{slice_get_read}
 use Rattle.fill_places.specs.Sides.{RightAt}
 use Rattle.fill_places.specs.Entries.{AddsEntries, BeginsWithAny}
 use Rattle.fill_places.proofs.EntryLaws.{grows_all}
-use Rattle.fill_places.proofs.LayerLaws.{begins_none, begins_more, next_rights}
+use Rattle.fill_places.proofs.LayerLaws.{begins_more, next_rights}
 use Rattle.fill_places.proofs.rights.longer_rights.Goals as goal
 
 pub push_rights_behind-requires-clause-hops : goal.push_rights_behind-requires-clause-hops

@@ -1,6 +1,5 @@
-use Rattle.std.proofs.Common.{arith, ◌≡◌, ◌≤◌, ◌++◌, ◌∷◌, [], ℕ, length, sym, subst, ap, ◌∙◌}
+use Rattle.std.proofs.Common.{◌≡◌, ◌++◌, ◌∷◌, [], ℕ, length, sym, subst}
 use Rattle.std.proofs.lemmas.Bool.{iff_false}
-use Rattle.fill_tokens.specs.Span.{Spans}
 use Rattle.fill_places.specs.declared.entry.Entry.{Entry}
 use Rattle.fill_places.specs.Hops.{SpansBack}
 use Rattle.fill_places.specs.Marks.{AreMarks, Reached, IsHopWithin}

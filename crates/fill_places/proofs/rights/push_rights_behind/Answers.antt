@@ -1,8 +1,7 @@
-use Rattle.std.proofs.Common.{arith, ◌≡◌, ◌+◌, ◌<◌, ◌≤◌, ℕ, length, refl, sym, subst, slice_get, Some}
+use Rattle.std.proofs.Common.{arith, length, refl}
 use Rattle.std.proofs.lemmas.Option.{slice_get_read}
 use Rattle.fill_places.specs.Sides.{RightAt}
-use Rattle.fill_places.specs.Entries.{AddsEntries, BeginsWithIt}
-use Rattle.fill_places.proofs.LayerLaws.{it_none, it_more}
+use Rattle.fill_places.proofs.LayerLaws.{it_more}
 use Rattle.fill_places.proofs.rights.push_rights_behind.Goals as goal
 
 pub loop-e-preserved : goal.loop-e-preserved

@@ -1,4 +1,4 @@
-use Rattle.std.proofs.Common.{◌≡◌, sym, subst}
+use Rattle.std.proofs.Common.{sym, subst}
 use Rattle.fill_tokens.specs.Span.{Spans}
 use Rattle.fill_places.specs.Hops.{AreTables}
 use Rattle.fill_places.proofs.index.PlaceIndex.new.Goals as goal
