@@ -1,0 +1,9 @@
+pub mod EntryLaws
+pub mod HopLaws
+pub mod LayerLaws
+pub mod ListsLaws
+pub mod MarkLaws
+pub mod OrderLaws
+pub mod PairLaws
+pub mod RowLaws
+pub mod SideLaws

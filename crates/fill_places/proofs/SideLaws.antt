@@ -1,0 +1,94 @@
+-- Sequences that may stand before or after a position, a token longer.
+use Rattle.std.proofs.Common.{◌≡◌, ℕ, zero, suc, ◌+◌, ◌⊎◌, inl, inr, List, [], ◌∷◌, ◌++◌, length, refl, ap, ◌∙◌, arith, slice_get, Some}
+use Rattle.std.proofs.lemmas.Option.{same_Some}
+use Rattle.fill_tokens.specs.declared.token.Token.{Token}
+use Rattle.fill_tokens.specs.declared.token.Token.TheVariants.{Start, End}
+use Rattle.fill_places.specs.Sides.{IsLeft, IsRight, MayEnd, MayBegin}
+
+-- a token of the longer sequence is one of the shorter one, or the last
+snoc_cases : (r : List Token) (x y : Token) (i : ℕ) → slice_get (r ++ x ∷ []) i ≡ Some y → (slice_get r i ≡ Some y) ⊎ ((i ≡ length r) × (x ≡ y))
+snoc_cases [] x y zero h = inr (refl, same_Some x y h)
+snoc_cases [] x y (suc i) h = cc
+snoc_cases (z ∷ zs) x y zero h = inl h
+snoc_cases (z ∷ zs) x y (suc i) h = elim (snoc_cases zs x y i h) [ inl l ↦ inl l | inr r ↦ inr (ap suc r.0, r.1) ]
+
+snoc_front : (r : List Token) (x y : Token) (i : ℕ) → slice_get r i ≡ Some y → slice_get (r ++ x ∷ []) i ≡ Some y
+snoc_front [] x y i h = cc
+snoc_front (z ∷ zs) x y zero h = h
+snoc_front (z ∷ zs) x y (suc i) h = snoc_front zs x y i h
+
+snoc_back : (r : List Token) (x : Token) → slice_get (r ++ x ∷ []) (length r) ≡ Some x
+snoc_back [] x = refl
+snoc_back (z ∷ zs) x = snoc_back zs x
+
+no_items : (r : List Token) → length r ≡ 0 → r ≡ []
+no_items [] h = refl
+no_items (x ∷ xs) h = absurd (omega arith)
+
+pub left_snoc : (r : List Token) (x : Token) → IsLeft r → MayEnd r x → IsLeft (r ++ x ∷ [])
+left_snoc r x l m = record {
+  start = λ i h. elim (snoc_cases r x Start i h) [ inl g ↦ l.start i g | inr e ↦ e.0 ∙ ap length (m.1 e.1) ];
+  end = λ i h. elim (snoc_cases r x End i h) [ inl g ↦ l.end i g | inr e ↦ m.0 e.1 ];
+}
+
+pub left_front : (r : List Token) (x : Token) → IsLeft (r ++ x ∷ []) → IsLeft r
+left_front r x l = record {
+  start = λ i h. l.start i (snoc_front r x Start i h);
+  end = λ i h. l.end i (snoc_front r x End i h);
+}
+
+pub left_last : (r : List Token) (x : Token) → IsLeft (r ++ x ∷ []) → MayEnd r x
+left_last r x l = (
+  λ e. l.end (length r) (snoc_back r x ∙ ap Some e),
+  λ e. no_items r (l.start (length r) (snoc_back r x ∙ ap Some e)),
+)
+
+pub left_none : IsLeft []
+left_none = record { start = λ i h. absurd (none_at i Start h); end = λ i h. none_at i End h }
+  where
+    none_at : (i : ℕ) (y : Token) → slice_get {X = Token} [] i ≡ Some y → ⊥
+    none_at i y h = cc
+
+pub right_cons : (x : Token) (r : List Token) → IsRight r → MayBegin x r → IsRight (x ∷ r)
+right_cons x r l m = record {
+  start = λ i h. start_at i h;
+  end = λ i h. end_at i h;
+}
+  where
+    start_at : (i : ℕ) → slice_get (x ∷ r) i ≡ Some Start → ⊥
+    start_at zero h = m.0 (same_Some x Start h)
+    start_at (suc i) h = l.start i h
+
+    end_at : (i : ℕ) → slice_get (x ∷ r) i ≡ Some End → i + 1 ≡ length (x ∷ r)
+    end_at zero h = let e = ap length (m.1 (same_Some x End h)) in omega arith
+    end_at (suc i) h = let e = l.end i h in omega arith
+
+pub right_rest : (x : Token) (r : List Token) → IsRight (x ∷ r) → IsRight r
+right_rest x r l = record {
+  start = λ i h. l.start (suc i) h;
+  end = λ i h. let e = l.end (suc i) h in omega arith;
+}
+
+pub right_first : (x : Token) (r : List Token) → IsRight (x ∷ r) → MayBegin x r
+right_first x r l = (
+  λ e. l.start zero (ap Some e),
+  λ e. no_items r (let f = l.end zero (ap Some e) in omega arith),
+)
+
+pub right_none : IsRight []
+right_none = record { start = λ i h. none_at i Start h; end = λ i h. absurd (none_at i End h) }
+  where
+    none_at : (i : ℕ) (y : Token) → slice_get {X = Token} [] i ≡ Some y → ⊥
+    none_at i y h = cc
+
+-- sequences of one and of two tokens
+pub one_is : (xs : List Token) (a : Token) → length xs ≡ 1 → slice_get xs 0 ≡ Some a → a ∷ [] ≡ xs
+one_is [] a h e = cc
+one_is (y ∷ []) a h e = let f : y ≡ a = same_Some y a e in cc
+one_is (y ∷ z ∷ zs) a h e = absurd (omega arith)
+
+pub two_is : (xs : List Token) (a b : Token) → length xs ≡ 2 → slice_get xs 0 ≡ Some a → slice_get xs 1 ≡ Some b → a ∷ b ∷ [] ≡ xs
+two_is [] a b h e g = cc
+two_is (y ∷ []) a b h e g = absurd (omega arith)
+two_is (y ∷ z ∷ []) a b h e g = let f : y ≡ a = same_Some y a e in let i : z ≡ b = same_Some z b g in cc
+two_is (y ∷ z ∷ u ∷ us) a b h e g = absurd (omega arith)

@@ -1,0 +1,32 @@
+-- The sequences before and after a position.
+use Rattle.std.specs.Prelude.{◌≡◌, ◌≢◌, ℕ, List, []}
+use Rattle.fill_tokens.specs.Span.{Begins, Ends}
+use Rattle.fill_tokens.specs.PlaceGrammar.{OnlyFirst, OnlyLast, Nowhere}
+use Rattle.fill_tokens.specs.declared.token.Token.{Token}
+use Rattle.fill_tokens.specs.declared.token.Token.TheVariants.{Start, End}
+
+-- the sequence may stand before a position, but for its length
+pub record IsLeft (r : List Token) : Type 0 where
+  pub start : OnlyFirst Start r
+  pub end : Nowhere End r
+
+-- .. after a position
+pub record IsRight (r : List Token) : Type 0 where
+  pub start : Nowhere Start r
+  pub end : OnlyLast End r
+
+-- a sequence that may stand before a position may go on with the token
+abbrev pub MayEnd : List Token → Token → Type 0
+MayEnd r x = (x ≢ End) × (x ≡ Start → r ≡ [])
+
+-- .. that may stand after a position may have the token before it
+abbrev pub MayBegin : Token → List Token → Type 0
+MayBegin x r = (x ≢ Start) × (x ≡ End → r ≡ [])
+
+-- the sequence may stand before the position, and ends there
+abbrev pub LeftAt : List ℕ → List Token → ℕ → Type 0
+LeftAt t r k = IsLeft r × Ends r t k
+
+-- the sequence may stand after the position, and begins there
+abbrev pub RightAt : List ℕ → List Token → ℕ → Type 0
+RightAt t r k = IsRight r × Begins r t k

@@ -1,0 +1,129 @@
+//! The sequences that end somewhere in a text.
+ghost use Rattle.std.specs.Prelude.{◌≡◌, ◌≢◌, ℕ, ◌<◌, ◌≤◌, ◌+◌, ◌++◌, ◌∷◌, [], ◌↔◌, length, IfOk, OnOk, IsTrue};
+ghost use Rattle.fill_tokens.specs.Span.{Spans};
+ghost use Rattle.fill_tokens.specs.declared.token.Token.TheVariants.{Start, End};
+ghost use Rattle.fill_places.specs.Hops.{AreHops, AreTables};
+ghost use Rattle.fill_places.specs.Marks.{AreMarks};
+ghost use Rattle.fill_places.specs.Sides.{LeftAt, MayEnd};
+ghost use Rattle.fill_places.specs.Entries.{Entries, AddsEntries, HasLength, IsOnly, EndsWithOne, AreLefts};
+
+use crate::entry::{Entry, empty_entry, join, push_entry, reached, reaches};
+use crate::hops::TokenHops;
+use fill_text::{NoMemory, Text};
+use fill_tokens::{Seq, Token};
+use std::alloc::Global;
+
+/// The sequence with one token more at the end.
+fn followed(seq: &Seq, token: Token) -> Seq
+    requires { length seq.now < 3 }
+    ensures { result ≡ seq.now ++ token ∷ [] }
+{
+    match seq.len() {
+        0 => Seq::one(token),
+        1 => Seq::two(seq.token(0), token),
+        _ => Seq::three(seq.token(0), seq.token(1), token),
+    }
+}
+
+/// Whether a sequence before a position may go on with the token.
+fn may_end(seq: &Seq, token: Token) -> bool
+    ensures { IsTrue result ↔ MayEnd seq.now token }
+{
+    match token {
+        Token::End => false,
+        Token::Start => seq.is_empty(),
+        _ => true,
+    }
+}
+
+/// Puts the entry of the sequence with the token after it to the list, where it ends somewhere.
+fn push_left(
+    alloc: Global,
+    out: &mut Vec<Entry>,
+    e: &Entry,
+    row: &TokenHops,
+    t: &Text,
+) -> Result<(), NoMemory>
+    requires entry { AreMarks (LeftAt t.now e.now.seq) (length t.now) e.now.at.items }
+    requires hops { AreHops (Spans row.now.token t.now) row.now.hops.items }
+    requires short { length e.now.seq < 3 }
+    ensures { OnOk result (AddsEntries (LeftAt t.now) (length t.now) out.old.items out.new.items
+        (IsOnly (e.now.seq ++ row.now.token ∷ []))) }
+{
+    let n = t.len();
+    if !may_end(&e.seq, row.token) {
+        return Ok(());
+    }
+    if !reaches(e, row, n) {
+        return Ok(());
+    }
+    let at = reached(alloc, e, row, n)?;
+    let seq = followed(&e.seq, row.token);
+    push_entry(out, Entry { seq, at })
+}
+
+/// Puts the entries of the sequence with each token after it to the list.
+fn push_lefts_after(
+    alloc: Global,
+    out: &mut Vec<Entry>,
+    e: &Entry,
+    table: &[TokenHops],
+    t: &Text,
+) -> Result<(), NoMemory>
+    requires entry { AreMarks (LeftAt t.now e.now.seq) (length t.now) e.now.at.items }
+    requires table { AreTables (λ token. Spans token t.now) table.now }
+    requires short { length e.now.seq < 3 }
+    ensures { OnOk result (AddsEntries (LeftAt t.now) (length t.now) out.old.items out.new.items
+        (EndsWithOne e.now.seq 27)) }
+{
+    for row in table {
+        push_left(alloc, out, e, row, t)?;
+    }
+    Ok(())
+}
+
+/// The sequence of no token.
+fn first_lefts(alloc: Global, t: &Text) -> Result<Vec<Entry>, NoMemory>
+    ensures { IfOk result (λ v. Entries (LeftAt t.now) (length t.now) (HasLength 0) v.items) }
+{
+    let e = empty_entry(alloc, t.len())?;
+    let mut out = Vec::new(alloc);
+    push_entry(&mut out, e)?;
+    Ok(out)
+}
+
+/// The sequences of one token more, in order.
+fn longer_lefts(
+    alloc: Global,
+    layer: &[Entry],
+    j: usize,
+    table: &[TokenHops],
+    t: &Text,
+) -> Result<Vec<Entry>, NoMemory>
+    requires short { j < 3 }
+    requires layer { Entries (LeftAt t.now) (length t.now) (HasLength j) layer.now }
+    requires table { AreTables (λ token. Spans token t.now) table.now }
+    ensures { IfOk result (λ v. Entries (LeftAt t.now) (length t.now) (HasLength (j + 1)) v.items) }
+{
+    let _tokens = j;
+    let mut out = Vec::new(alloc);
+    for e in layer {
+        push_lefts_after(alloc, &mut out, e, table, t)?;
+    }
+    Ok(out)
+}
+
+/// The sequences that end somewhere in the text, in order.
+pub fn lefts(alloc: Global, table: &[TokenHops], t: &Text) -> Result<Vec<Entry>, NoMemory>
+    requires table { AreTables (λ token. Spans token t.now) table.now }
+    ensures { IfOk result (λ v. AreLefts t.now v.items) }
+{
+    let mut all = first_lefts(alloc, t)?;
+    let one = longer_lefts(alloc, &all, 0, table, t)?;
+    let two = longer_lefts(alloc, &one, 1, table, t)?;
+    let three = longer_lefts(alloc, &two, 2, table, t)?;
+    join(&mut all, one)?;
+    join(&mut all, two)?;
+    join(&mut all, three)?;
+    Ok(all)
+}

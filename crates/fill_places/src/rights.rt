@@ -1,0 +1,129 @@
+//! The sequences that begin somewhere in a text.
+ghost use Rattle.std.specs.Prelude.{◌≡◌, ◌≢◌, ℕ, ◌<◌, ◌≤◌, ◌+◌, ◌++◌, ◌∷◌, [], ◌↔◌, length, IfOk, OnOk, IsTrue};
+ghost use Rattle.fill_tokens.specs.declared.token.Token.TheVariants.{Start, End};
+ghost use Rattle.fill_places.specs.Hops.{AreHops, AreTables, SpansBack};
+ghost use Rattle.fill_places.specs.Marks.{AreMarks};
+ghost use Rattle.fill_places.specs.Sides.{RightAt, MayBegin};
+ghost use Rattle.fill_places.specs.Entries.{Entries, AddsEntries, HasLength, IsOnly, BeginsWithIt, AreRights};
+
+use crate::entry::{Entry, empty_entry, join, push_entry, reached, reaches};
+use crate::hops::TokenHops;
+use fill_text::{NoMemory, Text};
+use fill_tokens::{Seq, Token};
+use std::alloc::Global;
+
+/// The sequence with one token more at the front.
+fn preceded(token: Token, seq: &Seq) -> Seq
+    requires { length seq.now < 3 }
+    ensures { result ≡ token ∷ seq.now }
+{
+    match seq.len() {
+        0 => Seq::one(token),
+        1 => Seq::two(token, seq.token(0)),
+        _ => Seq::three(token, seq.token(0), seq.token(1)),
+    }
+}
+
+/// Whether a sequence after a position may stand behind the token.
+fn may_begin(token: Token, seq: &Seq) -> bool
+    ensures { IsTrue result ↔ MayBegin token seq.now }
+{
+    match token {
+        Token::Start => false,
+        Token::End => seq.is_empty(),
+        _ => true,
+    }
+}
+
+/// Puts the entry of the sequence with the token before it to the list, where it begins somewhere.
+fn push_right(
+    alloc: Global,
+    out: &mut Vec<Entry>,
+    row: &TokenHops,
+    e: &Entry,
+    t: &Text,
+) -> Result<(), NoMemory>
+    requires entry { AreMarks (RightAt t.now e.now.seq) (length t.now) e.now.at.items }
+    requires hops { AreHops (SpansBack t.now row.now.token) row.now.hops.items }
+    requires short { length e.now.seq < 3 }
+    ensures { OnOk result (AddsEntries (RightAt t.now) (length t.now) out.old.items out.new.items
+        (IsOnly (row.now.token ∷ e.now.seq))) }
+{
+    let n = t.len();
+    if !may_begin(row.token, &e.seq) {
+        return Ok(());
+    }
+    if !reaches(e, row, n) {
+        return Ok(());
+    }
+    let at = reached(alloc, e, row, n)?;
+    let seq = preceded(row.token, &e.seq);
+    push_entry(out, Entry { seq, at })
+}
+
+/// Puts the entries of the sequences with the token before them to the list.
+fn push_rights_behind(
+    alloc: Global,
+    out: &mut Vec<Entry>,
+    row: &TokenHops,
+    layer: &[Entry],
+    j: usize,
+    t: &Text,
+) -> Result<(), NoMemory>
+    requires hops { AreHops (SpansBack t.now row.now.token) row.now.hops.items }
+    requires short { j < 3 }
+    requires layer { Entries (RightAt t.now) (length t.now) (HasLength j) layer.now }
+    ensures { OnOk result (AddsEntries (RightAt t.now) (length t.now) out.old.items out.new.items
+        (BeginsWithIt row.now.token layer.now (length layer.now))) }
+{
+    let _tokens = j;
+    for e in layer {
+        push_right(alloc, out, row, e, t)?;
+    }
+    Ok(())
+}
+
+/// The sequence of no token.
+fn first_rights(alloc: Global, t: &Text) -> Result<Vec<Entry>, NoMemory>
+    ensures { IfOk result (λ v. Entries (RightAt t.now) (length t.now) (HasLength 0) v.items) }
+{
+    let e = empty_entry(alloc, t.len())?;
+    let mut out = Vec::new(alloc);
+    push_entry(&mut out, e)?;
+    Ok(out)
+}
+
+/// The sequences of one token more, in order.
+fn longer_rights(
+    alloc: Global,
+    layer: &[Entry],
+    j: usize,
+    table: &[TokenHops],
+    t: &Text,
+) -> Result<Vec<Entry>, NoMemory>
+    requires short { j < 3 }
+    requires layer { Entries (RightAt t.now) (length t.now) (HasLength j) layer.now }
+    requires table { AreTables (SpansBack t.now) table.now }
+    ensures { IfOk result (λ v. Entries (RightAt t.now) (length t.now) (HasLength (j + 1)) v.items) }
+{
+    let mut out = Vec::new(alloc);
+    for row in table {
+        push_rights_behind(alloc, &mut out, row, layer, j, t)?;
+    }
+    Ok(out)
+}
+
+/// The sequences that begin somewhere in the text, in order.
+pub fn rights(alloc: Global, table: &[TokenHops], t: &Text) -> Result<Vec<Entry>, NoMemory>
+    requires table { AreTables (SpansBack t.now) table.now }
+    ensures { IfOk result (λ v. AreRights t.now v.items) }
+{
+    let mut all = first_rights(alloc, t)?;
+    let one = longer_rights(alloc, &all, 0, table, t)?;
+    let two = longer_rights(alloc, &one, 1, table, t)?;
+    let three = longer_rights(alloc, &two, 2, table, t)?;
+    join(&mut all, one)?;
+    join(&mut all, two)?;
+    join(&mut all, three)?;
+    Ok(all)
+}
