@@ -1,5 +1,5 @@
 -- Rows and keys of one table among others.
-use Rattle.std.proofs.Common.{◌≡◌, ◌≢◌, ℕ, zero, suc, ◌+◌, ◌-◌, ◌<◌, ◌≤◌, ◌↔◌, List, [], ◌∷◌, ◌++◌, length, get_or, set, map, slice_get, position, Bool, true, false, IsTrue, not, Option, None, Some, Ok, Err, Result, nat_lt, All, ◌||◌, inl, inr, refl, sym, ap, ◌∙◌, arith, length-append}
+use Rattle.std.proofs.Common.{◌≡◌, ◌≢◌, ℕ, zero, suc, ◌+◌, ◌-◌, ◌<◌, ◌≤◌, ◌↔◌, List, [], ◌∷◌, ◌++◌, length, get_or, set, map, slice_get, position, Bool, true, false, IsTrue, not, Option, None, Some, Ok, Err, Result, nat_lt, All, option_map, ◌||◌, inl, inr, refl, sym, ap, ◌∙◌, arith, length-append}
 use Rattle.std.specs.Option.{is_none, is_some}
 use Rattle.std.specs.Result.{OnOk, IfErr}
 use Rattle.std.specs.Str.{chars, IsUtf8}
@@ -13,7 +13,7 @@ use Rattle.std.proofs.lemmas.Slice.Eq.{bytes_eq-Decides}
 use Rattle.std.proofs.lemmas.List.{length-set, get_or-set_same, get_or-set_other}
 use Rattle.std.proofs.lemmas.List.Elements.{All-push, All-set, All-cons, All-nil}
 use Rattle.std.proofs.lemmas.List.Quantifiers.{position-Some, all_pairs_push}
-use Rattle.std.proofs.lemmas.Option.{slice_get-get_or, slice_get_within, get_or_from_slice_get, slice_get_read}
+use Rattle.std.proofs.lemmas.Option.{slice_get-get_or, slice_get_within, get_or_from_slice_get, slice_get_read, slice_get-map}
 use Rattle.fill_text.specs.Data.{TableData, nth, key_at, table_row_at}
 use Rattle.fill_tables.specs.Keys.{AreKeyColumns, DistinguishRows, IsKey, IsKeyedRow}
 use Rattle.fill_tables.specs.Rows.{has_cells, first_clash}
@@ -185,3 +185,8 @@ add_key_to-missing tables name columns none = add_key_to-none tables name column
 pub place-within : (tables : List TableData) (name : List ℕ) (place : ℕ) → place_of tables name ≡ Some place → place < length tables
 place-within [] name place found = cc
 place-within (t ∷ more) name place found = (position-Some (λ u. bytes_eq u.name name) (t ∷ more) place t found).0
+
+-- the same of what is made of each item
+pub nth-mapped : {A B : Type 0} (f : A → B) (xs : List A) (n : ℕ) (x : A) → 1 ≤ n → n ≤ length xs → x ≡ get_or xs (n - 1) x → nth (map f xs) n ≡ Some (f x)
+nth-mapped f xs zero x first last is = absurd (omega arith)
+nth-mapped f xs (suc i) x first last is = slice_get-map f xs i ∙ ap (option_map f) (nth-read xs (suc i) x first last is)

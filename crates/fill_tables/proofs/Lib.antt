@@ -2,3 +2,4 @@ pub mod Agree
 pub mod Decisions
 pub mod Fields
 pub mod Found
+pub mod Orders

@@ -1,4 +1,5 @@
 pub mod Keys
+pub mod Orders
 pub mod Reading
 pub mod Rows
 pub mod Tables

@@ -2,8 +2,8 @@
 #![tactic(auto)]
 
 mod error;
+mod order;
 mod reading;
-mod rows;
 mod table;
 mod tables;
 

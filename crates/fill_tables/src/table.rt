@@ -7,8 +7,8 @@ ghost use Rattle.fill_tables.specs.Reading.{read_table, table_of};
 ghost use Rattle.fill_tables.specs.Tables.{IsTable, with_key};
 
 use crate::TableError;
+use crate::order::order_by;
 use crate::reading::{LIMIT, first_bad, first_records, rows_of, width_of};
-use crate::rows::first_clash;
 use fill_records::{Record, read_records};
 use fill_text::{List, Name, NoMemory, Text};
 use std::alloc::Global;
@@ -17,24 +17,35 @@ use std::marker::Model;
 /// How many keys a table can have.
 const MOST_KEYS: usize = 4;
 
+/// A key of a table.
+#[derive(Debug, Drop)]
+pub(crate) struct Key {
+    /// The columns, as they were given.
+    pub(crate) columns: List<u32>,
+    /// The places of all rows, from 0, in the order of their cells in these columns.
+    pub(crate) order: List<u16>,
+}
+
 /// A table: rows of texts, and keys, each a list of columns in which no two rows agree.
 #[derive(Debug, Drop)]
 pub(crate) struct Table {
     pub(crate) name: Name,
     pub(crate) width: u32,
     pub(crate) rows: Vec<List<Text>>,
-    pub(crate) keys: Vec<List<u32>>,
+    pub(crate) keys: Vec<Key>,
 }
 
 impl Model for Table {
+    ghost use Rattle.std.specs.Prelude.{length, map, All};
     ghost use Rattle.fill_text.specs.Data.{TableData};
+    ghost use Rattle.fill_tables.specs.Orders.{IsOrder};
     ghost use Rattle.fill_tables.specs.Tables.{IsTable};
 
     ghost Value = { TableData };
 
-    ghost view = { λ table. record { name = table.name; width = table.width; rows = table.rows.items; keys = table.keys.items } };
+    ghost view = { λ table. record { name = table.name; width = table.width; rows = table.rows.items; keys = map (λ key. key.columns) table.keys.items } };
 
-    ghost invariant = { λ table. IsTable (record { name = table.name; width = table.width; rows = table.rows.items; keys = table.keys.items }) };
+    ghost invariant = { λ table. IsTable (record { name = table.name; width = table.width; rows = table.rows.items; keys = map (λ key. key.columns) table.keys.items }) × All (λ key. IsOrder key.columns table.rows.items (length table.rows.items) key.order) table.keys.items };
 }
 
 impl Table {
@@ -100,10 +111,11 @@ impl Table {
                 limit: MOST_KEYS as u32,
             });
         }
-        if let Some((row1, row2)) = first_clash(&self.rows, columns) {
-            return Err(TableError::NotAKey { row1, row2 });
-        }
-        let key = key_of(*self.keys.allocator(), columns)?;
+        let order = match order_by(&self.rows, columns) {
+            Ok(order) => order,
+            Err((row1, row2)) => return Err(TableError::NotAKey { row1, row2 }),
+        };
+        let key = key_of(*self.keys.allocator(), columns, order.as_slice())?;
         if self.keys.push(key).is_err() {
             return Err(TableError::NoMemory);
         }
@@ -118,11 +130,16 @@ fn is_past(columns: &[u32], width: u32) -> bool
     columns.iter().any(|column| width < *column)
 }
 
-/// The key of these columns.
-fn key_of(alloc: Global, columns: &[u32]) -> Result<List<u32>, NoMemory>
-    ensures { IfOk result (λ key. key ≡ columns.now) }
+/// The key of these columns, with the rows' order in them.
+fn key_of(alloc: Global, columns: &[u32], order: &[u16]) -> Result<Key, NoMemory>
+    ensures columns { IfOk result (λ key. key.columns ≡ columns.now) }
+    ensures order { IfOk result (λ key. key.order ≡ order.now) }
 {
-    let mut key = List::new(alloc);
-    key.append(columns)?;
+    let mut key = Key {
+        columns: List::new(alloc),
+        order: List::new(alloc),
+    };
+    key.columns.append(columns)?;
+    key.order.append(order)?;
     Ok(key)
 }

@@ -6,7 +6,7 @@ ghost use Rattle.fill_tables.specs.Keys.{AreKeyColumns, DistinguishRows, IsKeyed
 ghost use Rattle.fill_tables.specs.Tables.{AreTables, add_key_to, add_table_to, column_count, key_count, place_of, row_count};
 
 use crate::TableError;
-use crate::rows::{cell_in, first_clash, row_with};
+use crate::order::{cell_in, order_by, row_with};
 use crate::table::Table;
 use fill_text::{List, Name, NoMemory, Text, TextError};
 use std::alloc::Global;
@@ -134,7 +134,7 @@ impl Tables {
         ensures { key_at self.now table key ≡ Some result.now }
     {
         let table = &self.tables[table as usize - 1];
-        table.keys[key as usize - 1].as_slice()
+        table.keys[key as usize - 1].columns.as_slice()
     }
 
     /// The cell of a table's row and column.
@@ -154,7 +154,7 @@ impl Tables {
 
     /// The row of a table that has these cells in the columns of one of its keys, in the order of the key.
     ///
-    /// It looks through the rows.
+    /// It halves the rows, which each key has in the order of their cells.
     pub fn find(&self, table: u32, key: u32, cells: &List<Text>) -> Option<u32>
         requires first { 1 ≤ table }
         requires last { table ≤ length self.now }
@@ -163,8 +163,13 @@ impl Tables {
         ensures { MatchOption result ((row : ℕ) → ¬ (IsKeyedRow self.now table key cells.now row)) (IsKeyedRow self.now table key cells.now) }
     {
         let table = &self.tables[table as usize - 1];
-        let columns = table.keys[key as usize - 1].as_slice();
-        let place = row_with(&table.rows, columns, cells.as_slice())?;
+        let key = &table.keys[key as usize - 1];
+        let place = row_with(
+            &table.rows,
+            key.columns.as_slice(),
+            key.order.as_slice(),
+            cells.as_slice(),
+        )?;
         Some(place as u32 + 1)
     }
 
@@ -174,7 +179,10 @@ impl Tables {
         requires last { table ≤ length self.now }
         ensures { IsTrue result ↔ DistinguishRows self.now table columns.now }
     {
-        first_clash(&self.tables[table as usize - 1].rows, columns).is_none()
+        match order_by(&self.tables[table as usize - 1].rows, columns) {
+            Ok(_) => true,
+            Err(_) => false,
+        }
     }
 
     /// What tables keep: no two rows of a table agree in a key. It does nothing.

@@ -115,6 +115,11 @@ fn a_table_and_its_keys(rt: HostRuntime) -> Result<(), Fail> {
     assert!(rt; tables.count() == 1);
     assert!(rt; !tables.is_key(1, &[1]));
     assert!(rt; tables.is_key(1, &[1, 2]));
+    tables.add_table("letters", b"b\na\nc\na\nb\na\n")?;
+    assert_eq!(rt;
+        tables.add_key("letters", &[1]).err(),
+        Some(TableError::NotAKey { row1: 2, row2: 4 })
+    );
     Ok(())
 }
 

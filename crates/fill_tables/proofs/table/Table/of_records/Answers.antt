@@ -17,7 +17,7 @@ rows_of-requires-clause-text c =
     texts_from_no_bad 1 c.args.records.now (rw whole at (sym none))
 
 pub invariant_of-result : goal.invariant_of-result
-invariant_of-result c = rw (c.new.ensures.items, c.in_ok-rows.ensures, c.width_of-width.ensures) (made-table c.args.name c.args.records.now c.if-records-gt-LIMIT.false)
+invariant_of-result c = rw (c.new.ensures.items, c.in_ok-rows.ensures, c.width_of-width.ensures) (made-table c.args.name c.args.records.now c.if-records-gt-LIMIT.false, λ k d lt. absurd (omega arith))
 
 pub returns-clause-shape : goal.returns-clause-shape
 returns-clause-shape c = rw (c.new.ensures.items, c.in_ok-rows.ensures, c.width_of-width.ensures) (made-table c.args.name c.args.records.now c.if-records-gt-LIMIT.false)

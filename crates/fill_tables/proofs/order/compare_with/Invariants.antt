@@ -1,0 +1,10 @@
+use Rattle.std.proofs.Common.{◌≡◌, ◌≤◌, length, drop, map, Some}
+use Rattle.fill_text.specs.Data.{nth}
+use Rattle.fill_tables.specs.Orders.{cells_cmp}
+use Rattle.fill_tables.proofs.order.compare_with.Given as goal
+
+abbrev pub invariant-loop-i : goal.invariant-loop-i
+invariant-loop-i l = record {
+  there : l.i ≤ length l.cells;
+  rest : cells_cmp (map (nth l.row) l.columns) (map Some l.cells) ≡ cells_cmp (map (nth l.row) (drop l.i l.columns)) (map Some (drop l.i l.cells));
+}
