@@ -124,6 +124,24 @@ fn a_table_and_its_keys(rt: HostRuntime) -> Result<(), Fail> {
 }
 
 #[test]
+fn each_line_end_ends_a_row(rt: HostRuntime) -> Result<(), Fail> {
+    let alloc = rt.alloc();
+    let mut tables = Tables::new(alloc);
+    tables.add_table("t", b"a,b,c\rd,b,c\na,b,e\r\na,f,c")?;
+    assert!(rt; tables.count() == 1);
+    assert_eq!(rt; tables.rows(1), 4);
+    assert!(rt; has_row(&tables, 1, 1, &["a", "b", "c"]));
+    assert!(rt; has_row(&tables, 1, 2, &["d", "b", "c"]));
+    assert!(rt; has_row(&tables, 1, 3, &["a", "b", "e"]));
+    assert!(rt; has_row(&tables, 1, 4, &["a", "f", "c"]));
+    tables.add_key("t", &[3, 1, 2])?;
+    assert!(rt; tables.count() == 1);
+    assert_eq!(rt; found(&tables, alloc, 1, 1, &["e", "a", "b"])?, Some(3));
+    assert_eq!(rt; found(&tables, alloc, 1, 1, &["e", "d", "b"])?, None);
+    Ok(())
+}
+
+#[test]
 fn names_and_numbers_of_tables(rt: HostRuntime) -> Result<(), Fail> {
     let mut tables = Tables::new(rt.alloc());
     tables.add_table("rates", b"1\n")?;
