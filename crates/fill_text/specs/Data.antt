@@ -1,5 +1,5 @@
 -- Sheets and tables as plain data: what the code's own types of these names are seen as.
-use Rattle.std.specs.Prelude.{ℕ, zero, suc, ◌==◌, List, Option, Some, None, slice_get, position, option_and_then, option_map}
+use Rattle.std.specs.Prelude.{ℕ, zero, suc, ◌==◌, List, Option, None, slice_get, position, option_and_then, option_map}
 
 -- a row of a sheet: its cells in the order of the sheet's input columns, and the text that its output cell gives,
 -- none where no output column is set or the cell is empty

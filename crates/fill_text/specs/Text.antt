@@ -1,5 +1,5 @@
 -- Texts and names as lists of characters.
-use Rattle.std.specs.Prelude.{ℕ, List, ⊤, IsUtf8}
+use Rattle.std.specs.Prelude.{ℕ, List, ⊤}
 use Rattle.std.specs.Str.{IsValidUpTo}
 use Rattle.fill_text.specs.declared.error.TextError.{TextError}
 use Rattle.fill_text.specs.declared.error.TextError.TheVariants.{NotUtf8, NoMemory}

@@ -72,6 +72,13 @@ fn pieces_of_a_text(rt: HostRuntime) -> Result<(), Fail> {
         let piece = text_of(rt.alloc(), characters)?;
         assert!(rt; text.piece(a, b)?.same(&piece), "{a} to {b}");
         assert!(rt; text.piece_is(a, b, &piece), "{a} to {b}");
+        let mut longer = text.copy()?;
+        longer.append_piece(&text, a, b)?;
+        assert_eq!(rt; longer.len(), 4 + b - a, "{a} to {b}");
+        assert!(rt;
+            longer.len() == 4 + b - a && longer.piece_is(4, 4 + b - a, &piece),
+            "{a} to {b}"
+        );
         assert_eq!(rt; text.copy()?.same(&piece), b - a == 4, "{a} to {b}");
     }
     let other = text_of(rt.alloc(), "bd")?;

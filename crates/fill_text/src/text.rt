@@ -137,6 +137,17 @@ impl Text {
         Ok(())
     }
 
+    /// Puts the other text's characters from `a` to `b`, that at `b` left out, at the end.
+    pub fn append_piece(&mut self, other: &Text, a: usize, b: usize) -> Result<(), NoMemory>
+        requires order { a ≤ b }
+        requires within { b ≤ length other.now }
+        ensures ok { OnOk result (self.new ≡ self.old ++ slice_range other.now a b) }
+        ensures err { OnErr result (self.new ≡ self.old) }
+    {
+        self.chars.extend_from_slice(&other.chars[a..b])?;
+        Ok(())
+    }
+
     /// Puts the text's UTF-8 at the end of a list of bytes.
     pub fn push_utf8(&self, to: &mut List<u8>) -> Result<(), NoMemory>
         ensures ok { OnOk result (to.new ≡ to.old ++ encode_utf8_all self.now) }
