@@ -1,5 +1,5 @@
 -- Rows and keys of one table among others.
-use Rattle.std.proofs.Common.{◌≡◌, ◌≢◌, ℕ, zero, suc, ◌+◌, ◌-◌, ◌<◌, ◌≤◌, ◌↔◌, List, [], ◌∷◌, ◌++◌, length, get_or, set, map, slice_get, position, Bool, true, false, IsTrue, not, Option, None, Some, Ok, Err, Result, nat_lt, All, option_map, ◌||◌, inl, inr, refl, sym, ap, ◌∙◌, arith, length-append}
+use Rattle.std.proofs.Common.{◌≡◌, ◌≢◌, ℕ, zero, suc, ◌+◌, ◌-◌, ◌<◌, ◌≤◌, ◌↔◌, List, [], ◌∷◌, ◌++◌, length, get_or, set, map, slice_get, position, Bool, true, false, IsTrue, not, Option, None, Some, Ok, Err, Result, nat_lt, All, option_map, option_and_then, ◌||◌, inl, inr, refl, sym, ap, subst, ◌∙◌, arith, length-append}
 use Rattle.std.specs.Option.{is_none, is_some}
 use Rattle.std.specs.Result.{OnOk, IfErr}
 use Rattle.std.specs.Str.{chars, IsUtf8}
@@ -10,7 +10,7 @@ use lib.Utf8.{encodes}
 use Rattle.std.proofs.lemmas.Bool.{cases_eq}
 use Rattle.std.proofs.lemmas.Bool.Decides.{nat_tests}
 use Rattle.std.proofs.lemmas.Slice.Eq.{bytes_eq-Decides}
-use Rattle.std.proofs.lemmas.List.{length-set, get_or-set_same, get_or-set_other}
+use Rattle.std.proofs.lemmas.List.{length-map, length-set, get_or-set_same, get_or-set_other}
 use Rattle.std.proofs.lemmas.List.Elements.{All-push, All-set, All-cons, All-nil}
 use Rattle.std.proofs.lemmas.List.Quantifiers.{position-Some, all_pairs_push}
 use Rattle.std.proofs.lemmas.Option.{slice_get-get_or, slice_get_within, get_or_from_slice_get, slice_get_read, slice_get-map}
@@ -76,6 +76,27 @@ find-Some tables table key texts t columns place there is found =
     let next : place + 1 ≡ suc place = omega arith in
     let row : nth t.rows (place + 1) ≡ Some (get_or t.rows place []) = rw next (slice_get-get_or t.rows place [] facts.0) in
     (columns, get_or t.rows place [], rw there is, rw there row, (has_cells-Decides columns texts (get_or t.rows place [])).0 facts.1)
+
+nth-All : {A : Type 0} (P : A → Type 0) (xs : List A) (n : ℕ) (x : A) → All P xs → nth xs n ≡ Some x → P x
+nth-All P xs zero x all h = cc
+nth-All P xs (suc i) x all h = subst P (get_or_from_slice_get xs i x x h) (all i x (slice_get_within xs i x h))
+
+-- a key has at most three columns
+few-columns : (tables : List TableData) (table key : ℕ) (columns : List ℕ) → AreTables tables → key_at tables table key ≡ Some columns → length columns ≤ 3
+few-columns tables table key columns are there =
+    elim (nth tables table) as (λ found. nth tables table ≡ found → option_and_then (λ t. nth t.keys key) found ≡ Some columns → length columns ≤ 3) [
+      | None ↦ λ is h. cc
+      | Some t ↦ λ is h. (nth-All (IsKey t.width t.rows) t.keys key columns (nth-All IsTable tables table t are.proper is).keyed h).are.few
+    ] refl there
+
+-- no row has the cells where they are more than a key can have columns
+pub too-many : (tables : List TableData) (table key : ℕ) (texts : List (List ℕ)) → AreTables tables → 3 < length texts → (row : ℕ) → ¬ (IsKeyedRow tables table key texts row)
+too-many tables table key texts are many row found =
+    let few = few-columns tables table key found.0 are found.2 in
+    let left = length-map found.0 (nth found.1) in
+    let right = length-map texts Some in
+    let same : length (map (nth found.1) found.0) ≡ length (map Some texts) = ap length found.4 in
+    omega arith
 
 none_is : {A : Type 0} (found : Option A) (none : Bool) → is_some found ≡ not none → none ≡ is_none found
 none_is None true is = refl

@@ -1,5 +1,5 @@
 -- Places of rows in the order of their cells.
-use Rattle.std.proofs.Common.{◌≡◌, ◌≢◌, ℕ, ◌+◌, ◌-◌, ◌<◌, ◌≤◌, ◌&&◌, List, [], ◌∷◌, length, get_or, take, drop, map, position, Bool, true, false, Option, None, Some, All, Contains, ltb, inl, inr, refl, sym, ap, ◌∙◌, arith}
+use Rattle.std.proofs.Common.{◌≡◌, ◌≢◌, ℕ, ◌+◌, ◌-◌, ◌<◌, ◌≤◌, ◌&&◌, List, [], ◌∷◌, length, get_or, take, drop, map, position, Bool, true, false, not, ◌==◌, Option, None, Some, slice_get, All, Contains, ltb, inl, inr, refl, sym, ap, ◌∙◌, arith}
 use Rattle.std.specs.Ordering.{nat_cmp, is_eq, ordering_then, ordering_reverse, ordering_index}
 use Rattle.std.specs.Cmp.{IsTotalOrder}
 use Rattle.std.specs.Cmp.Lexicographic.{options_total, pointwise}
@@ -11,7 +11,8 @@ use Rattle.std.proofs.Math.Seq.{drop-cons}
 use Rattle.std.proofs.lemmas.Bool.{cases_order, cases_lt, cases_eq}
 use Rattle.std.proofs.lemmas.Bool.Decides.{nat_tests}
 use Rattle.std.proofs.lemmas.Cmp.{lists_total, nat_list_cmp_total}
-use Rattle.std.proofs.lemmas.List.{length-take, get_or-take, get_or_default, drop_all}
+use Rattle.std.proofs.lemmas.List.{length-take, get_or-take, get_or_default, drop_all, drop_more}
+use Rattle.std.proofs.lemmas.Option.{slice_get_within, get_or_from_slice_get, slice_get-get_or}
 use Rattle.std.proofs.lemmas.List.Edits.{get_or-insert_at, get_or-insert_below, get_or-insert_above, length-insert}
 use Rattle.std.proofs.lemmas.List.Elements.{All-append, All-take, All-drop, All-cons}
 use Rattle.std.proofs.lemmas.List.Sums.{position_or_len_is}
@@ -182,6 +183,35 @@ cells-rest row columns texts i is there = elim (cases_lt i (length texts)) [
   | inr past ↦
       let order : nat_cmp (length columns) (length texts) ≡ Equal = grind (arith, nat_tests) in
       rw (drop_all i columns (omega arith), drop_all i texts past, order) refl
+]
+
+-- the same where there are both, by the first of them
+pub cells-step : (row : List (List ℕ)) (columns : List ℕ) (texts : List (List ℕ)) (i d : ℕ) (text : List ℕ) → i < length columns → slice_get texts i ≡ Some text
+    → cells_cmp (map (nth row) (drop i columns)) (map Some (drop i texts))
+    ≡ ordering_then (cell_cmp (nth row (get_or columns i d)) (Some text)) (cells_cmp (map (nth row) (drop (i + 1) columns)) (map Some (drop (i + 1) texts)))
+cells-step row columns texts i d text lt here =
+    let within = slice_get_within texts i text here in
+    rw (drop_more columns i d lt, drop_more texts i text within, get_or_from_slice_get texts i text text here) refl
+
+-- an order that is not equal decides, and an equal one does not
+pub then-decided : (o p : Ordering) → not (ordering_index o == 1) ≡ true → ordering_then o p ≡ o
+then-decided Less p h = refl
+then-decided Equal p h = cc
+then-decided Greater p h = refl
+
+pub then-equal : (o p : Ordering) → not (ordering_index o == 1) ≡ false → ordering_then o p ≡ p
+then-equal Less p h = cc
+then-equal Equal p h = refl
+then-equal Greater p h = cc
+
+-- no text is at a place past the last
+pub past-last : {A : Type 0} (xs : List A) (i : ℕ) → slice_get xs i ≡ None → length xs ≤ i
+past-last xs i none = elim (cases_lt i (length xs)) [
+  | inl less ↦ elim xs as (λ ys. slice_get ys i ≡ None → i < length ys → length ys ≤ i) [
+    | [] ↦ λ _ lt. absurd (omega arith)
+    | x ∷ rest ↦ λ is lt. let some = slice_get-get_or (x ∷ rest) i x lt in cc
+  ] none less
+  | inr past ↦ past
 ]
 
 -- no row passes a test for cells that belong between the places in order

@@ -1,5 +1,5 @@
 //! The rows of a table in the order of their cells in some columns.
-ghost use Rattle.std.specs.Prelude.{◌≡◌, ◌<◌, ◌≤◌, [], length, map, position, Some, None, IfOk, IfErr, OnOk, option_copied, slice_index_or};
+ghost use Rattle.std.specs.Prelude.{◌≡◌, ◌<◌, ◌≤◌, [], length, map, position, Some, None, IfOk, IfErr, OnOk, option_copied, slice_get, slice_index_or};
 ghost use Rattle.std.specs.Cmp.Lexicographic.{slice_cmp};
 ghost use Rattle.std.specs.List.Sorted.{IsBinarySearchResult, IsSearchInRange};
 ghost use Rattle.fill_text.specs.Data.{nth};
@@ -43,12 +43,12 @@ fn compare_cells(row: &[Text], other: &[Text], column: u32) -> Ordering
     }
 }
 
-/// The order of a cell in a column and a text.
-fn compare_cell(row: &[Text], column: u32, text: &Text) -> Ordering
+/// The order of a cell in a column and a text's characters.
+fn compare_cell(row: &[Text], column: u32, text: &[char]) -> Ordering
     ensures { result ≡ cell_cmp (nth row.now column) (Some text.now) }
 {
     match cell_in(row, column) {
-        Some(cell) => cell.compare(text),
+        Some(cell) => cell.as_slice().cmp(text),
         None => Ordering::Less,
     }
 }
@@ -66,12 +66,19 @@ fn compare(columns: &[u32], row: &[Text], other: &[Text]) -> Ordering
     Ordering::Equal
 }
 
+/// The characters at a place.
+fn characters_at<'v>(cells: &[&'v [char]], place: usize) -> Option<&'v [char]>
+    ensures { option_copied result ≡ slice_get (map (λ cell. cell.now) cells.now) place }
+{
+    cells.get(place).copied()
+}
+
 /// The order of a row's cells in these columns and of these cells.
-fn compare_with(columns: &[u32], row: &[Text], cells: &[Text]) -> Ordering
-    ensures { result ≡ cells_cmp (map (nth row.now) columns.now) (map Some cells.now) }
+fn compare_with(columns: &[u32], row: &[Text], cells: &[&[char]]) -> Ordering
+    ensures { result ≡ cells_cmp (map (nth row.now) columns.now) (map Some (map (λ cell. cell.now) cells.now)) }
 {
     for (i, column) in columns.iter().enumerate() {
-        let Some(cell) = cells.get(i) else {
+        let Some(cell) = characters_at(cells, i) else {
             return Ordering::Greater;
         };
         let order = compare_cell(row, *column, cell);
@@ -119,10 +126,10 @@ fn search_cells(
     rows: &[List<Text>],
     columns: &[u32],
     order: &[u16],
-    cells: &[Text],
+    cells: &[&[char]],
 ) -> Result<usize, usize>
     ensures bound { IsSearchInRange result (length order.now) }
-    ensures found { IsBinarySearchResult (λ place. cells_cmp (cells_at columns.now rows.now place) (map Some cells.now)) order.now result }
+    ensures found { IsBinarySearchResult (λ place. cells_cmp (cells_at columns.now rows.now place) (map Some (map (λ cell. cell.now) cells.now))) order.now result }
 {
     order.binary_search_by(|place| compare_with(columns, row_at(rows, *place as usize), cells))
 }
@@ -132,10 +139,10 @@ pub(crate) fn row_with(
     rows: &[List<Text>],
     columns: &[u32],
     order: &[u16],
-    cells: &[Text],
+    cells: &[&[char]],
 ) -> Option<usize>
     requires { IsOrder columns.now rows.now (length rows.now) order.now }
-    ensures { result ≡ position (has_cells columns.now cells.now) rows.now }
+    ensures { result ≡ position (has_cells columns.now (map (λ cell. cell.now) cells.now)) rows.now }
 {
     match search_cells(rows, columns, order, cells) {
         Ok(found) => Some(order[found] as usize),

@@ -1,5 +1,5 @@
 //! Tables.
-ghost use Rattle.std.specs.Prelude.{◌≡◌, ◌≢◌, ℕ, ◌≤◌, ◌↔◌, IsTrue, [], length, Ok, Err, Some, MatchOption, IfOk, IfErr, OnOk, OnErr};
+ghost use Rattle.std.specs.Prelude.{◌≡◌, ◌≢◌, ℕ, ◌<◌, ◌≤◌, ◌↔◌, IsTrue, [], length, map, Ok, Err, Some, MatchOption, IfOk, IfErr, OnOk, OnErr};
 ghost use Rattle.std.specs.Str.{chars};
 ghost use Rattle.fill_text.specs.Data.{key_at, table_cell_at, width_at};
 ghost use Rattle.fill_tables.specs.Keys.{AreKeyColumns, DistinguishRows, IsKeyedRow, KeysDistinguish};
@@ -8,12 +8,16 @@ ghost use Rattle.fill_tables.specs.Tables.{AreTables, add_key_to, add_table_to, 
 use crate::TableError;
 use crate::order::{cell_in, order_by, row_with};
 use crate::table::Table;
+use arrayvec::ArrayVec;
 use fill_text::{List, Name, NoMemory, Text, TextError};
 use std::alloc::Global;
 use std::marker::Model;
 
 /// How many tables there can be.
 const MOST_TABLES: usize = 8;
+
+/// How many columns a key can have.
+const MOST_COLUMNS: usize = 3;
 
 /// Lookup tables, which programs find texts in by keys. All their numbers count from 1.
 #[derive(Debug, Drop)]
@@ -162,13 +166,27 @@ impl Tables {
         requires last_key { key ≤ key_count self.now table }
         ensures { MatchOption result ((row : ℕ) → ¬ (IsKeyedRow self.now table key cells.now row)) (IsKeyedRow self.now table key cells.now) }
     {
+        let _kept = &self.tables;
+        let slices = slices_of(cells.as_slice())?;
+        self.find_slices(table, key, slices.as_slice())
+    }
+
+    /// The same for cells that are lent as slices, so that a caller need not own them.
+    pub fn find_slices(&self, table: u32, key: u32, cells: &[&[char]]) -> Option<u32>
+        requires first { 1 ≤ table }
+        requires last { table ≤ length self.now }
+        requires first_key { 1 ≤ key }
+        requires last_key { key ≤ key_count self.now table }
+        ensures { let texts = map (λ cell. cell.now) cells.now in
+            MatchOption result ((row : ℕ) → ¬ (IsKeyedRow self.now table key texts row)) (IsKeyedRow self.now table key texts) }
+    {
         let table = &self.tables[table as usize - 1];
         let key = &table.keys[key as usize - 1];
         let place = row_with(
             &table.rows,
             key.columns.as_slice(),
             key.order.as_slice(),
-            cells.as_slice(),
+            cells,
         )?;
         Some(place as u32 + 1)
     }
@@ -191,6 +209,20 @@ impl Tables {
     {
         let _kept = &self.tables;
     }
+}
+
+/// The characters of cells, where they are no more than a key can have.
+fn slices_of(cells: &[Text]) -> Option<ArrayVec<&[char], MOST_COLUMNS>>
+    ensures { MatchOption result (3 < length cells.now) (λ slices. map (λ slice. slice.now) slices.items ≡ cells.now) }
+{
+    let mut slices: ArrayVec<&[char], MOST_COLUMNS> = ArrayVec::new();
+    for cell in cells {
+        if slices.is_full() {
+            return None;
+        }
+        slices.push(cell.as_slice());
+    }
+    Some(slices)
 }
 
 /// A text as a name.

@@ -41,7 +41,7 @@ fn texts(alloc: Global, all: &[&str]) -> Result<List<Text>, Fail> {
     Ok(list)
 }
 
-/// What a key finds.
+/// What a key finds, by cells that it is given and by the same ones lent as slices; 0 where the two differ.
 fn found(
     tables: &Tables,
     alloc: Global,
@@ -52,7 +52,17 @@ fn found(
     if table < 1 || table > tables.count() || key < 1 || key > tables.keys(table) {
         return Ok(None);
     }
-    Ok(tables.find(table, key, &texts(alloc, cells)?))
+    let owned = texts(alloc, cells)?;
+    let mut lent: Vec<&[char]> = Vec::new(alloc);
+    for text in owned.as_slice() {
+        lent.push(text.as_slice())?;
+    }
+    let found = tables.find(table, key, &owned);
+    if tables.find_slices(table, key, &lent) == found {
+        Ok(found)
+    } else {
+        Ok(Some(0))
+    }
 }
 
 /// Whether a key has these columns.
@@ -111,6 +121,8 @@ fn a_table_and_its_keys(rt: HostRuntime) -> Result<(), Fail> {
     );
     assert_eq!(rt; found(&tables, alloc, 1, 1, &["11/2010", "Bib"])?, None);
     assert_eq!(rt; found(&tables, alloc, 1, 1, &["11/2010"])?, None);
+    let four = ["11/2010", "Stroller", "", ""];
+    assert_eq!(rt; found(&tables, alloc, 1, 1, &four)?, None);
     assert_eq!(rt; found(&tables, alloc, 1, 2, &["3.56"])?, Some(4));
     assert!(rt; tables.count() == 1);
     assert!(rt; !tables.is_key(1, &[1]));

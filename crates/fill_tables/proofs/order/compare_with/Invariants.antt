@@ -4,7 +4,9 @@ use Rattle.fill_tables.specs.Orders.{cells_cmp}
 use Rattle.fill_tables.proofs.order.compare_with.Given as goal
 
 abbrev pub invariant-loop-i : goal.invariant-loop-i
-invariant-loop-i l = record {
-  there : l.i ≤ length l.cells;
-  rest : cells_cmp (map (nth l.row) l.columns) (map Some l.cells) ≡ cells_cmp (map (nth l.row) (drop l.i l.columns)) (map Some (drop l.i l.cells));
-}
+invariant-loop-i l =
+    let texts = map (λ cell. cell.now) l.cells in
+    record {
+      there : l.i ≤ length texts;
+      rest : cells_cmp (map (nth l.row) l.columns) (map Some texts) ≡ cells_cmp (map (nth l.row) (drop l.i l.columns)) (map Some (drop l.i texts));
+    }
