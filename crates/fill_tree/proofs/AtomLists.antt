@@ -1,11 +1,16 @@
--- Two lists of atoms, compared item by item up to where one of them ends.
-use Rattle.std.proofs.Common.{◌≡◌, ℕ, ◌+◌, List, [], ◌∷◌, map, length, drop, min, refl, arith, length-drop}
+-- How many atoms a list has, and two lists of atoms, compared item by item up to where one of them ends.
+use Rattle.std.proofs.Common.{◌≡◌, ℕ, suc, ◌+◌, List, [], ◌∷◌, map, length, drop, min, refl, ap, arith, length-drop}
 use Rattle.std.specs.Ordering.{nat_cmp}
 use Rattle.std.proofs.lemmas.Bool.Decides.{nat_tests}
+use Rattle.fill_tree.specs.Grammar.{number_of_atoms}
 use Rattle.fill_tree.specs.Meaning.{atom_tree}
 use Rattle.fill_tree.specs.Order.{atoms_cmp}
 use Rattle.fill_tree.specs.Tree.{atoms_of}
 use Rattle.fill_tree.specs.declared.tree.Atom.{Atom}
+
+pub as_many_atoms : (l : List Atom) → number_of_atoms (atoms_of (map atom_tree l)) ≡ length l
+as_many_atoms [] = refl
+as_many_atoms (x ∷ xs) = ap suc (as_many_atoms xs)
 
 nat_cmp-shift : (i m n : ℕ) → nat_cmp (i + m) (i + n) ≡ nat_cmp m n
 nat_cmp-shift i m n = grind (arith, nat_tests)

@@ -1,5 +1,7 @@
 pub mod AtomLists
 mod Examples
+pub mod GuardLaws
+pub mod Lookups
 pub mod ProgramOrder
 pub mod Ranked
 pub mod TreeOrder

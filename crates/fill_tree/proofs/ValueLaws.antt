@@ -5,7 +5,8 @@ use Rattle.fill_tokens.specs.Value.{HasValue}
 use Rattle.fill_tokens.specs.declared.place.Place.{Place}
 use Rattle.fill_tokens.proofs.ValueLaws.{one_value}
 use Rattle.fill_tree.specs.Tree.{SourceTree, AtomTree, Atoms, col, select, constant, whole, sub, end, more}
-use Rattle.fill_tree.specs.Value.{IsKeyedRow, KeysDistinguish, LooksUp, IsFilled, IsPieceBetween, IsHeadAndTail, IsJoined, SourceIs, AtomIs, ConditionIs, ConditionsAre, ProgramIs}
+use Rattle.fill_tables.specs.Keys.{IsKeyedRow, KeysDistinguish}
+use Rattle.fill_tree.specs.Value.{LooksUp, IsFilled, IsPieceBetween, IsHeadAndTail, IsJoined, SourceIs, AtomIs, ConditionIs, ConditionsAre, ProgramIs}
 
 -- at most one value has the property
 abbrev pub AtMostOne : {A : Type 0} → (A → Type 0) → Type 0

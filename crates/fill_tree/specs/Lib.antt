@@ -2,8 +2,10 @@ pub mod Chosen
 pub mod Codes
 pub mod Cost
 pub mod Grammar
+pub mod Guard
 pub mod Meaning
 pub mod Order
+pub mod Separate
 pub mod Switch
 pub mod Tree
 pub mod Value

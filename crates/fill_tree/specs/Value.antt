@@ -1,20 +1,10 @@
 -- The values of trees on a row, as relations: a tree has a value where some text is it, and none where no text is.
-use Rattle.std.specs.Prelude.{◌≡◌, ◌≢◌, ℕ, ◌<◌, List, [], ◌∷◌, ◌++◌, Some, map, slice_range}
-use Rattle.fill_text.specs.Data.{SheetData, TableData, nth, cell_at, table_cell_at, key_at, table_row_at}
+use Rattle.std.specs.Prelude.{◌≡◌, ◌≢◌, ℕ, ◌<◌, List, [], ◌∷◌, ◌++◌, Option, Some, ◌↔◌, slice_range}
+use Rattle.fill_text.specs.Data.{SheetData, TableData, cell_at, table_cell_at}
+use Rattle.fill_tables.specs.Keys.{IsKeyedRow}
 use Rattle.fill_tokens.specs.Value.{HasValue}
 use Rattle.fill_tokens.specs.declared.place.Place.{Place}
 use Rattle.fill_tree.specs.Tree.{SourceTree, AtomTree, Atoms, col, select, constant, whole, sub, end, more}
-
--- the cells of the table's row in the columns of the key are these
-abbrev pub IsKeyedRow : List TableData → ℕ → ℕ → List (List ℕ) → ℕ → Type 0
-IsKeyedRow tables table key texts row = (columns : List ℕ) × (cells : List (List ℕ)) × (key_at tables table key ≡ Some columns)
-    × (table_row_at tables table row ≡ Some cells) × (map (nth cells) columns ≡ map Some texts)
-
--- no two rows of a table have the same cells in the columns of one of its keys
-abbrev pub KeysDistinguish : List TableData → Type 0
-KeysDistinguish tables = (table key row other : ℕ) (columns : List ℕ) (cells others : List (List ℕ)) →
-    key_at tables table key ≡ Some columns → table_row_at tables table row ≡ Some cells → table_row_at tables table other ≡ Some others →
-    map (nth cells) columns ≡ map (nth others) columns → row ≡ other
 
 -- a lookup by texts of the property: the cell of the row whose key cells they are
 abbrev pub LooksUp : (List (List ℕ) → Type 0) → List TableData → ℕ → ℕ → ℕ → List ℕ → Type 0
@@ -67,3 +57,7 @@ abbrev mutual
 abbrev pub ProgramIs : SheetData → List TableData → ℕ → Atoms → List ℕ → Type 0
 ProgramIs sheet tables row end v = v ≡ []
 ProgramIs sheet tables row (more a rest) v = IsJoined (AtomIs sheet tables row a) (ProgramIs sheet tables row rest) v
+
+-- what has the property, which is the only one of its kind, or none where nothing has it
+abbrev pub IsValue : {A : Type 0} → (A → Type 0) → Option A → Type 0
+IsValue {A} P value = (v : A) → P v ↔ (value ≡ Some v)

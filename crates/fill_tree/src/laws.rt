@@ -8,7 +8,10 @@ ghost use Rattle.fill_text.specs.Data.{SheetData, TableData};
 ghost use Rattle.fill_tree.specs.Tree.{SourceTree, AtomTree, Atoms, end, more};
 ghost use Rattle.fill_tree.specs.Order.{source_cmp, atom_cmp, atoms_cmp, program_cmp, Before, NotAfter, OneIsBefore};
 ghost use Rattle.fill_tree.specs.Chosen.{IsChosen};
-ghost use Rattle.fill_tree.specs.Value.{KeysDistinguish, SourceIs, AtomIs, ConditionIs, ProgramIs};
+ghost use Rattle.fill_tables.specs.Keys.{KeysDistinguish};
+ghost use Rattle.fill_tree.specs.Switch.{SwitchTree};
+ghost use Rattle.fill_tree.specs.Guard.{Takes, SwitchIs};
+ghost use Rattle.fill_tree.specs.Value.{SourceIs, AtomIs, ConditionIs, ProgramIs};
 ghost use Rattle.fill_tree.specs.declared.user.Settings.{Settings};
 ghost use Rattle.fill_tree.specs.declared.user.Example.{Example};
 
@@ -67,7 +70,14 @@ pub fn one_is_chosen()
         IsChosen settings sheet tables examples p → IsChosen settings sheet tables examples q → p ≡ q }
 {}
 
-/// A tree has at most one value on a row, where the keys of the tables distinguish their rows.
+/// A row takes exactly one program of a conditional program.
+pub fn one_program_is_taken()
+    ensures some { (sheet : SheetData) → (row : ℕ) → (s : SwitchTree) → (p : Atoms) × Takes sheet row s p }
+    ensures one { (sheet : SheetData) → (row : ℕ) → (s : SwitchTree) → (p : Atoms) → (q : Atoms) →
+        Takes sheet row s p → Takes sheet row s q → p ≡ q }
+{}
+
+/// A tree or a conditional program has at most one value on a row, where the keys of the tables distinguish their rows.
 pub fn values_are_unique()
     ensures sources { (sheet : SheetData) → (tables : List TableData) → KeysDistinguish tables → (row : ℕ) → (s : SourceTree) →
         (v : List ℕ) → (w : List ℕ) → SourceIs sheet tables row s v → SourceIs sheet tables row s w → v ≡ w }
@@ -77,4 +87,6 @@ pub fn values_are_unique()
         (v : List ℕ) → (w : List ℕ) → ConditionIs sheet tables row a v → ConditionIs sheet tables row a w → v ≡ w }
     ensures programs { (sheet : SheetData) → (tables : List TableData) → KeysDistinguish tables → (row : ℕ) → (p : Atoms) →
         (v : List ℕ) → (w : List ℕ) → ProgramIs sheet tables row p v → ProgramIs sheet tables row p w → v ≡ w }
+    ensures switches { (sheet : SheetData) → (tables : List TableData) → KeysDistinguish tables → (row : ℕ) → (s : SwitchTree) →
+        (v : List ℕ) → (w : List ℕ) → SwitchIs sheet tables row s v → SwitchIs sheet tables row s w → v ≡ w }
 {}

@@ -7,6 +7,7 @@
 
 mod copy;
 mod cost;
+mod grammar;
 mod guard;
 pub mod laws;
 mod order;
@@ -14,6 +15,7 @@ mod tree;
 mod user;
 
 pub use fill_tokens::{Place, Seq, Token};
+pub use grammar::in_grammar;
 pub use guard::{Case, Guard, Literal, Switch};
 pub use tree::{Atom, Program, Select, Source};
 pub use user::{Constants, Edit, Example, Settings};

@@ -1,3 +1,5 @@
+mod grammar;
+
 use crate::*;
 use Token::{Hyphen, Space, Upper};
 use fill_text::{List, Text};

@@ -20,7 +20,8 @@ use Rattle.fill_tree.specs.Grammar.{IsAtom}
 use Rattle.fill_tree.specs.Meaning.{atom_tree}
 use Rattle.fill_tree.specs.Order.{atom_cmp, atoms_cmp, NotAfter}
 use Rattle.fill_tree.specs.Tree.{AtomTree, Atoms, col, select, constant, whole, sub, end, more}
-use Rattle.fill_tree.specs.Value.{KeysDistinguish, AtomIs, ProgramIs}
+use Rattle.fill_tables.specs.Keys.{KeysDistinguish}
+use Rattle.fill_tree.specs.Value.{AtomIs, ProgramIs}
 use Rattle.fill_tree.specs.declared.user.Example.{Example}
 use Rattle.flashfill.specs.Report.{IsBuiltAtom, Represents, default_settings}
 use Rattle.flashfill.specs.Start.{AtMost, NoLater, IsChosenFor, last, Costs, AreCosts, AreSmall, MayBegin, IsStart, IsConstant, IsCopy, IsCopyOn, BeatsColumn, BeatsConstant, total}

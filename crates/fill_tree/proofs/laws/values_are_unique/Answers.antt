@@ -1,3 +1,4 @@
+use Rattle.fill_tree.proofs.GuardLaws.{switch_one}
 use Rattle.fill_tree.proofs.ValueLaws as laws
 use Rattle.fill_tree.proofs.laws.values_are_unique.Goals as goal
 
@@ -7,4 +8,5 @@ returns c = record {
   atoms = laws.atom_one;
   conditions = laws.condition_one;
   programs = laws.program_one;
+  switches = switch_one;
 }
