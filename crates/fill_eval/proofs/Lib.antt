@@ -1,0 +1,5 @@
+mod Guards
+mod Lookups
+mod Pieces
+mod Trees
+mod Values

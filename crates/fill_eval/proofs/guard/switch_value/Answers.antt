@@ -1,0 +1,8 @@
+use Rattle.fill_tree.specs.Meaning.{program_tree}
+use Rattle.fill_tree.specs.Switch.{switch_tree}
+use Rattle.fill_eval.proofs.Guards.{switch_ok}
+use Rattle.fill_eval.proofs.guard.switch_value.Goals as goal
+
+pub returns : goal.returns
+returns c =
+    switch_ok c.args.sheet.now c.args.tables.now c.args.row (switch_tree c.args.s.now) (program_tree c.taken.result.now) c.program_value.result c.taken.ensures c.program_value.ensures

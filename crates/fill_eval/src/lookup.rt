@@ -1,0 +1,57 @@
+//! Cells, by numbers that may be out of range.
+ghost use Rattle.std.specs.Prelude.{◌≡◌, ◌≤◌, ◌↔◌, IsTrue, true, false, Contains, None, length, option_copied};
+ghost use Rattle.fill_text.specs.Data.{cell_at, key_at, table_cell_at};
+ghost use Rattle.fill_tables.specs.Tables.{AreTables, key_count};
+
+use fill_sheet::Sheet;
+use fill_tables::Tables;
+use fill_text::Text;
+
+/// The cell of a row in a column, if that is an input.
+pub(crate) fn input_cell(row: u32, column: u32, sheet: &Sheet) -> Option<&Text>
+    requires first { 1 ≤ row }
+    requires last { row ≤ length sheet.now.rows }
+    ensures { option_copied result ≡ cell_at sheet.now row column }
+{
+    if is_input(column, sheet) {
+        Some(sheet.cell(row, column))
+    } else {
+        None
+    }
+}
+
+/// Whether a column is an input.
+pub(crate) fn is_input(column: u32, sheet: &Sheet) -> bool
+    ensures { IsTrue result ↔ Contains sheet.now.inputs column }
+{
+    sheet.inputs().contains(&column)
+}
+
+/// The cell of a table, if the numbers are in range.
+pub(crate) fn table_cell(table: u32, row: u32, column: u32, tables: &Tables) -> Option<&Text>
+    ensures { option_copied result ≡ table_cell_at tables.now table row column }
+{
+    if table == 0 || table > tables.count() {
+        return None;
+    }
+    if row == 0 || row > tables.rows(table) || column == 0 || column > tables.width(table) {
+        return None;
+    }
+    Some(tables.cell(table, row, column))
+}
+
+/// Whether there is a key of these numbers.
+pub(crate) fn has_key(table: u32, key: u32, tables: &Tables) -> bool
+    ensures there { result ≡ true → (1 ≤ table) × (table ≤ length tables.now) × (1 ≤ key) × (key ≤ key_count tables.now table) }
+    ensures absent { result ≡ false → key_at tables.now table key ≡ None }
+    ensures shape { AreTables tables.now }
+{
+    let count = tables.count();
+    if table == 0 || table > count {
+        return false;
+    }
+    if key == 0 || key > tables.keys(table) {
+        return false;
+    }
+    true
+}
