@@ -1,0 +1,182 @@
+//! The arena.
+ghost use Rattle.std.specs.Prelude.{◌≡◌, ℕ, ◌+◌, ◌<◌, ◌≤◌, List, [], Some, slice_get, length, take, IfOk, OnErr};
+ghost use Rattle.fill_arena.specs.Contents.{Extends, HasEdges, HasNodes, IsAtomSet, IsGraph, IsPlaceSet, IsSourceSet};
+ghost use Rattle.fill_arena.specs.WellMade.{AreAtoms, ArePlaces, AreSources, IsEntry, IsGraphOf, IsWellMade};
+
+use crate::entry::{AtomItem, Edge, Entry, SourceItem};
+use crate::numbers::{AtomSet, GraphId, Mark, PlaceSet, SourceSet};
+use fill_edge::{Ledger, Steps};
+use fill_text::{List, NoMemory};
+use fill_tokens::Place;
+use std::alloc::Global;
+use std::marker::Model;
+
+/// Sets and graphs, each under a number that it keeps until a cut takes it away.
+#[derive(Debug, Drop)]
+pub struct Arena {
+    entries: Vec<Entry>,
+}
+
+impl Model for Arena {
+    ghost use Rattle.std.specs.Prelude.{List};
+    ghost use Rattle.fill_arena.specs.declared.entry.Entry.{Entry};
+    ghost use Rattle.fill_arena.specs.WellMade.{IsWellMade};
+
+    ghost Value = { List Entry };
+
+    ghost view = { λ arena. arena.entries.items };
+
+    ghost invariant = { λ arena. IsWellMade arena.entries.items };
+}
+
+impl Arena {
+    /// An arena without sets and graphs, which takes no memory.
+    pub fn new(alloc: Global) -> Arena
+        ensures { result ≡ [] }
+    {
+        Arena {
+            entries: Vec::new(alloc),
+        }
+    }
+
+    /// The number of a set of these places.
+    pub fn intern_places(&mut self, places: &[Place]) -> Result<PlaceSet, NoMemory>
+        requires { ArePlaces places.now }
+        ensures ok { IfOk result (λ s. slice_get self.new s ≡ Some (Entry.Places places.now)) }
+        ensures kept { Extends self.old self.new }
+        ensures err { OnErr result (self.new ≡ self.old) }
+    {
+        let mut copied = List::new(*self.entries.allocator());
+        copied.append(places)?;
+        Ok(PlaceSet::at(self.push(Entry::Places(copied))?))
+    }
+
+    /// The number of a set of these sources.
+    pub fn intern_sources(&mut self, items: List<SourceItem>) -> Result<SourceSet, NoMemory>
+        requires { AreSources self.old (length self.old) items }
+        ensures ok { IfOk result (λ s. slice_get self.new s ≡ Some (Entry.Sources items)) }
+        ensures kept { Extends self.old self.new }
+        ensures err { OnErr result (self.new ≡ self.old) }
+    {
+        Ok(SourceSet::at(self.push(Entry::Sources(items))?))
+    }
+
+    /// The number of a set of these atoms.
+    pub fn intern_atoms(&mut self, items: List<AtomItem>) -> Result<AtomSet, NoMemory>
+        requires { AreAtoms self.old (length self.old) items }
+        ensures ok { IfOk result (λ s. slice_get self.new s ≡ Some (Entry.Atoms items)) }
+        ensures kept { Extends self.old self.new }
+        ensures err { OnErr result (self.new ≡ self.old) }
+    {
+        Ok(AtomSet::at(self.push(Entry::Atoms(items))?))
+    }
+
+    /// The number of a graph of nodes from 0 on and of these edges. It takes one step, whatever it answers.
+    pub fn intern_graph<L: Ledger>(
+        &mut self,
+        nodes: usize,
+        edges: List<Edge>,
+        steps: &mut Steps<L>,
+    ) -> Result<GraphId, NoMemory>
+        requires { IsGraphOf self.old (length self.old) nodes edges }
+        ensures ok { IfOk result (λ g. slice_get self.new g ≡ Some (Entry.Graph nodes edges)) }
+        ensures kept { Extends self.old self.new }
+        ensures err { OnErr result (self.new ≡ self.old) }
+        ensures step { steps.new ≡ steps.old + 1 }
+    {
+        steps.tick();
+        Ok(GraphId::at(self.push(Entry::Graph(nodes, edges))?))
+    }
+
+    /// Puts an entry at the end and gives its number.
+    fn push(&mut self, entry: Entry) -> Result<usize, NoMemory>
+        requires { IsEntry self.old (length self.old) entry }
+        ensures ok { IfOk result (λ n. slice_get self.new n ≡ Some entry) }
+        ensures kept { Extends self.old self.new }
+        ensures err { OnErr result (self.new ≡ self.old) }
+    {
+        let number = self.entries.as_slice().len();
+        if self.entries.push(entry).is_err() {
+            return Err(NoMemory);
+        }
+        Ok(number)
+    }
+
+    /// The places of a set, in order.
+    pub fn places(&self, s: PlaceSet) -> &[Place]
+        requires { IsPlaceSet self.now s }
+        ensures { slice_get self.now s ≡ Some (Entry.Places result.now) }
+    {
+        match &self.entries[s.index()] {
+            Entry::Places(places) => places.as_slice(),
+            _ => unreachable!(),
+        }
+    }
+
+    /// The items of a set of sources.
+    pub fn sources(&self, s: SourceSet) -> &[SourceItem]
+        requires { IsSourceSet self.now s }
+        ensures { slice_get self.now s ≡ Some (Entry.Sources result.now) }
+    {
+        match &self.entries[s.index()] {
+            Entry::Sources(items) => items.as_slice(),
+            _ => unreachable!(),
+        }
+    }
+
+    /// The items of a set of atoms.
+    pub fn atoms(&self, s: AtomSet) -> &[AtomItem]
+        requires { IsAtomSet self.now s }
+        ensures { slice_get self.now s ≡ Some (Entry.Atoms result.now) }
+    {
+        match &self.entries[s.index()] {
+            Entry::Atoms(items) => items.as_slice(),
+            _ => unreachable!(),
+        }
+    }
+
+    /// The number of nodes of a graph; they count from 0.
+    pub fn nodes(&self, g: GraphId) -> usize
+        requires { IsGraph self.now g }
+        ensures { HasNodes self.now g result }
+    {
+        match &self.entries[g.index()] {
+            Entry::Graph(nodes, _) => *nodes,
+            _ => unreachable!(),
+        }
+    }
+
+    /// The edges of a graph.
+    pub fn edges(&self, g: GraphId) -> &[Edge]
+        requires { IsGraph self.now g }
+        ensures { HasEdges self.now g result.now }
+    {
+        match &self.entries[g.index()] {
+            Entry::Graph(_, edges) => edges.as_slice(),
+            _ => unreachable!(),
+        }
+    }
+
+    /// A mark to cut back to.
+    pub fn mark(&self) -> Mark
+        ensures { result ≡ length self.now }
+    {
+        Mark::at(self.entries.as_slice().len())
+    }
+
+    /// Takes away what came after the mark, whose arena began as this one.
+    pub fn cut(&mut self, mark: Mark)
+        requires { mark ≤ length self.old }
+        ensures cut { self.new ≡ take mark self.old }
+        ensures kept { Extends self.new self.old }
+    {
+        self.entries.truncate(mark.count());
+    }
+
+    /// What an arena keeps: each of its sets and graphs is well made. It does nothing.
+    pub fn keeps_made(&self)
+        ensures { IsWellMade self.now }
+    {
+        let _kept = &self.entries;
+    }
+}

@@ -1,0 +1,163 @@
+//! A small arena: one graph of two nodes, and what stands in it.
+ghost use Rattle.std.specs.Prelude.{◌≡◌, ◌≤◌, [], ◌∷◌, length, IfOk};
+ghost use Rattle.fill_arena.specs.Contents.{IsAtomSet, IsGraph, IsPlaceSet, IsSourceSet};
+
+use crate::*;
+use fill_edge::{Ledger, Steps};
+use fill_text::{List, NoMemory, Text};
+use fill_tokens::Place;
+use fill_tree::{Atom, Program, Source};
+use std::alloc::Global;
+use std::marker::Brand;
+use std::sync::ledger::Blank;
+use std::test::Fail;
+
+/// The atoms of the graph's one edge: the text, the whole of column 1, and its piece from the start to the end.
+fn atoms(
+    alloc: Global,
+    text: Text,
+    whole: SourceSet,
+    left: PlaceSet,
+    right: PlaceSet,
+) -> Result<List<AtomItem>, NoMemory>
+    ensures { IfOk result (λ made. made ≡ AtomItem.Const text ∷ AtomItem.Whole whole ∷ AtomItem.Sub whole left right ∷ []) }
+{
+    let mut items = List::new(alloc);
+    items.push(AtomItem::Const(text))?;
+    items.push(AtomItem::Whole(whole))?;
+    items.push(AtomItem::Sub(whole, left, right))?;
+    Ok(items)
+}
+
+/// The sources of the arena: column 1.
+fn sources(alloc: Global) -> Result<List<SourceItem>, NoMemory>
+    ensures { IfOk result (λ made. made ≡ SourceItem.Col 1 ∷ []) }
+{
+    let mut items = List::new(alloc);
+    items.push(SourceItem::Col(1))?;
+    Ok(items)
+}
+
+/// The edge from the first node to the second.
+fn edges(alloc: Global, atoms: AtomSet) -> Result<List<Edge>, NoMemory>
+    ensures { IfOk result (λ made. made ≡ (record { from = 0; to = 1; atoms = atoms }) ∷ []) }
+{
+    let mut edges = List::new(alloc);
+    edges.push(Edge {
+        from: 0,
+        to: 1,
+        atoms,
+    })?;
+    Ok(edges)
+}
+
+/// The numbers of the small arena.
+#[derive(Clone, Copy)]
+struct Numbers {
+    places: PlaceSet,
+    sources: SourceSet,
+    atoms: AtomSet,
+    graph: GraphId,
+}
+
+fn fill<L: Ledger>(
+    alloc: Global,
+    arena: &mut Arena,
+    text: Text,
+    steps: &mut Steps<L>,
+) -> Result<Numbers, NoMemory>
+    requires { length text ≤ 100 }
+    ensures { IfOk result (λ made. IsPlaceSet arena.new made.places × IsSourceSet arena.new made.sources
+        × IsAtomSet arena.new made.atoms × IsGraph arena.new made.graph) }
+{
+    let places = arena.intern_places(&[Place::CPos(0)])?;
+    let ends = arena.intern_places(&[Place::CPos(-1)])?;
+    let whole = arena.intern_sources(sources(alloc)?)?;
+    let all = arena.intern_atoms(atoms(alloc, text, whole, places, ends)?)?;
+    let graph = arena.intern_graph(2, edges(alloc, all)?, steps)?;
+    Ok(Numbers {
+        places,
+        sources: whole,
+        atoms: all,
+        graph,
+    })
+}
+
+/// The program of one atom.
+fn program(alloc: Global, atom: Atom) -> Result<Program, NoMemory> {
+    let mut atoms = List::new(alloc);
+    atoms.push(atom)?;
+    Ok(Program { atoms })
+}
+
+fn piece(left: i32, right: i32) -> Atom {
+    Atom::Sub(Source::Col(1), Place::CPos(left), Place::CPos(right))
+}
+
+fn constant(alloc: Global, characters: &str) -> Result<Atom, Fail> {
+    Ok(Atom::Const(Text::from_utf8(alloc, characters.as_bytes())?))
+}
+
+/// Programs, and whether each stands in the graph of the text `ab`.
+fn programs(alloc: Global) -> Result<List<(Program, bool)>, Fail> {
+    let mut programs = List::new(alloc);
+    programs.push((program(alloc, constant(alloc, "ab")?)?, true))?;
+    programs.push((program(alloc, Atom::Whole(Source::Col(1)))?, true))?;
+    programs.push((program(alloc, piece(0, -1))?, true))?;
+    programs.push((program(alloc, constant(alloc, "a")?)?, false))?;
+    programs.push((program(alloc, Atom::Whole(Source::Col(2)))?, false))?;
+    programs.push((program(alloc, piece(-1, 0))?, false))?;
+    programs.push((program(alloc, piece(0, 1))?, false))?;
+    let nothing = Program {
+        atoms: List::new(alloc),
+    };
+    programs.push((nothing, false))?;
+    let mut twice = List::new(alloc);
+    twice.push(constant(alloc, "ab")?)?;
+    twice.push(constant(alloc, "ab")?)?;
+    programs.push((Program { atoms: twice }, false))?;
+    Ok(programs)
+}
+
+/// What is read of the small arena: how many places, sources, atoms, nodes and edges its numbers have. None where a
+/// program stands that should not, or does not that should.
+fn read<L: Ledger>(alloc: Global, blank: Blank) -> Result<Option<[usize; 5]>, Fail>
+    requires name { blank.name ≡ L.name }
+    requires parts { blank.parts ≡ L.parts }
+    requires one { blank.parts ≡ 1 }
+{
+    let (book, share) = blank.open::<L>();
+    let mut steps: Steps<L> = Steps::new(book, share);
+    let mut arena = Arena::new(alloc);
+    let start = arena.mark();
+    let text = Text::from_utf8(alloc, b"ab")?;
+    if text.len() > 100 {
+        return Ok(None);
+    }
+    let made = fill(alloc, &mut arena, text, &mut steps)?;
+    for (p, stands) in programs(alloc)?.as_slice() {
+        if arena.holds(made.graph, p) != *stands {
+            return Ok(None);
+        }
+    }
+    let counts = [
+        arena.places(made.places).len(),
+        arena.sources(made.sources).len(),
+        arena.atoms(made.atoms).len(),
+        arena.nodes(made.graph),
+        arena.edges(made.graph).len(),
+    ];
+    arena.cut(start);
+    Ok(if arena.mark() == start {
+        Some(counts)
+    } else {
+        None
+    })
+}
+
+#[test]
+fn programs_stand_in_a_graph(rt: HostRuntime) -> Result<(), Fail> {
+    let read = read::<Brand>(rt.alloc(), Blank::new(1))?;
+    assert_eq!(rt; read, Some([1, 1, 3, 2, 1]));
+    Ok(())
+}
