@@ -1,0 +1,7 @@
+//! Graphs without the nodes that lie on no walk from the first node to the last one.
+#![tactic(auto)]
+
+mod marks;
+#[cfg(test)]
+mod tests;
+pub mod trim;
