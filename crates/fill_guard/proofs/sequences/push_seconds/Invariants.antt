@@ -1,0 +1,8 @@
+use Rattle.std.proofs.Common.{◌+◌}
+use Rattle.fill_tokens.specs.Place.{seq_cmp}
+use Rattle.fill_places.specs.Lists.{Adds}
+use Rattle.fill_guard.specs.Listed.{OfSecond}
+use Rattle.fill_guard.proofs.sequences.push_seconds.Given as goal
+
+abbrev pub invariant-loop-i : goal.invariant-loop-i
+invariant-loop-i l = Adds seq_cmp l.initial.out.items l.out.items (OfSecond l.first (l.i + 1))

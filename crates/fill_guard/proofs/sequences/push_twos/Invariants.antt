@@ -1,0 +1,8 @@
+use Rattle.std.proofs.Common.{◌+◌}
+use Rattle.fill_tokens.specs.Place.{seq_cmp}
+use Rattle.fill_places.specs.Lists.{Adds}
+use Rattle.fill_guard.specs.Listed.{OfTwo}
+use Rattle.fill_guard.proofs.sequences.push_twos.Given as goal
+
+abbrev pub invariant-loop-i : goal.invariant-loop-i
+invariant-loop-i l = Adds seq_cmp l.initial.out.items l.out.items (OfTwo (l.i + 1))
