@@ -1,0 +1,89 @@
+-- The best of an item is made of the bests of what it names.
+use Rattle.std.proofs.Common.{◌≡◌, ℕ, ◌+◌, List, refl, sym, subst, arith}
+use Rattle.std.specs.declared.cmp.Ordering.{Ordering}
+use Rattle.std.specs.Ordering.{nat_cmp, ordering_then}
+use Rattle.fill_tokens.specs.Place.{place_cost, place_cmp}
+use Rattle.fill_tokens.specs.declared.place.Place.{Place}
+use Rattle.fill_tree.specs.Cost.{source_cost, atom_cost, conditions_cost}
+use Rattle.fill_tree.specs.Grammar.{HasPart}
+use Rattle.fill_tree.specs.Order.{source_cmp, atom_cmp, atoms_cmp}
+use Rattle.fill_tree.specs.Tree.{SourceTree, AtomTree, Atoms, col, select, constant, whole, sub}
+use Rattle.fill_tree.proofs.Ranked.{nat_cmp-add, nat_cmp-same, pair-at_most}
+use Rattle.fill_tree.proofs.TreeOrder.{source_total, exact_sources, atom_total, exact_atoms}
+use Rattle.fill_arena.specs.Stands.{ConditionsFit, PlaceStands, SourceFits, SourceStands}
+use Rattle.fill_arena.specs.declared.entry.AtomItem.TheVariants.{Const, Whole, Sub}
+use Rattle.fill_arena.specs.declared.entry.Entry.{Entry}
+use Rattle.fill_arena.specs.declared.entry.SelectItem.{SelectItem}
+use Rattle.fill_arena.specs.declared.entry.SourceItem.TheVariants.{Col, Select}
+use Rattle.fill_rank.specs.Rank.{AtMost, IsBest, place_rank, source_rank, atom_rank, row_rank}
+use Rattle.fill_rank.specs.Sets.{ConstantFits, PartFits}
+use Rattle.fill_rank.proofs.Best.{rank_total, rank_exact, at_most-itself}
+
+source-itself : (x : SourceTree) → AtMost (source_rank x x)
+source-itself x = at_most-itself source_rank (rank_total source_cost source_cmp source_total) (rank_exact source_cost source_cmp exact_sources) x
+
+atom-itself : (x : AtomTree) → AtMost (atom_rank x x)
+atom-itself x = at_most-itself atom_rank (rank_total atom_cost atom_cmp atom_total) (rank_exact atom_cost atom_cmp exact_atoms) x
+
+pub best_constant : (c : List Entry) (t : List ℕ) → IsBest atom_rank (ConstantFits c (Const t)) (constant t)
+best_constant c t = record { has = ((λ h. h), refl); least = least }
+  where
+    least : (y : AtomTree) → ConstantFits c (Const t) y → AtMost (atom_rank (constant t) y)
+    least (constant u) h = subst (λ w. AtMost (atom_rank (constant t) (constant w))) h.1 (atom-itself (constant t))
+    least (whole x) h = absurd h.1
+    least (sub x p q) h = absurd h.1
+
+pub best_whole : (c : List Entry) (b : ℕ) (x : SourceTree) → IsBest source_rank (SourceStands c b) x → IsBest atom_rank (PartFits c (Whole b)) (whole x)
+best_whole c b x best = record { has = (tt, best.has); least = least }
+  where
+    least : (y : AtomTree) → PartFits c (Whole b) y → AtMost (atom_rank (whole x) y)
+    least (constant u) h = absurd h.1
+    least (whole y) h = subst (λ o. AtMost (ordering_then o (source_cmp x y))) (sym (nat_cmp-add 2 (source_cost x) (source_cost y))) (best.least y h.1)
+    least (sub y p q) h = absurd h.1
+
+sub-at_most : (x y : SourceTree) (p q r s : Place) → AtMost (source_rank x y) → AtMost (place_rank p r) → AtMost (place_rank q s) → AtMost (atom_rank (sub x p q) (sub y r s))
+sub-at_most x y p q r s h k l =
+    let places = pair-at_most (place_cost p) (place_cost r) (place_cost q) (place_cost s) (place_cmp p r) (place_cmp q s) k l in
+    let all = pair-at_most (source_cost x) (source_cost y) (place_cost p + place_cost q) (place_cost r + place_cost s) (source_cmp x y) (ordering_then (place_cmp p r) (place_cmp q s)) h places in
+    let rest = ordering_then (source_cmp x y) (ordering_then (place_cmp p r) (place_cmp q s)) in
+    let more6 = subst (λ o. AtMost (ordering_then o rest)) (sym (nat_cmp-add 6 (source_cost x + (place_cost p + place_cost q)) (source_cost y + (place_cost r + place_cost s)))) all in
+    let left : 6 + (source_cost x + (place_cost p + place_cost q)) ≡ atom_cost (sub x p q) = omega arith in
+    let right : 6 + (source_cost y + (place_cost r + place_cost s)) ≡ atom_cost (sub y r s) = omega arith in
+    subst (λ n. AtMost (ordering_then (nat_cmp n (atom_cost (sub y r s))) rest)) left
+    (subst (λ n. AtMost (ordering_then (nat_cmp (6 + (source_cost x + (place_cost p + place_cost q))) n) rest)) right more6)
+
+pub best_sub : (c : List Entry) (b l r : ℕ) (x : SourceTree) (p q : Place) → IsBest source_rank (SourceStands c b) x → IsBest place_rank (PlaceStands c l) p → IsBest place_rank (PlaceStands c r) q →
+    IsBest atom_rank (PartFits c (Sub b l r)) (sub x p q)
+best_sub c b l r x p q best left right = record { has = (tt, (best.has, left.has, right.has)); least = least }
+  where
+    least : (y : AtomTree) → PartFits c (Sub b l r) y → AtMost (atom_rank (sub x p q) y)
+    least (constant u) h = absurd h.1
+    least (whole y) h = absurd h.1
+    least (sub y s t) h = sub-at_most x y p q s t (best.least y h.1.0) (left.least s h.1.1) (right.least t h.1.2)
+
+pub best_col : (c : List Entry) (m : ℕ) → IsBest source_rank (λ y. SourceFits y c (Col m)) (col m)
+best_col c m = record { has = refl; least = least }
+  where
+    least : (y : SourceTree) → SourceFits y c (Col m) → AtMost (source_rank (col m) y)
+    least (col n) h = subst (λ k. AtMost (source_rank (col m) (col k))) h (source-itself (col m))
+    least (select k t n cs) h = absurd h
+
+then-same : (a b d : ℕ) (o : Ordering) → o ≡ ordering_then (nat_cmp a a) (ordering_then (nat_cmp b b) (ordering_then (nat_cmp d d) o))
+then-same a b d o = rw (nat_cmp-same a, nat_cmp-same b, nat_cmp-same d) refl
+
+select-at_most : (a b d : ℕ) (p q : Atoms) → AtMost (row_rank p q) → AtMost (source_rank (select a b d p) (select a b d q))
+select-at_most a b d p q h =
+    subst (λ o. AtMost (ordering_then (nat_cmp (8 + conditions_cost p) (8 + conditions_cost q)) o)) (then-same a b d (atoms_cmp p q))
+    (subst (λ o. AtMost (ordering_then o (atoms_cmp p q))) (sym (nat_cmp-add 8 (conditions_cost p) (conditions_cost q))) h)
+
+pub best_select : (c : List Entry) (i : SelectItem) (p : Atoms) → IsBest row_rank (λ q. HasPart q × ConditionsFit q c i.conditions) p →
+    IsBest source_rank (λ y. SourceFits y c (Select i)) (select i.column i.table i.key p)
+best_select c i p best = record { has = (refl, refl, refl, best.has.0, best.has.1); least = least }
+  where
+    least : (y : SourceTree) → SourceFits y c (Select i) → AtMost (source_rank (select i.column i.table i.key p) y)
+    least (col n) h = absurd h
+    least (select a b d q) h =
+        subst (λ k. AtMost (source_rank (select i.column i.table i.key p) (select k b d q))) h.0
+        (subst (λ k. AtMost (source_rank (select i.column i.table i.key p) (select i.column k d q))) h.1
+        (subst (λ k. AtMost (source_rank (select i.column i.table i.key p) (select i.column i.table k q))) h.2
+        (select-at_most i.column i.table i.key p q (best.least q (h.3, h.4)))))

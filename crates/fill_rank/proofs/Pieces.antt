@@ -1,0 +1,101 @@
+-- Small steps of the proofs about sets: what is kept of conditions, and lists from the back.
+use Rattle.std.proofs.Common.{◌≡◌, ◌⊎◌, ℕ, zero, suc, ◌+◌, List, [], ◌∷◌, length, drop, Option, Some, None, Result, Ok, Err, option_map, inl, inr, refl, ap, subst, ◌∙◌, slice_get, ◌<◌, ◌≢◌, arith}
+use Rattle.std.proofs.Math.ListN.{set}
+use Rattle.std.specs.Result.{IfOk}
+use Rattle.fill_tree.specs.Grammar.{HasPart, IsPart}
+use Rattle.fill_tree.specs.Meaning.{atom_tree}
+use Rattle.fill_tree.specs.Tree.{SourceTree, AtomTree, Atoms, col, select, constant, whole, sub}
+use Rattle.fill_tree.specs.declared.tree.Atom.{Atom}
+use Rattle.fill_tree.specs.declared.tree.Atom.TheVariants.{Const}
+use Rattle.fill_arena.specs.Stands.{AtomFits, AtomStands, ConditionFits, ConditionsFit, SourceFits}
+use Rattle.fill_arena.specs.declared.entry.ConditionItem.{ConditionItem}
+use Rattle.fill_arena.specs.declared.entry.Entry.{Entry}
+use Rattle.fill_arena.specs.declared.entry.SelectItem.{SelectItem}
+use Rattle.fill_arena.specs.declared.entry.SourceItem.TheVariants.{Select}
+use Rattle.fill_rank.specs.Rank.{IsBest, IsBestOf, IsLesser, atom_rank}
+use Rattle.fill_rank.specs.Sets.{ConstantStands, IsBestPart, IsConstantOf, PartStands}
+use Rattle.fill_rank.proofs.Best.{best_lesser, atom_rank-total, atom_rank-exact}
+use Rattle.fill_rank.proofs.Trees.{constant_tree}
+
+pub ok_on : {A E : Type 0} (P Q : A → Type 0) (r : Result A E) → IfOk r P → ((x : A) → P x → Q x) → IfOk r Q
+ok_on P Q (Ok x) h f = f x h
+ok_on P Q (Err e) h f = h
+
+pub constant_kept : (i : ConditionItem) (text copied : List ℕ) → i.constant ≡ Some text → copied ≡ text → IsConstantOf i (Some (Const copied))
+constant_kept i text copied is e = (text, is, constant_tree copied ∙ ap constant e)
+
+module _ (c : List Entry) (i : ConditionItem) where
+  part_there : (s : ℕ) → i.atoms ≡ Some s → (a : AtomTree) → PartStands c s a → IsPart a × ConditionFits a c i (AtomFits a c)
+  part_there s is (constant t) h = absurd h.0
+  part_there s is (whole x) h = (tt, (s, is, h.1))
+  part_there s is (sub x p q) h = (tt, (s, is, h.1))
+
+  there_part : (s : ℕ) → i.atoms ≡ Some s → (a : AtomTree) → IsPart a × ConditionFits a c i (AtomFits a c) → PartStands c s a
+  there_part s is (constant t) h = absurd h.0
+  there_part s is (whole x) h = let other = h.1.1 in let e : h.1.0 ≡ s = cc in (tt, subst (λ n. AtomStands c n (whole x)) e h.1.2)
+  there_part s is (sub x p q) h = let other = h.1.1 in let e : h.1.0 ≡ s = cc in (tt, subst (λ n. AtomStands c n (sub x p q)) e h.1.2)
+
+  no_part_there : i.atoms ≡ None → (a : AtomTree) → ¬ (IsPart a × ConditionFits a c i (AtomFits a c))
+  no_part_there is (constant t) h = h.0
+  no_part_there is (whole x) h = let other = h.1.1 in cc
+  no_part_there is (sub x p q) h = let other = h.1.1 in cc
+
+  pub part_kept : (s : ℕ) → i.atoms ≡ Some s → (o : Option Atom) → IsBestOf atom_tree atom_rank (PartStands c s) o → IsBestPart c i o
+  part_kept s is None h = λ a fits. h a (there_part s is a fits)
+  part_kept s is (Some x) h = record { has = part_there s is (atom_tree x) h.has; least = λ a fits. h.least a (there_part s is a fits) }
+
+  pub no_part_kept : i.atoms ≡ None → IsBestPart c i None
+  no_part_kept is = no_part_there is
+
+pub no_lookup : (c : List Entry) (i : SelectItem) → ((p : Atoms) → ¬ (HasPart p × ConditionsFit p c i.conditions)) → ¬ ((s : SourceTree) × SourceFits s c (Select i))
+no_lookup c i none h = fits h.0 h.1
+  where
+    fits : (s : SourceTree) → ¬ (SourceFits s c (Select i))
+    fits (col n) f = f
+    fits (select a b d q) f = none q (f.3, f.4)
+
+pub copied_best : (P : AtomTree → Type 0) (o copied : Option Atom) → option_map atom_tree copied ≡ option_map atom_tree o → IsBestOf atom_tree atom_rank P o → IsBestOf atom_tree atom_rank P copied
+copied_best P None None e h = h
+copied_best P None (Some y) e h = cc
+copied_best P (Some x) None e h = cc
+copied_best P (Some x) (Some y) e h = let same : atom_tree x ≡ atom_tree y = cc in subst (IsBest atom_rank P) same h
+
+pub drop_whole : {A : Type 0} (xs : List A) → drop (length xs) xs ≡ []
+drop_whole [] = refl
+drop_whole (x ∷ xs) = drop_whole xs
+
+pub drop_here : {A : Type 0} (xs : List A) (n : ℕ) (x : A) → slice_get xs n ≡ Some x → drop n xs ≡ x ∷ drop (suc n) xs
+drop_here [] n x h = cc
+drop_here (y ∷ xs) zero x h = let e : y ≡ x = cc in ap (λ z. z ∷ xs) e
+drop_here (y ∷ xs) (suc n) x h = drop_here xs n x h
+
+pub get_dropped : {A : Type 0} (xs : List A) (n k : ℕ) → slice_get (drop n xs) k ≡ slice_get xs (n + k)
+get_dropped [] zero k = refl
+get_dropped [] (suc n) k = refl
+get_dropped (x ∷ xs) zero k = let e : k ≡ 0 + k = omega arith in ap (slice_get (x ∷ xs)) e
+get_dropped (x ∷ xs) (suc n) k = let e : suc (n + k) ≡ suc n + k = omega arith in get_dropped xs n k ∙ ap (slice_get (x ∷ xs)) e
+
+module _ (c : List Entry) (s : ℕ) where
+  either : (a : AtomTree) → AtomStands c s a → ConstantStands c s a ⊎ PartStands c s a
+  either (constant t) h = inl ((λ p. p), h)
+  either (whole x) h = inr (tt, h)
+  either (sub x p q) h = inr (tt, h)
+
+  pub atom_best : (fixed part made : Option Atom) → IsLesser (λ x y. atom_rank (atom_tree x) (atom_tree y)) fixed part made →
+      IsBestOf atom_tree atom_rank (ConstantStands c s) fixed → IsBestOf atom_tree atom_rank (PartStands c s) part → IsBestOf atom_tree atom_rank (AtomStands c s) made
+  atom_best fixed part made = best_lesser atom_rank atom_rank-total atom_rank-exact atom_tree (ConstantStands c s) (PartStands c s) (AtomStands c s) either (λ a h. h.1) (λ a h. h.1) fixed part made
+
+pub set_here : {A : Type 0} (xs : List A) (n : ℕ) (v : A) → n < length xs → slice_get (set xs n v) n ≡ Some v
+set_here [] n v lt = absurd (omega arith)
+set_here (x ∷ xs) zero v lt = refl
+set_here (x ∷ xs) (suc n) v lt = set_here xs n v (omega arith)
+
+pub set_apart : {A : Type 0} (xs : List A) (n : ℕ) (v : A) (m : ℕ) → m ≢ n → slice_get (set xs n v) m ≡ slice_get xs m
+set_apart [] n v m apart = refl
+set_apart (x ∷ xs) zero v zero apart = absurd (apart refl)
+set_apart (x ∷ xs) zero v (suc m) apart = refl
+set_apart (x ∷ xs) (suc n) v zero apart = refl
+set_apart (x ∷ xs) (suc n) v (suc m) apart = set_apart xs n v m (λ e. apart (ap suc e))
+
+pub dropped_later : {A : Type 0} (xs : List A) (n left : ℕ) → suc n ≡ left → (k : ℕ) → slice_get (drop left xs) k ≡ slice_get xs (n + 1 + k)
+dropped_later xs n left next k = let same : left + k ≡ n + 1 + k = omega arith in get_dropped xs left k ∙ ap (slice_get xs) same

@@ -1,0 +1,163 @@
+-- The best rests of programs, one edge after the other from the back.
+use Rattle.std.proofs.Common.{◌≡◌, ◌≢◌, ◌⊎◌, ℕ, zero, suc, ◌+◌, ◌-◌, ◌<◌, List, [], ◌∷◌, ◌++◌, length, Option, Some, None, slice_get, inl, inr, refl, ap, sym, subst, ◌∙◌, arith}
+use Rattle.std.specs.declared.cmp.Ordering.{Ordering}
+use Rattle.std.specs.declared.cmp.Ordering.TheVariants.{Less}
+use Rattle.std.specs.Ordering.{ordering_reverse}
+use Rattle.std.proofs.lemmas.Bool.{cases_eq}
+use Rattle.fill_tree.specs.Chosen.{IsLeast}
+use Rattle.fill_tree.specs.Cost.{program_cost}
+use Rattle.fill_tree.specs.Meaning.{atom_tree, program_tree}
+use Rattle.fill_tree.specs.Order.{program_cmp}
+use Rattle.fill_tree.specs.Tree.{AtomTree, Atoms, end, more}
+use Rattle.fill_tree.specs.declared.tree.Atom.{Atom}
+use Rattle.fill_tree.proofs.ProgramOrder.{program_antisymm}
+use Rattle.fill_arena.specs.Contents.{In, HasEdges, HasNodes, IsAtomSet}
+use Rattle.fill_arena.specs.Stands.{AtomStands, ProgramStands, Walks}
+use Rattle.fill_arena.specs.WellMade.{IsWellMade, IsGraphOf, Path}
+use Rattle.fill_arena.specs.declared.entry.Edge.{Edge}
+use Rattle.fill_arena.specs.declared.entry.Entry.{Entry}
+use Rattle.fill_arena.specs.declared.entry.Entry.TheVariants.{Graph}
+use Rattle.fill_arena.proofs.Lists.{get_pushed}
+use Rattle.fill_rank.specs.Rank.{AtMost, IsBest, IsLesser, atom_rank, chain_rank}
+use Rattle.fill_rank.specs.Sets.{AreBestRests, IsBestChain, IsFirstEdge, IsPut, link_cost}
+use Rattle.fill_rank.specs.declared.chain.Chain.{Chain}
+use Rattle.fill_rank.proofs.Best.{chains_lesser}
+use Rattle.fill_rank.proofs.Put.{Starts, as_link, best_put}
+use Rattle.fill_rank.proofs.Stand.{atom_filled}
+
+same_chain : (cost : Atoms → ℕ) (P S : Atoms → Type 0) → ((p : Atoms) → S p → P p) → ((p : Atoms) → P p → S p) → (o : Option Chain) → IsBestChain cost P o → IsBestChain cost S o
+same_chain cost P S to from None h = λ p s. h p (to p s)
+same_chain cost P S to from (Some x) h = (h.0, record { has = from (program_tree x.atoms) h.1.has; least = λ p s. h.1.least p (to p s) })
+
+module _ (c : List Entry) (e : Edge) (rest : List Edge) (last : ℕ) where
+  in_rest : (k : ℕ) (f : Edge) → slice_get (e ∷ rest) k ≡ Some f → (e ≡ f) ⊎ In f rest
+  in_rest zero f h = inl cc
+  in_rest (suc k) f h = inr (k, h)
+
+  walks_more : (p : Atoms) (at : ℕ) → Walks p c rest last at → Walks p c (e ∷ rest) last at
+  walks_more end at h = h
+  walks_more (more a q) at h = (h.0, (suc h.1.0, h.1.1), (h.2.0, h.2.1, walks_more q h.0.to h.2.2))
+
+  module _ (first : IsFirstEdge e rest) where
+    walks_back : (p : Atoms) (at : ℕ) → at ≢ e.from → Walks p c (e ∷ rest) last at → Walks p c rest last at
+    walks_back end at apart h = h
+    walks_back (more a q) at apart h = elim (in_rest h.1.0 h.0 h.1.1) [
+      | inl same ↦ absurd (apart (sym (subst (λ f. f.from ≡ at) (sym same) h.2.0)))
+      | inr there ↦ (h.0, there, (h.2.0, h.2.1, walks_back q h.0.to (first.never_back h.0 there) h.2.2))
+    ]
+
+    Along : Atoms → Type 0
+    Along = Starts (AtomStands c e.atoms) (λ q. Walks q c rest last e.to)
+
+    onward : e.to ≢ e.from
+    onward same = let lt = first.onward in absurd (omega arith)
+
+    walk_splits : (p : Atoms) → Walks p c (e ∷ rest) last e.from → Walks p c rest last e.from ⊎ Starts (AtomStands c e.atoms) (λ q. Walks q c rest last e.to) p
+    walk_splits end h = inl h
+    walk_splits (more a q) h = elim (in_rest h.1.0 h.0 h.1.1) [
+      | inl same ↦
+          let stands = subst (λ f. AtomStands c f.atoms a) (sym same) h.2.1 in
+          let walk = subst (λ f. Walks q c (e ∷ rest) last f.to) (sym same) h.2.2 in
+          inr (stands, walks_back q e.to onward walk)
+      | inr there ↦ inl (h.0, there, (h.2.0, h.2.1, walks_back q h.0.to (first.never_back h.0 there) h.2.2))
+    ]
+
+    walk_along : (p : Atoms) → Starts (AtomStands c e.atoms) (λ q. Walks q c rest last e.to) p → Walks p c (e ∷ rest) last e.from
+    walk_along end h = absurd h
+    walk_along (more a q) h = (e, (0, refl), (refl, h.0, walks_more q e.to h.1))
+
+    pub edge_step : (old new : List (Option Chain)) (before next along made : Option Chain) (a : Atom) →
+        AreBestRests c rest last old → slice_get old e.from ≡ Some before → slice_get old e.to ≡ Some next →
+        IsBest atom_rank (AtomStands c e.atoms) (atom_tree a) → IsPut link_cost (Some a) next along → IsLesser chain_rank before along made →
+        slice_get new e.from ≡ Some made → ((n : ℕ) → n ≢ e.from → slice_get new n ≡ slice_get old n) → AreBestRests c (e ∷ rest) last new
+    edge_step old new before next along made a are at to best put lesser here others = record {
+      each = λ n o there. elim (cases_eq n e.from) [
+        | inl same ↦
+            let moved : slice_get new e.from ≡ Some o = subst (λ m. slice_get new m ≡ Some o) same there in
+            let one : made ≡ o = cc in
+            let adds : (b : AtomTree) (p : Atoms) → program_cost (more b p) ≡ link_cost b + program_cost p = λ b p. refl in
+            let onto = best_put link_cost program_cost adds (AtomStands c e.atoms) (λ q. Walks q c rest last e.to) (Some a) next along put
+            (as_link (AtomStands c e.atoms) (Some a) best) (are.each e.to next to) in
+            let result = chains_lesser program_cost (λ p. Walks p c rest last e.from) (Starts (AtomStands c e.atoms) (λ q. Walks q c rest last e.to)) (λ p. Walks p c (e ∷ rest) last e.from)
+            walk_splits (λ p h. walks_more p e.from h) walk_along before along made lesser (are.each e.from before at) onto in
+            subst (λ m. IsBestChain program_cost (λ p. Walks p c (e ∷ rest) last m) o) (sym same)
+            (subst (IsBestChain program_cost (λ p. Walks p c (e ∷ rest) last e.from)) one result)
+        | inr apart ↦
+            same_chain program_cost (λ p. Walks p c rest last n) (λ p. Walks p c (e ∷ rest) last n) (λ p h. walks_back p n apart h) (λ p h. walks_more p n h) o
+            (are.each n o (sym (others n apart) ∙ there))
+      ];
+    }
+
+-- without edges
+no_walk : (c : List Entry) (a : AtomTree) (q : Atoms) (last at : ℕ) → ¬ (Walks (more a q) c [] last at)
+no_walk c a q last at h = let there = h.1.1 in cc
+
+pub rests_start : (c : List Entry) (xs : List (Option Chain)) (x : Chain) → ((n : ℕ) (o : Option Chain) → slice_get xs n ≡ Some o → o ≡ None) →
+    x.cost ≡ 0 → program_tree x.atoms ≡ end → AreBestRests c [] (length xs) (xs ++ Some x ∷ [])
+rests_start c xs x none cost tree = record {
+  each = λ n o there. elim (get_pushed xs (Some x) n o there) [
+    | inl a ↦ subst (IsBestChain program_cost (λ p. Walks p c [] (length xs) n)) (sym (none n o a.1)) (nothing n a.0)
+    | inr b ↦ subst (IsBestChain program_cost (λ p. Walks p c [] (length xs) n)) b.1 (carried n b.0, subst (IsBest program_cmp (λ p. Walks p c [] (length xs) n)) (sym tree) (here n b.0))
+  ];
+}
+  where
+    nothing : (n : ℕ) → n < length xs → (p : Atoms) → ¬ (Walks p c [] (length xs) n)
+    nothing n lt end h = absurd (omega arith)
+    nothing n lt (more a q) h = no_walk c a q (length xs) n h
+
+    carried : (n : ℕ) → n ≡ length xs → x.cost ≡ program_cost (program_tree x.atoms)
+    carried n e = cost ∙ ap program_cost (sym tree)
+
+    here : (n : ℕ) → n ≡ length xs → IsBest program_cmp (λ p. Walks p c [] (length xs) n) end
+    here n e = record { has = e; least = least }
+      where
+        least : (p : Atoms) → Walks p c [] (length xs) n → AtMost (program_cmp end p)
+        least end h = inr refl
+        least (more a q) h = absurd (no_walk c a q (length xs) n h)
+
+-- the whole graph
+reversed_less : (o q : Ordering) → q ≡ ordering_reverse o → AtMost o → ¬ (q ≡ Less)
+reversed_less o q e (inl h) less = cc
+reversed_less o q e (inr h) less = cc
+
+pub least_stands : (c : List Entry) (g nodes : ℕ) (edges : List Edge) (x : Chain) → slice_get c g ≡ Some (Graph nodes edges) →
+    IsBestChain program_cost (λ p. Walks p c edges (nodes - 1) 0) (Some x) → IsLeast (ProgramStands c g) (program_tree x.atoms)
+least_stands c g nodes edges x is best = record {
+  has = (nodes, edges, is, best.1.has);
+  least = λ q h.
+      let there = h.2 in
+      let n : h.0 ≡ nodes = cc in
+      let es : h.1 ≡ edges = cc in
+      let walk = subst (λ m. Walks q c edges (m - 1) 0) n (subst (λ xs. Walks q c xs (h.0 - 1) 0) es h.3) in
+      reversed_less (program_cmp (program_tree x.atoms) q) (program_cmp q (program_tree x.atoms)) (program_antisymm q (program_tree x.atoms)) (best.1.least q walk);
+}
+
+path_walks : (c : List Entry) (made : IsWellMade c) (edges : List Edge) → ((f : Edge) → In f edges → IsAtomSet c f.atoms) → (path : List Edge) (from to : ℕ) → Path edges from path to → (p : Atoms) × Walks p c edges to from
+path_walks c made edges live [] from to h = (end, h)
+path_walks c made edges live (e ∷ rest) from to h =
+    let a = atom_filled c e.atoms made (live e h.0) in
+    let q = path_walks c made edges live rest e.to to h.2 in
+    (more a.0 q.0, (e, h.0, (h.1, a.1, q.1)))
+
+pub graph_filled : (c : List Entry) (g nodes : ℕ) (edges : List Edge) → IsWellMade c → slice_get c g ≡ Some (Graph nodes edges) → (p : Atoms) × Walks p c edges (nodes - 1) 0
+graph_filled c g nodes edges made is =
+    let all = made g (Graph nodes edges) is in
+    let path = all.to_last 0 all.some in
+    path_walks c made edges (λ f there. (all.each there.0 f there.1).atoms.0) path.0 0 (nodes - 1) path.1
+
+-- each edge is the first of those from it on
+pub first_edge : (c : List Entry) (n nodes : ℕ) (edges : List Edge) (j : ℕ) (e : Edge) (rest : List Edge) → IsGraphOf c n nodes edges → slice_get edges j ≡ Some e →
+    ((k : ℕ) → slice_get rest k ≡ slice_get edges (j + 1 + k)) → IsFirstEdge e rest
+first_edge c n nodes edges j e rest all at later = record {
+  onward = (all.each j e at).onward;
+  never_back = λ f there same.
+      let lt = all.ordered (j + 1 + there.0) j f e (sym (later there.0) ∙ there.1) at same in
+      absurd (omega arith);
+}
+
+pub the_graph : (c : List Entry) (g nodes : ℕ) (edges : List Edge) → HasNodes c g nodes → HasEdges c g edges → slice_get c g ≡ Some (Graph nodes edges)
+the_graph c g nodes edges h k =
+    let first = h.1 in
+    let second = k.1 in
+    let e : k.0 ≡ nodes = cc in
+    subst (λ n. slice_get c g ≡ Some (Graph n edges)) e k.1

@@ -1,0 +1,19 @@
+use Rattle.std.proofs.Common.{◌<◌, length, subst, ◌∙◌}
+use Rattle.std.proofs.Math.ListN.{set, length-set}
+use Rattle.fill_arena.proofs.Scan.{here}
+use Rattle.fill_rank.specs.Rank.{IsLesser, chain_rank}
+use Rattle.fill_rank.proofs.Pieces.{set_here, set_apart}
+use Rattle.fill_rank.proofs.Walk.{edge_step}
+use Rattle.fill_rank.proofs.graph.take_edge.Goals as goal
+
+pub returns-clause-best : goal.returns-clause-best
+returns-clause-best c last others first are =
+    let old = c.args.rests.now.items in
+    let e = c.args.edge in
+    let emptied = set old e.from c.take-before.new.self in
+    let made = c.lesser.result in
+    let lt : e.from < length emptied = simp length-set c.requires.from in
+    edge_step c.args.arena.now e others last first old (set emptied e.from made) c.index_mut.result.now c.index.result.now c.in_ok-along.along made c.in_ok-atom_of.field-0 are
+    (here old e.from c.index_mut.result.now c.requires.from c.index_mut.ensures.value) (here old e.to c.index.result.now c.requires.to c.index.ensures)
+    c.in_ok-atom_of.ensures.best c.in_ok-along.ensures (subst (λ o. IsLesser chain_rank o c.in_ok-along.along made) c.take-before.ensures.value c.lesser.ensures)
+    (set_here emptied e.from made lt) (λ n apart. set_apart emptied e.from made n apart ∙ set_apart old e.from c.take-before.new.self n apart)

@@ -1,0 +1,16 @@
+use Rattle.std.proofs.Common.{nat_eq}
+use Rattle.std.specs.HashMap.{get}
+use Rattle.fill_tree.specs.Meaning.{atom_tree}
+use Rattle.fill_rank.specs.Rank.{IsBestOf, atom_rank}
+use Rattle.fill_rank.specs.Sets.{PartStands}
+use Rattle.fill_rank.proofs.Maps.{put_right}
+use Rattle.fill_rank.proofs.known.Known.keep_part.Goals as goal
+
+pub returns-in-Ok : goal.returns-in-Ok
+returns-in-Ok c cs known best =
+    let u = c.in-Ok.ensures.updates in
+    record {
+      places = known.places;
+      sources = known.sources;
+      parts = put_right (λ q. get nat_eq c.args.self.now.parts q) (λ q. get nat_eq c.insert.new.self q) (λ q o. IsBestOf atom_tree atom_rank (PartStands cs q) o) c.args.s c.args.o u.1 u.2 known.parts best;
+    }

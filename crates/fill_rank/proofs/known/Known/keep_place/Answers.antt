@@ -1,0 +1,15 @@
+use Rattle.std.proofs.Common.{nat_eq}
+use Rattle.std.specs.HashMap.{get}
+use Rattle.fill_arena.specs.Stands.{PlaceStands}
+use Rattle.fill_rank.specs.Rank.{IsBest, place_rank}
+use Rattle.fill_rank.proofs.Maps.{put_right}
+use Rattle.fill_rank.proofs.known.Known.keep_place.Goals as goal
+
+pub returns-in-Ok : goal.returns-in-Ok
+returns-in-Ok c cs known best =
+    let u = c.in-Ok.ensures.updates in
+    record {
+      places = put_right (λ q. get nat_eq c.args.self.now.places q) (λ q. get nat_eq c.insert.new.self q) (λ q p. IsBest place_rank (PlaceStands cs q) p) c.args.s c.args.p.now u.1 u.2 known.places best;
+      sources = known.sources;
+      parts = known.parts;
+    }

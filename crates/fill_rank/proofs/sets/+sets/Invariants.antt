@@ -1,0 +1,56 @@
+use Rattle.std.proofs.Common.{◌+◌, ◌*◌, ◌≤◌, length, drop}
+use Rattle.fill_tree.specs.Meaning.{atom_tree, source_tree}
+use Rattle.fill_arena.specs.Stands.{SourceFits}
+use Rattle.fill_rank.specs.Known.{AreKnown}
+use Rattle.fill_rank.specs.Rank.{IsBestOf, atom_rank, source_rank}
+use Rattle.fill_rank.specs.Sets.{AreBestRows, PartFits, SomeBelow}
+use Rattle.fill_rank.proofs.sets.+sets.Given as goal
+
+abbrev pub decreases-source_of : goal.decreases-source_of
+decreases-source_of l = 8 * l.s + 7
+
+abbrev pub decreases-scan_sources : goal.decreases-scan_sources
+decreases-scan_sources l = 8 * l.s + 6
+
+abbrev pub decreases-source_in : goal.decreases-source_in
+decreases-source_in l = 8 * l.set + 5
+
+abbrev pub decreases-lookup_in : goal.decreases-lookup_in
+decreases-lookup_in l = 8 * l.set + 4
+
+abbrev pub decreases-rows_of : goal.decreases-rows_of
+decreases-rows_of l = 8 * l.set + 3
+
+abbrev pub decreases-longer_rows : goal.decreases-longer_rows
+decreases-longer_rows l = 8 * l.set + 2
+
+abbrev pub decreases-part_of : goal.decreases-part_of
+decreases-part_of l = 8 * l.s + 2
+
+abbrev pub decreases-scan_parts : goal.decreases-scan_parts
+decreases-scan_parts l = 8 * l.s + 1
+
+abbrev pub decreases-part_in : goal.decreases-part_in
+decreases-part_in l = 8 * l.set
+
+abbrev pub invariant-scan_sources-loop-item : goal.invariant-scan_sources-loop-item
+invariant-scan_sources-loop-item l = record {
+  known : AreKnown l.arena l.known;
+  best : IsBestOf source_tree source_rank (λ x. SomeBelow l.item-index l.items (λ y. SourceFits x l.arena y)) l.best;
+}
+
+abbrev pub invariant-scan_parts-loop-item : goal.invariant-scan_parts-loop-item
+invariant-scan_parts-loop-item l = record {
+  known : AreKnown l.arena l.known;
+  best : IsBestOf atom_tree atom_rank (λ a. SomeBelow l.item-index l.items (λ y. PartFits l.arena y a)) l.best;
+}
+
+abbrev pub invariant-rows_of-loop-left : goal.invariant-rows_of-loop-left
+invariant-rows_of-loop-left l = record {
+  within : l.left ≤ length l.items;
+  known : AreKnown l.arena l.known;
+  best : AreBestRows l.arena (drop l.left l.items) l.rows;
+}
+
+abbrev pub decreases-rows_of-loop-left : goal.decreases-rows_of-loop-left
+decreases-rows_of-loop-left l = l.left

@@ -1,0 +1,19 @@
+-- What was found of an arena's sets.
+use Rattle.std.specs.Prelude.{◌≡◌, ℕ, List, Option, Some}
+use Rattle.std.specs.HashMap.{get}
+use Rattle.std.specs.Bool.{nat_eq}
+use Rattle.fill_tokens.specs.declared.place.Place.{Place}
+use Rattle.fill_tree.specs.Meaning.{atom_tree, source_tree}
+use Rattle.fill_tree.specs.declared.tree.Atom.{Atom}
+use Rattle.fill_tree.specs.declared.tree.Source.{Source}
+use Rattle.fill_arena.specs.Stands.{PlaceStands, SourceStands}
+use Rattle.fill_arena.specs.declared.entry.Entry.{Entry}
+use Rattle.fill_rank.specs.Rank.{IsBest, IsBestOf, place_rank, source_rank, atom_rank}
+use Rattle.fill_rank.specs.Sets.{PartStands}
+use Rattle.fill_rank.specs.declared.known.Known.{Known}
+
+-- each of them is the best of its set
+pub record AreKnown (c : List Entry) (known : Known) : Type 0 where
+  pub places : (s : ℕ) (p : Place) → get nat_eq known.places s ≡ Some p → IsBest place_rank (PlaceStands c s) p
+  pub sources : (s : ℕ) (x : Source) → get nat_eq known.sources s ≡ Some x → IsBest source_rank (SourceStands c s) (source_tree x)
+  pub parts : (s : ℕ) (o : Option Atom) → get nat_eq known.parts s ≡ Some o → IsBestOf atom_tree atom_rank (PartStands c s) o

@@ -1,0 +1,111 @@
+//! Chains of atoms with what they cost: rows of conditions, and the ends of programs.
+ghost use Rattle.std.specs.Prelude.{◌≡◌, ◌+◌, ◌≤◌, ◌^◌, ◌↔◌, IsTrue, IfOk, IfSome, IfNone};
+ghost use Rattle.std.specs.declared.cmp.Ordering.TheVariants.{Less};
+ghost use Rattle.fill_tree.specs.Cost.{condition_cost};
+ghost use Rattle.fill_tree.specs.Meaning.{atom_tree, program_tree};
+ghost use Rattle.fill_tree.specs.Tree.{more};
+ghost use Rattle.fill_rank.specs.Rank.{IsLesser, chain_rank};
+ghost use Rattle.fill_rank.specs.Sets.{IsPut, link_cost};
+
+use fill_text::{List, NoMemory};
+use fill_tree::{Atom, Program};
+use std::alloc::Global;
+use std::cmp::Ordering;
+
+/// Atoms and what they cost together.
+#[derive(Debug, Drop)]
+pub(crate) struct Chain {
+    pub cost: u64,
+    pub atoms: Program,
+}
+
+fn chain_before(a: &Chain, b: &Chain) -> bool
+    ensures { IsTrue result ↔ (chain_rank a.now b.now ≡ Less) }
+{
+    a.cost.cmp(&b.cost).then(a.atoms.compare(&b.atoms)) == Ordering::Less
+}
+
+/// The lesser of two chains that may be absent.
+pub(crate) fn lesser(best: Option<Chain>, next: Option<Chain>) -> Option<Chain>
+    ensures { IsLesser chain_rank best next result }
+{
+    let Some(known) = best else {
+        return next;
+    };
+    let Some(other) = next else {
+        return Some(known);
+    };
+    Some(if chain_before(&other, &known) {
+        other
+    } else {
+        known
+    })
+}
+
+/// The cost of an atom as a condition of a lookup: a constant costs the same whatever its text.
+fn cost_as_condition(atom: &Atom) -> Option<u64>
+    ensures some { IfSome result (λ n. n ≡ condition_cost (atom_tree atom.now)) }
+    ensures none { IfNone result (2 ^ 64 ≤ condition_cost (atom_tree atom.now)) }
+{
+    match atom {
+        Atom::Const(_) => Some(15),
+        _ => atom.cost()?.checked_add(2),
+    }
+}
+
+/// The atom and then the atoms of the rest.
+fn followed_by(alloc: Global, atom: &Atom, rest: &Program) -> Result<Program, NoMemory>
+    ensures { IfOk result (λ made. program_tree made ≡ more (atom_tree atom.now) (program_tree rest.now)) }
+{
+    let mut atoms = List::new(alloc);
+    atoms.push(atom.copy(alloc)?)?;
+    for next in rest.atoms.as_slice() {
+        atoms.push(next.copy(alloc)?)?;
+    }
+    Ok(Program { atoms })
+}
+
+/// A condition before a row of conditions; none where either is absent.
+pub(crate) fn put_condition(
+    alloc: Global,
+    atom: &Option<Atom>,
+    row: &Option<Chain>,
+) -> Result<Option<Chain>, NoMemory>
+    ensures { IfOk result (λ made. IsPut condition_cost atom.now row.now made) }
+{
+    let (Some(atom), Some(row)) = (atom, row) else {
+        return Ok(None);
+    };
+    let Some(own) = cost_as_condition(atom) else {
+        return Err(NoMemory);
+    };
+    let Some(cost) = own.checked_add(row.cost) else {
+        return Err(NoMemory);
+    };
+    let atoms = followed_by(alloc, atom, &row.atoms)?;
+    Ok(Some(Chain { cost, atoms }))
+}
+
+/// An atom before the rest of a program; none where either is absent.
+pub(crate) fn put_atom(
+    alloc: Global,
+    atom: &Option<Atom>,
+    rest: &Option<Chain>,
+) -> Result<Option<Chain>, NoMemory>
+    ensures { IfOk result (λ made. IsPut link_cost atom.now rest.now made) }
+{
+    let (Some(atom), Some(rest)) = (atom, rest) else {
+        return Ok(None);
+    };
+    let Some(own) = atom.cost() else {
+        return Err(NoMemory);
+    };
+    let Some(with_rest) = own.checked_add(rest.cost) else {
+        return Err(NoMemory);
+    };
+    let Some(cost) = with_rest.checked_add(5) else {
+        return Err(NoMemory);
+    };
+    let atoms = followed_by(alloc, atom, &rest.atoms)?;
+    Ok(Some(Chain { cost, atoms }))
+}

@@ -1,0 +1,80 @@
+//! What was found of sets already, so that each is looked at once.
+ghost use Rattle.std.specs.Prelude.{List as Items, IfSome, OnOk};
+ghost use Rattle.fill_tree.specs.Meaning.{atom_tree, source_tree};
+ghost use Rattle.fill_arena.specs.Stands.{PlaceStands, SourceStands};
+ghost use Rattle.fill_arena.specs.declared.entry.Entry.{Entry};
+ghost use Rattle.fill_rank.specs.Known.{AreKnown};
+ghost use Rattle.fill_rank.specs.Rank.{IsBest, IsBestOf, atom_rank, place_rank, source_rank};
+ghost use Rattle.fill_rank.specs.Sets.{PartStands};
+
+use fill_arena::{AtomSet, PlaceSet, SourceSet};
+use fill_text::NoMemory;
+use fill_tokens::Place;
+use fill_tree::{Atom, Source};
+use std::alloc::Global;
+use std::collections::HashMap;
+
+/// The best of sets: of a set of atoms the best that is no constant, if any.
+#[derive(Drop)]
+pub(crate) struct Known {
+    places: HashMap<PlaceSet, Place>,
+    sources: HashMap<SourceSet, Source>,
+    parts: HashMap<AtomSet, Option<Atom>>,
+}
+
+impl Known {
+    pub fn new(alloc: Global) -> Known
+        ensures { (c : Items Entry) → AreKnown c result }
+    {
+        Known {
+            places: HashMap::new(alloc),
+            sources: HashMap::new(alloc),
+            parts: HashMap::new(alloc),
+        }
+    }
+
+    pub fn place(&self, s: PlaceSet) -> Option<Place>
+        ensures { (c : Items Entry) → AreKnown c self.now → IfSome result (λ p. IsBest place_rank (PlaceStands c s) p) }
+    {
+        self.places.get(&s).copied()
+    }
+
+    pub fn source(&self, s: SourceSet) -> Option<&Source>
+        ensures { (c : Items Entry) → AreKnown c self.now → IfSome result (λ x. IsBest source_rank (SourceStands c s) (source_tree x.now)) }
+    {
+        self.sources.get(&s)
+    }
+
+    pub fn part(&self, s: AtomSet) -> Option<&Option<Atom>>
+        ensures { (c : Items Entry) → AreKnown c self.now → IfSome result (λ o. IsBestOf atom_tree atom_rank (PartStands c s) o.now) }
+    {
+        self.parts.get(&s)
+    }
+
+    pub fn keep_place(&mut self, s: PlaceSet, p: &Place) -> Result<(), NoMemory>
+        ensures { OnOk result ((c : Items Entry) → AreKnown c self.old → IsBest place_rank (PlaceStands c s) p.now → AreKnown c self.new) }
+    {
+        match self.places.insert(s, *p) {
+            Ok(_) => Ok(()),
+            Err(_) => Err(NoMemory),
+        }
+    }
+
+    pub fn keep_source(&mut self, s: SourceSet, x: Source) -> Result<(), NoMemory>
+        ensures { OnOk result ((c : Items Entry) → AreKnown c self.old → IsBest source_rank (SourceStands c s) (source_tree x) → AreKnown c self.new) }
+    {
+        match self.sources.insert(s, x) {
+            Ok(_) => Ok(()),
+            Err(_) => Err(NoMemory),
+        }
+    }
+
+    pub fn keep_part(&mut self, s: AtomSet, o: Option<Atom>) -> Result<(), NoMemory>
+        ensures { OnOk result ((c : Items Entry) → AreKnown c self.old → IsBestOf atom_tree atom_rank (PartStands c s) o → AreKnown c self.new) }
+    {
+        match self.parts.insert(s, o) {
+            Ok(_) => Ok(()),
+            Err(_) => Err(NoMemory),
+        }
+    }
+}

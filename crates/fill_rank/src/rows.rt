@@ -1,0 +1,52 @@
+//! The best rows of conditions of a lookup.
+ghost use Rattle.std.specs.Prelude.{◌∷◌, [], List as Items, IfOk};
+ghost use Rattle.fill_arena.specs.declared.entry.ConditionItem.{ConditionItem};
+ghost use Rattle.fill_arena.specs.declared.entry.Entry.{Entry};
+ghost use Rattle.fill_rank.specs.Sets.{AreBestRows, IsBestPart, IsConstantOf};
+
+use crate::chain::{Chain, lesser, put_condition};
+use fill_text::{List, NoMemory};
+use fill_tree::{Atom, Program};
+use std::alloc::Global;
+
+/// The best row of conditions, and the best of those that are not constants alone. Some items have no such row.
+#[derive(Debug, Drop)]
+pub(crate) struct Rows {
+    pub any: Option<Chain>,
+    pub mixed: Option<Chain>,
+}
+
+/// The row without conditions, which has no part.
+pub(crate) fn no_conditions(alloc: Global) -> Rows
+    ensures { (c : Items Entry) → AreBestRows c [] result }
+{
+    let atoms = Program {
+        atoms: List::new(alloc),
+    };
+    Rows {
+        any: Some(Chain { cost: 0, atoms }),
+        mixed: None,
+    }
+}
+
+/// The rows with one condition more at the front: a constant or the best of the others.
+///
+/// A row that is not of constants alone begins with such a condition, or has one after a constant.
+pub(crate) fn put_in_front(
+    alloc: Global,
+    constant: Option<Atom>,
+    part: Option<Atom>,
+    rows: Rows,
+) -> Result<Rows, NoMemory>
+    ensures { IfOk result (λ made. (c : Items Entry) (i : ConditionItem) (is : Items ConditionItem) →
+        IsConstantOf i constant → IsBestPart c i part → AreBestRows c is rows → AreBestRows c (i ∷ is) made) }
+{
+    let from_constant = put_condition(alloc, &constant, &rows.any)?;
+    let from_part = put_condition(alloc, &part, &rows.any)?;
+    let part_later = put_condition(alloc, &constant, &rows.mixed)?;
+    let part_now = put_condition(alloc, &part, &rows.any)?;
+    Ok(Rows {
+        any: lesser(from_constant, from_part),
+        mixed: lesser(part_later, part_now),
+    })
+}

@@ -1,0 +1,301 @@
+//! The best of sets of places, sources and atoms.
+//!
+//! The best of a product of sets is the product of the bests, since costs add up and parts are compared one after the
+//! other. Lookups are no such product, for not all of their conditions may be constants: see [`Rows`].
+ghost use Rattle.std.specs.Prelude.{◌≡◌, ◌∷◌, List as Items, IfOk, OnOk, option_map};
+ghost use Rattle.fill_tree.specs.Meaning.{atom_tree, source_tree};
+ghost use Rattle.fill_arena.specs.Contents.{EachIn, IsAtomSet, IsPlaceSet, IsSourceSet};
+ghost use Rattle.fill_arena.specs.Stands.{AtomStands, PlaceStands, SourceFits, SourceStands};
+ghost use Rattle.fill_arena.specs.WellMade.{IsAtomItem, IsConditionItem, IsSelectItem, IsSourceItem};
+ghost use Rattle.fill_arena.specs.declared.entry.ConditionItem.{ConditionItem as Listed};
+ghost use Rattle.fill_arena.specs.declared.entry.Entry.{Entry};
+ghost use Rattle.fill_rank.specs.Known.{AreKnown};
+ghost use Rattle.fill_rank.specs.Rank.{IsBest, IsBestOf, atom_rank, place_rank, source_rank};
+ghost use Rattle.fill_rank.specs.Sets.{AreBestRows, ConstantFits, ConstantStands, PartFits, PartStands};
+
+use crate::known::Known;
+use crate::pick::{least_place, lesser_atom, lesser_source};
+use crate::rows::{Rows, no_conditions, put_in_front};
+use fill_arena::{
+    Arena, AtomItem, AtomSet, ConditionItem, PlaceSet, SelectItem, SourceItem, SourceSet,
+};
+use fill_text::NoMemory;
+use fill_tokens::Place;
+use fill_tree::{Atom, Select, Source};
+use std::alloc::Global;
+
+/// The best place of a set.
+fn place_of(arena: &Arena, known: &mut Known, s: PlaceSet) -> Result<Place, NoMemory>
+    requires set { IsPlaceSet arena.now s }
+    requires known { AreKnown arena.now known.old }
+    ensures known { OnOk result (AreKnown arena.now known.new) }
+    ensures best { IfOk result (λ p. IsBest place_rank (PlaceStands arena.now s) p) }
+{
+    if let Some(found) = known.place(s) {
+        return Ok(found);
+    }
+    arena.keeps_made();
+    let best = least_place(arena.places(s));
+    known.keep_place(s, &best)?;
+    Ok(best)
+}
+
+/// The best source of a set.
+#[cycle(sets)]
+fn source_of(
+    alloc: Global,
+    arena: &Arena,
+    known: &mut Known,
+    s: SourceSet,
+) -> Result<Source, NoMemory>
+    requires set { IsSourceSet arena.now s }
+    requires known { AreKnown arena.now known.old }
+    ensures known { OnOk result (AreKnown arena.now known.new) }
+    ensures best { IfOk result (λ x. IsBest source_rank (SourceStands arena.now s) (source_tree x)) }
+{
+    if let Some(found) = known.source(s) {
+        return found.copy(alloc);
+    }
+    let best = scan_sources(alloc, arena, known, s)?;
+    known.keep_source(s, best.copy(alloc)?)?;
+    Ok(best)
+}
+
+#[cycle(sets)]
+fn scan_sources(
+    alloc: Global,
+    arena: &Arena,
+    known: &mut Known,
+    s: SourceSet,
+) -> Result<Source, NoMemory>
+    requires set { IsSourceSet arena.now s }
+    requires known { AreKnown arena.now known.old }
+    ensures known { OnOk result (AreKnown arena.now known.new) }
+    ensures best { IfOk result (λ x. IsBest source_rank (SourceStands arena.now s) (source_tree x)) }
+{
+    arena.keeps_made();
+    let items = arena.sources(s);
+    let mut best: Option<Source> = None;
+    for item in items {
+        let next = source_in(alloc, arena, known, s, item)?;
+        best = lesser_source(best, next)?;
+    }
+    let Some(source) = best else { unreachable!() };
+    Ok(source)
+}
+
+/// The best source that an item of the set stands for.
+#[cycle(sets)]
+fn source_in(
+    alloc: Global,
+    arena: &Arena,
+    known: &mut Known,
+    set: SourceSet,
+    item: &SourceItem,
+) -> Result<Source, NoMemory>
+    requires item { IsSourceItem arena.now set item.now }
+    requires known { AreKnown arena.now known.old }
+    ensures known { OnOk result (AreKnown arena.now known.new) }
+    ensures best { IfOk result (λ x. IsBest source_rank (λ y. SourceFits y arena.now item.now) (source_tree x)) }
+{
+    match item {
+        SourceItem::Col(column) => Ok(Source::Col(*column)),
+        SourceItem::Select(listed) => lookup_in(alloc, arena, known, set, listed),
+    }
+}
+
+#[cycle(sets)]
+fn lookup_in(
+    alloc: Global,
+    arena: &Arena,
+    known: &mut Known,
+    set: SourceSet,
+    item: &SelectItem,
+) -> Result<Source, NoMemory>
+    requires item { IsSelectItem arena.now set item.now }
+    requires known { AreKnown arena.now known.old }
+    ensures known { OnOk result (AreKnown arena.now known.new) }
+    ensures best { IfOk result (λ x. IsBest source_rank (λ y. SourceFits y arena.now (SourceItem.Select item.now)) (source_tree x)) }
+{
+    let rows = rows_of(alloc, arena, known, set, item.conditions.as_slice())?;
+    let Rows { any: _any, mixed } = rows;
+    let Some(row) = mixed else { unreachable!() };
+    let select = Select {
+        column: item.column,
+        table: item.table,
+        key: item.key,
+        conditions: row.atoms.atoms,
+    };
+    Ok(Source::Select(Box::new(alloc, select)?))
+}
+
+/// The best rows of conditions, put together from the last condition on.
+#[cycle(sets)]
+fn rows_of(
+    alloc: Global,
+    arena: &Arena,
+    known: &mut Known,
+    set: SourceSet,
+    items: &[ConditionItem],
+) -> Result<Rows, NoMemory>
+    requires items { EachIn (IsConditionItem arena.now set) items.now }
+    requires known { AreKnown arena.now known.old }
+    ensures known { OnOk result (AreKnown arena.now known.new) }
+    ensures best { IfOk result (λ rows. AreBestRows arena.now items.now rows) }
+{
+    let mut rows = no_conditions(alloc);
+    let mut left = items.len();
+    while left > 0 {
+        left -= 1;
+        rows = longer_rows(alloc, arena, known, set, &items[left], rows)?;
+    }
+    Ok(rows)
+}
+
+#[cycle(sets)]
+fn longer_rows(
+    alloc: Global,
+    arena: &Arena,
+    known: &mut Known,
+    set: SourceSet,
+    item: &ConditionItem,
+    rows: Rows,
+) -> Result<Rows, NoMemory>
+    requires item { IsConditionItem arena.now set item.now }
+    requires known { AreKnown arena.now known.old }
+    ensures known { OnOk result (AreKnown arena.now known.new) }
+    ensures best { IfOk result (λ made. (is : Items Listed) → AreBestRows arena.now is rows → AreBestRows arena.now (item.now ∷ is) made) }
+{
+    let constant = match &item.constant {
+        Some(text) => Some(Atom::Const(text.copy()?)),
+        None => None,
+    };
+    let part = match item.atoms {
+        Some(atoms) => part_of(alloc, arena, known, atoms)?,
+        None => None,
+    };
+    put_in_front(alloc, constant, part, rows)
+}
+
+fn copy_of(alloc: Global, atom: &Option<Atom>) -> Result<Option<Atom>, NoMemory>
+    ensures { IfOk result (λ copied. option_map atom_tree copied ≡ option_map atom_tree atom.now) }
+{
+    match atom {
+        Some(atom) => Ok(Some(atom.copy(alloc)?)),
+        None => Ok(None),
+    }
+}
+
+/// The best atom of a set that is no constant, if any.
+#[cycle(sets)]
+fn part_of(
+    alloc: Global,
+    arena: &Arena,
+    known: &mut Known,
+    s: AtomSet,
+) -> Result<Option<Atom>, NoMemory>
+    requires set { IsAtomSet arena.now s }
+    requires known { AreKnown arena.now known.old }
+    ensures known { OnOk result (AreKnown arena.now known.new) }
+    ensures best { IfOk result (λ o. IsBestOf atom_tree atom_rank (PartStands arena.now s) o) }
+{
+    if let Some(found) = known.part(s) {
+        return copy_of(alloc, found);
+    }
+    let best = scan_parts(alloc, arena, known, s)?;
+    known.keep_part(s, copy_of(alloc, &best)?)?;
+    Ok(best)
+}
+
+#[cycle(sets)]
+fn scan_parts(
+    alloc: Global,
+    arena: &Arena,
+    known: &mut Known,
+    s: AtomSet,
+) -> Result<Option<Atom>, NoMemory>
+    requires set { IsAtomSet arena.now s }
+    requires known { AreKnown arena.now known.old }
+    ensures known { OnOk result (AreKnown arena.now known.new) }
+    ensures best { IfOk result (λ o. IsBestOf atom_tree atom_rank (PartStands arena.now s) o) }
+{
+    arena.keeps_made();
+    let items = arena.atoms(s);
+    let mut best: Option<Atom> = None;
+    for item in items {
+        let next = part_in(alloc, arena, known, s, item)?;
+        best = lesser_atom(best, next)?;
+    }
+    Ok(best)
+}
+
+/// The best atom that an item of the set stands for, if it is no constant.
+#[cycle(sets)]
+fn part_in(
+    alloc: Global,
+    arena: &Arena,
+    known: &mut Known,
+    set: AtomSet,
+    item: &AtomItem,
+) -> Result<Option<Atom>, NoMemory>
+    requires item { IsAtomItem arena.now set item.now }
+    requires known { AreKnown arena.now known.old }
+    ensures known { OnOk result (AreKnown arena.now known.new) }
+    ensures best { IfOk result (λ o. IsBestOf atom_tree atom_rank (λ a. PartFits arena.now item.now a) o) }
+{
+    match item {
+        AtomItem::Const(_) => Ok(None),
+        AtomItem::Whole(sources) => Ok(Some(Atom::Whole(source_of(
+            alloc, arena, known, *sources,
+        )?))),
+        AtomItem::Sub(sources, lefts, rights) => {
+            let source = source_of(alloc, arena, known, *sources)?;
+            let left = place_of(arena, known, *lefts)?;
+            let right = place_of(arena, known, *rights)?;
+            Ok(Some(Atom::Sub(source, left, right)))
+        }
+    }
+}
+
+/// The constant that an item stands for, if it is one.
+fn constant_in(item: &AtomItem) -> Result<Option<Atom>, NoMemory>
+    ensures { (c : Items Entry) → IfOk result (λ o. IsBestOf atom_tree atom_rank (λ a. ConstantFits c item.now a) o) }
+{
+    match item {
+        AtomItem::Const(text) => Ok(Some(Atom::Const(text.copy()?))),
+        _ => Ok(None),
+    }
+}
+
+/// The best constant of a set, if any.
+fn constant_of(arena: &Arena, s: AtomSet) -> Result<Option<Atom>, NoMemory>
+    requires { IsAtomSet arena.now s }
+    ensures { IfOk result (λ o. IsBestOf atom_tree atom_rank (ConstantStands arena.now s) o) }
+{
+    let mut best: Option<Atom> = None;
+    for item in arena.atoms(s) {
+        best = lesser_atom(best, constant_in(item)?)?;
+    }
+    Ok(best)
+}
+
+/// The best atom of a set.
+pub(crate) fn atom_of(
+    alloc: Global,
+    arena: &Arena,
+    known: &mut Known,
+    s: AtomSet,
+) -> Result<Atom, NoMemory>
+    requires set { IsAtomSet arena.now s }
+    requires known { AreKnown arena.now known.old }
+    ensures known { OnOk result (AreKnown arena.now known.new) }
+    ensures best { IfOk result (λ a. IsBest atom_rank (AtomStands arena.now s) (atom_tree a)) }
+{
+    arena.keeps_made();
+    let constant = constant_of(arena, s)?;
+    let part = part_of(alloc, arena, known, s)?;
+    let Some(atom) = lesser_atom(constant, part)? else {
+        unreachable!()
+    };
+    Ok(atom)
+}
