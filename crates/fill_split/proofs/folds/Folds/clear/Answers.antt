@@ -1,0 +1,7 @@
+use Rattle.fill_split.proofs.Placing.{stand_start}
+use Rattle.fill_split.proofs.folds.Folds.clear.Goals as goal
+
+pub returns : goal.returns
+returns g c =
+    let m = g.M.Maker in
+    λ maker. stand_start (m.stands maker) (m.fits (m.base maker)) _ _ c.new.ensures c.clear.ensures.items
