@@ -1,0 +1,129 @@
+-- The programs of the product's walks are those of both graphs.
+use Rattle.std.proofs.Common.{◌≡◌, ◌↔◌, ℕ, zero, suc, ◌+◌, ◌-◌, ◌*◌, ◌<◌, ◌≤◌, inl, List, length, Option, Some, None, Result, Ok, Err, slice_get, refl, sym, subst, arith}
+use Rattle.std.specs.Prelude.{IfOk, MatchOption}
+use Rattle.fill_text.specs.declared.error.NoMemory.{NoMemory}
+use Rattle.std.proofs.Math.Nat.{suc-mul}
+use Rattle.fill_tree.specs.Tree.{Atoms}
+use Rattle.fill_arena.specs.Contents.{Extends, HasNodes, HasEdges}
+use Rattle.fill_arena.specs.Stands.{ProgramStands, Walks}
+use Rattle.fill_arena.specs.WellMade.{IsWellMade, IsGraphOf, OlderAtoms}
+use Rattle.fill_arena.specs.declared.entry.Entry.{Entry}
+use Rattle.fill_arena.specs.declared.entry.Entry.TheVariants as kind
+use Rattle.fill_arena.specs.declared.entry.Edge.{Edge}
+use Rattle.fill_arena.proofs.Grows.{programs_stay}
+use Rattle.fill_arena.proofs.Sets.{one_graph, program_by_walk}
+use Rattle.fill_trim.specs.Marks.{HasNoWalk}
+use Rattle.fill_trim.specs.Trim.{AreEdges, IsTrimmed}
+use Rattle.fill_trim.specs.declared.trim.Trimmed.{Trimmed}
+use Rattle.fill_meet.specs.Meet.{NoneInBoth, IsMeet}
+use Rattle.fill_meet.specs.Product.{IsProduct, ArePairable}
+use Rattle.fill_meet.specs.Walked.{IsWalked}
+use Rattle.fill_meet.proofs.Grows.{atoms_within}
+use Rattle.fill_meet.proofs.Products.{product_stays}
+use Rattle.fill_meet.proofs.WalksOn.{walk_sets, trimmed_walks, product_walks, walks_product, product_short, corner}
+
+pub graph_edges : (c : List Entry) (n nodes : ℕ) (edges : List Edge) → IsGraphOf c n nodes edges → AreEdges nodes edges
+graph_edges c n nodes edges g = record { onward = λ k e h. (let x = g.each k e h in (x.onward, x.within)); ordered = g.ordered }
+
+pub positive_product : (h w : ℕ) → 0 < h → 0 < w → 0 < h * w
+positive_product zero w a b = absurd (omega arith)
+positive_product (suc h) w a b = let one = suc-mul h w in omega arith
+
+module _ (c : List Entry) (a b height width : ℕ) (xs ys : List Edge) (made : IsWellMade c) (ha : slice_get c a ≡ Some (kind.Graph height xs)) (hb : slice_get c b ≡ Some (kind.Graph width ys)) where
+  pub are_pairable : ArePairable c height width xs ys
+  are_pairable =
+      let ga = made a (kind.Graph height xs) ha in
+      let gb = made b (kind.Graph width ys) hb in
+      record {
+        first = graph_edges c a height xs ga;
+        second = graph_edges c b width ys gb;
+        left = λ k e h. (ga.each k e h).atoms.0;
+        right = λ k e h. (gb.each k e h).atoms.0;
+      }
+
+  pub some_nodes : 0 < height * width
+  some_nodes = positive_product height width (made a (kind.Graph height xs) ha).some (made b (kind.Graph width ys) hb).some
+
+  stands_by_walk : (e : List Entry) → Extends c e → (g nodes : ℕ) (edges : List Edge) → slice_get c g ≡ Some (kind.Graph nodes edges) → (p : Atoms) → Walks p e edges (nodes - 1) 0 ↔ ProgramStands c g p
+  stands_by_walk e o g nodes edges h p =
+      let there = o g (kind.Graph nodes edges) h in
+      let now = program_by_walk e g nodes nodes edges edges p (Walks p e edges (nodes - 1) 0) there there (λ w. w, λ w. w) in
+      let stay = programs_stay c e made o g p (nodes, edges, h) in
+      (λ w. stay.1 (now.0 w), λ s. now.1 (stay.0 s))
+
+  module _ (d : List Entry) (o : Extends c d) (edges : List Edge) (product : IsProduct d width xs ys edges) where
+    product_stands : (e : List Entry) → Extends d e → (p : Atoms) → Walks p e edges (height * width - 1) 0 ↔ (ProgramStands c a p × ProgramStands c b p)
+    product_stands e q p =
+        let oe : Extends c e = λ n x h. q n x (o n x h) in
+        let ga = made a (kind.Graph height xs) ha in
+        let gb = made b (kind.Graph width ys) hb in
+        let ah = ga.some in
+        let bw = gb.some in
+        let whole = product_stays d e q width xs ys edges product in
+        let ey = graph_edges c b width ys gb in
+        let at : height * width - 1 ≡ (height - 1) * width + (width - 1) = corner height width ah bw in
+        let start : 0 ≡ 0 * width + 0 = omega arith in
+        let sa = stands_by_walk e oe a height xs ha p in
+        let sb = stands_by_walk e oe b width ys hb p in (
+          λ w.
+              let both = product_walks e width xs ys edges ey whole p 0 0 (height - 1) (width - 1) 0 bw (omega arith) start (subst (λ n. Walks p e edges n 0) at w) in
+              (sa.0 both.0, sb.0 both.1),
+          λ h. subst (λ n. Walks p e edges n 0) (sym at) (walks_product e width xs ys edges ey whole p 0 0 (height - 1) (width - 1) 0 start (inl refl) (sa.1 h.0) (sb.1 h.1)),
+        )
+
+    pub none_stands : HasNoWalk (height * width) edges → NoneInBoth c a b
+    none_stands none p h =
+        let w = walk_sets p d edges (height * width - 1) 0 ((product_stands d (λ n x k. k) p).1 h) in
+        none w.0 w.1
+
+    module _ (t : Trimmed) (trimmed : IsTrimmed (height * width) edges t) where
+      trimmed_graph : IsGraphOf d (length d) t.nodes t.edges
+      trimmed_graph =
+          let ga = made a (kind.Graph height xs) ha in
+          let gb = made b (kind.Graph width ys) hb in
+          let short = product_short d width xs ys edges (graph_edges c b width ys gb) product ga.short in
+          record {
+            some = trimmed.some;
+            each = λ k e h.
+                (let on = trimmed.are.onward k e h in
+                let f = trimmed.kept k e h in
+                let s = product.sound f.1.0 f.0 f.1.1 in
+                let set = (s.4.2.met.some d (λ n x i. i)).1 in
+                record { onward = on.0; within = on.1; atoms = subst (λ n. OlderAtoms d (length d) n) f.2 (atoms_within d f.0.atoms (set.0, set.1)) });
+            from_first = trimmed.from_first;
+            to_last = trimmed.to_last;
+            short = λ from to path walk.
+                (let old = trimmed.short from to path walk in
+                subst (λ n. n ≤ 100) old.4 (short old.0 old.1 old.2 old.3));
+            ordered = trimmed.are.ordered;
+          }
+
+      pub walked : IsWalked c a b d t
+      walked =
+          record {
+            graph = trimmed_graph;
+            walks = λ e q p.
+                (let first = trimmed_walks (height * width) edges t trimmed e p in
+                let second = product_stands e q p in
+                (λ w. second.0 (first.0 w), λ h. first.1 (second.1 h)));
+          }
+
+    pub walked_result : (nodes : ℕ) → nodes ≡ height * width → (r : Result (Option Trimmed) NoMemory) → IfOk r (λ made. MatchOption made (HasNoWalk nodes edges) (IsTrimmed nodes edges))
+        → IfOk r (λ made. MatchOption made (NoneInBoth c a b) (IsWalked c a b d))
+    walked_result nodes e (Ok None) h = none_stands (subst (λ n. HasNoWalk n edges) e h)
+    walked_result nodes e (Ok (Some t)) h = walked t (subst (λ n. IsTrimmed n edges t) e h)
+    walked_result nodes e (Err x) h = h
+
+pub graph_is : (c : List Entry) (g nodes : ℕ) (edges : List Edge) → HasNodes c g nodes → HasEdges c g edges → slice_get c g ≡ Some (kind.Graph nodes edges)
+graph_is c g nodes edges hn he =
+    let one = one_graph c g nodes he.0 hn.0 edges hn.1 he.1 in
+    subst (λ m. slice_get c g ≡ Some (kind.Graph m edges)) (sym one.0) he.1
+
+pub is_meet : (c : List Entry) (a b : ℕ) (d e : List Entry) (t : Trimmed) (g : ℕ) → IsWalked c a b d t → Extends d e → slice_get e g ≡ Some (kind.Graph t.nodes t.edges) → IsMeet c a b e g
+is_meet c a b d e t g w o at = (
+  (t.nodes, t.edges, at),
+  λ p.
+      let now = program_by_walk e g t.nodes t.nodes t.edges t.edges p (Walks p e t.edges (t.nodes - 1) 0) at at (λ x. x, λ x. x) in
+      let both = w.walks e o p in
+      (λ s. both.0 (now.1 s), λ s. now.0 (both.1 s)),
+)

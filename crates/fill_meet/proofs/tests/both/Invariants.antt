@@ -1,0 +1,4 @@
+use Rattle.fill_meet.proofs.tests.both.Given as goal
+
+abbrev pub ghosts-met : goal.ghosts-met
+ghosts-met a = record { name = a.blank.name; parts = a.blank.parts }

@@ -1,0 +1,81 @@
+//! Copies of what sets list.
+ghost use Rattle.std.specs.Prelude.{◌≡◌, IfOk};
+
+use fill_arena::{AtomItem, ConditionItem, SelectItem, SourceItem};
+use fill_text::{List, NoMemory, Text};
+use std::alloc::Global;
+
+/// The items of a set of atoms.
+pub(crate) fn copy_atoms(alloc: Global, items: &[AtomItem]) -> Result<List<AtomItem>, NoMemory>
+    ensures { IfOk result (λ copied. copied ≡ items.now) }
+{
+    let mut copied = List::new(alloc);
+    for item in items {
+        copied.push(copy_atom(item)?)?;
+    }
+    Ok(copied)
+}
+
+fn copy_atom(item: &AtomItem) -> Result<AtomItem, NoMemory>
+    ensures { IfOk result (λ copied. copied ≡ item.now) }
+{
+    match item {
+        AtomItem::Const(text) => Ok(AtomItem::Const(text.copy()?)),
+        AtomItem::Whole(sources) => Ok(AtomItem::Whole(*sources)),
+        AtomItem::Sub(sources, lefts, rights) => Ok(AtomItem::Sub(*sources, *lefts, *rights)),
+    }
+}
+
+/// The items of a set of sources.
+pub(crate) fn copy_sources(
+    alloc: Global,
+    items: &[SourceItem],
+) -> Result<List<SourceItem>, NoMemory>
+    ensures { IfOk result (λ copied. copied ≡ items.now) }
+{
+    let mut copied = List::new(alloc);
+    for item in items {
+        copied.push(copy_source(alloc, item)?)?;
+    }
+    Ok(copied)
+}
+
+fn copy_source(alloc: Global, item: &SourceItem) -> Result<SourceItem, NoMemory>
+    ensures { IfOk result (λ copied. copied ≡ item.now) }
+{
+    match item {
+        SourceItem::Col(column) => Ok(SourceItem::Col(*column)),
+        SourceItem::Select(select) => Ok(SourceItem::Select(SelectItem {
+            column: select.column,
+            table: select.table,
+            key: select.key,
+            conditions: copy_conditions(alloc, select.conditions.as_slice())?,
+        })),
+    }
+}
+
+fn copy_conditions(
+    alloc: Global,
+    conditions: &[ConditionItem],
+) -> Result<List<ConditionItem>, NoMemory>
+    ensures { IfOk result (λ copied. copied ≡ conditions.now) }
+{
+    let mut copied = List::new(alloc);
+    for condition in conditions {
+        copied.push(copy_condition(condition)?)?;
+    }
+    Ok(copied)
+}
+
+fn copy_condition(condition: &ConditionItem) -> Result<ConditionItem, NoMemory>
+    ensures { IfOk result (λ copied. copied ≡ condition.now) }
+{
+    let constant = match &condition.constant {
+        Some(text) => Some(text.copy()?),
+        None => None,
+    };
+    Ok(ConditionItem {
+        constant,
+        atoms: condition.atoms,
+    })
+}

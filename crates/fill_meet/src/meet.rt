@@ -1,0 +1,110 @@
+//! The intersection of graphs.
+ghost use Rattle.std.specs.Prelude.{◌≡◌, ◌+◌, IfOk, OnErr, IfNone, MatchOption};
+ghost use Rattle.fill_arena.specs.Contents.{Extends, HasEdges, IsGraph};
+ghost use Rattle.fill_meet.specs.Meet.{IsMeet, NoneInBoth};
+ghost use Rattle.fill_meet.specs.Walked.{IsWalked};
+
+use crate::memo::Memo;
+use crate::product::pair_edges;
+use fill_arena::{Arena, Edge, GraphId};
+use fill_edge::{Ledger, Steps};
+use fill_text::{List, NoMemory};
+use fill_trim::trim::{Trimmed, trim};
+use std::alloc::Global;
+
+/// The graph of the programs that stand in both graphs, or none where there are none.
+///
+/// Where it makes no graph, it leaves the arena as it was. It takes one step, whatever it answers.
+pub fn meet<L: Ledger>(
+    alloc: Global,
+    arena: &mut Arena,
+    a: GraphId,
+    b: GraphId,
+    steps: &mut Steps<L>,
+) -> Result<Option<GraphId>, NoMemory>
+    requires first { IsGraph arena.old a }
+    requires second { IsGraph arena.old b }
+    ensures met { IfOk result (λ made. MatchOption made (NoneInBoth arena.old a b) (IsMeet arena.old a b arena.new)) }
+    ensures none { IfOk result (λ made. IfNone made (arena.new ≡ arena.old)) }
+    ensures kept { Extends arena.old arena.new }
+    ensures err { OnErr result (arena.new ≡ arena.old) }
+    ensures step { steps.new ≡ steps.old + 1 }
+{
+    let mark = arena.mark();
+    match meet_uncut(alloc, arena, a, b, steps) {
+        Ok(Some(made)) => Ok(Some(made)),
+        Ok(None) => {
+            arena.cut(mark);
+            Ok(None)
+        }
+        Err(e) => {
+            arena.cut(mark);
+            Err(e)
+        }
+    }
+}
+
+/// The same, with the sets of the product left in the arena.
+fn meet_uncut<L: Ledger>(
+    alloc: Global,
+    arena: &mut Arena,
+    a: GraphId,
+    b: GraphId,
+    steps: &mut Steps<L>,
+) -> Result<Option<GraphId>, NoMemory>
+    requires first { IsGraph arena.old a }
+    requires second { IsGraph arena.old b }
+    ensures met { IfOk result (λ made. MatchOption made (NoneInBoth arena.old a b) (IsMeet arena.old a b arena.new)) }
+    ensures kept { Extends arena.old arena.new }
+    ensures step { steps.new ≡ steps.old + 1 }
+{
+    match meet_walks(alloc, arena, a, b) {
+        Ok(Some(walked)) => match arena.intern_graph(walked.nodes, walked.edges, steps) {
+            Ok(made) => Ok(Some(made)),
+            Err(e) => Err(e),
+        },
+        Ok(None) => {
+            steps.tick();
+            Ok(None)
+        }
+        Err(e) => {
+            steps.tick();
+            Err(e)
+        }
+    }
+}
+
+/// The product of the two graphs, without the nodes that lie on no walk.
+fn meet_walks(
+    alloc: Global,
+    arena: &mut Arena,
+    a: GraphId,
+    b: GraphId,
+) -> Result<Option<Trimmed>, NoMemory>
+    requires first { IsGraph arena.old a }
+    requires second { IsGraph arena.old b }
+    ensures met { IfOk result (λ made. MatchOption made (NoneInBoth arena.old a b) (IsWalked arena.old a b arena.new)) }
+    ensures kept { Extends arena.old arena.new }
+{
+    arena.keeps_made();
+    let height = arena.nodes(a);
+    let width = arena.nodes(b);
+    let xs = copy_edges(alloc, arena, a)?;
+    let ys = copy_edges(alloc, arena, b)?;
+    let Some(nodes) = height.checked_mul(width) else {
+        return Err(NoMemory);
+    };
+    let mut memo = Memo::new(alloc);
+    let edges = pair_edges(arena, &mut memo, width, nodes, xs.as_slice(), ys.as_slice())?;
+    trim(alloc, nodes, edges.as_slice())
+}
+
+/// The edges of the graph.
+fn copy_edges(alloc: Global, arena: &Arena, g: GraphId) -> Result<List<Edge>, NoMemory>
+    requires { IsGraph arena.now g }
+    ensures { IfOk result (HasEdges arena.now g) }
+{
+    let mut edges = List::new(alloc);
+    edges.append(arena.edges(g))?;
+    Ok(edges)
+}
