@@ -1,10 +1,13 @@
 -- The notation of trees: each tree's one spelling.
-use Rattle.std.specs.Prelude.{ℕ, List, [], ◌∷◌, ◌++◌, codes, encode_utf8, ◌==◌, if◌then◌else◌}
+use Rattle.std.specs.Prelude.{ℕ, List, [], ◌∷◌, ◌++◌, codes, encode_utf8, Option, Some, None, ◌==◌, if◌then◌else◌}
 use Rattle.std.specs.Fmt.{decimal, signed_decimal}
 use Rattle.fill_tokens.specs.Token.{token_name}
 use Rattle.fill_tokens.specs.declared.token.Token.{Token}
 use Rattle.fill_tokens.specs.declared.place.Place.{Place}
 use Rattle.fill_tokens.specs.declared.place.Place.TheVariants.{CPos, Pos}
+use Rattle.fill_tree.specs.Switch.{CaseTree, SwitchTree}
+use Rattle.fill_tree.specs.declared.guard.Literal.{Literal}
+use Rattle.fill_tree.specs.declared.guard.Guard.{Guard}
 use Rattle.fill_tree.specs.Tree.{SourceTree, AtomTree, Atoms, col, select, constant, whole, sub, end, more}
 
 -- the tokens' names after the first one, each behind a blank
@@ -54,3 +57,25 @@ atoms_text (more a rest) = atom_text a ++ after_commas rest
 
 abbrev pub program_text : Atoms → List ℕ
 program_text p = codes "Concat(" ++ atoms_text p ++ codes ")"
+
+-- a literal, behind a mark where it is negated
+abbrev pub literal_text : Literal → List ℕ
+literal_text l = (if l.negated then codes "!" else []) ++ codes "Match(" ++ decimal l.column ++ codes "," ++ seq_text l.seq ++ codes "," ++ decimal l.least ++ codes ")"
+
+-- a guard's second literal, where it has one
+abbrev pub second_text : Option Literal → List ℕ
+second_text None = []
+second_text (Some l) = codes "&" ++ literal_text l
+
+abbrev pub guard_text : Guard → List ℕ
+guard_text g = literal_text g.first ++ second_text g.second
+
+abbrev pub case_text : CaseTree → List ℕ
+case_text c = guard_text c.guard ++ codes "=>" ++ program_text c.program ++ codes ";"
+
+abbrev pub cases_text : List CaseTree → List ℕ
+cases_text [] = []
+cases_text (c ∷ cs) = case_text c ++ cases_text cs
+
+abbrev pub switch_text : SwitchTree → List ℕ
+switch_text s = codes "Switch(" ++ cases_text s.cases ++ codes "else=>" ++ program_text s.last ++ codes ")"

@@ -1,11 +1,13 @@
-//! The notation of programs, in which a user reads them.
+//! The notation of programs, guards and conditional programs, in which a user reads them.
 //!
 //! It has no blanks but the one between two tokens and those inside of texts, and each tree has one spelling.
 #![tactic(auto)]
 
+mod guards;
 mod pieces;
 mod trees;
 
+pub use guards::{print_guard, print_switch};
 pub use trees::print_program;
 
 #[cfg(test)]

@@ -27,7 +27,7 @@ fn put_signed(to: &mut List<u8>, n: i32) -> Result<(), NoMemory>
     put(to, buffer.format(n))
 }
 
-fn put_seq(to: &mut List<u8>, seq: &Seq) -> Result<(), NoMemory>
+pub(crate) fn put_seq(to: &mut List<u8>, seq: &Seq) -> Result<(), NoMemory>
     ensures { OnOk result (to.new ≡ to.old ++ seq_text seq.now) }
 {
     put(to, "[")?;

@@ -89,13 +89,20 @@ fn put_atoms(to: &mut List<u8>, atoms: &[Atom]) -> Result<(), NoMemory>
     }
 }
 
+/// Puts a program at the end.
+pub(crate) fn put_program(to: &mut List<u8>, program: &Program) -> Result<(), NoMemory>
+    ensures { OnOk result (to.new ≡ to.old ++ program_text (program_tree program.now)) }
+{
+    put(to, "Concat(")?;
+    put_atoms(to, program.atoms.as_slice())?;
+    put(to, ")")
+}
+
 /// The notation of a program, as `Concat(Whole(Col(1)),Const('!'))`.
 pub fn print_program(alloc: Global, program: &Program) -> Result<List<u8>, NoMemory>
     ensures { IfOk result (λ bytes. bytes ≡ program_text (program_tree program.now)) }
 {
     let mut bytes = List::new(alloc);
-    put(&mut bytes, "Concat(")?;
-    put_atoms(&mut bytes, program.atoms.as_slice())?;
-    put(&mut bytes, ")")?;
+    put_program(&mut bytes, program)?;
     Ok(bytes)
 }
