@@ -15,8 +15,8 @@ use Rattle.fill_tokens.specs.Span.{Begins}
 use Rattle.fill_tokens.specs.Place.{seq_cmp}
 use Rattle.fill_tokens.specs.declared.token.Token.{Token}
 use Rattle.fill_tokens.proofs.CountLaws.{count_unique}
-use Rattle.fill_places.specs.Lists.{Lists}
-use Rattle.fill_places.proofs.ListsLaws.{lists_append}
+use Rattle.fill_text.specs.Lists.{Lists}
+use Rattle.fill_text.proofs.ListsLaws.{lists_append}
 use Rattle.fill_places.proofs.HopLaws.{contains_read, read_contains}
 use Rattle.fill_tree.specs.Guard.{HasMatches, NegatedWhere, LiteralHolds}
 use Rattle.fill_tree.specs.Separate.{IsLiteral, IsTested, literal_cmp}

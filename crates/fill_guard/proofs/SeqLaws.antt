@@ -9,8 +9,8 @@ use Rattle.fill_tokens.specs.Place.{seq_cmp}
 use Rattle.fill_tokens.specs.declared.token.Token.{Token}
 use Rattle.fill_tokens.specs.declared.token.Token.TheVariants.{Start, End}
 use Rattle.fill_tokens.proofs.TokenLaws.{number_exact, number_within}
-use Rattle.fill_places.specs.Lists.{Lists, Adds}
-use Rattle.fill_places.proofs.ListsLaws.{adds_none, adds_one, adds_then, adds_all}
+use Rattle.fill_text.specs.Lists.{Lists, Adds}
+use Rattle.fill_text.proofs.ListsLaws.{adds_none, adds_one, adds_then, adds_all}
 use Rattle.fill_places.proofs.OrderLaws.{shorter_less, behind_less, front_less, number_some}
 use Rattle.fill_tree.specs.Separate.{IsTested}
 use Rattle.fill_guard.specs.Listed.{OfOne, OfPair, OfSecond, OfTwo}

@@ -5,7 +5,7 @@
 //! tells the rows apart as well. And from the first literal on that holds on no row outside no other one is needed.
 ghost use Rattle.std.specs.Prelude.{◌≡◌, ℕ, ◌≤◌, ◌+◌, ◌++◌, ◌∷◌, [], length, All, Contains, IfOk, OnOk, IsTrue, ◌↔◌};
 ghost use Rattle.fill_tokens.specs.Place.{seq_cmp};
-ghost use Rattle.fill_places.specs.Lists.{Lists};
+ghost use Rattle.fill_text.specs.Lists.{Lists};
 ghost use Rattle.fill_tree.specs.Separate.{IsTested};
 ghost use Rattle.fill_guard.specs.Read.{IsRowOf};
 ghost use Rattle.fill_guard.specs.Kept.{KeepsCounted, KeepsRead, Keeps, OnlyLiteral, OfLeast, OfSigns, OfSeqs, OfColumn};

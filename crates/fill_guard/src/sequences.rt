@@ -1,7 +1,7 @@
 //! The sequences that literals test for.
 ghost use Rattle.std.specs.Prelude.{◌≡◌, ◌≢◌, ◌↔◌, ◌<◌, ◌+◌, ◌++◌, ◌∷◌, [], IfOk, OnOk, IsTrue};
 ghost use Rattle.fill_tokens.specs.Place.{seq_cmp};
-ghost use Rattle.fill_places.specs.Lists.{Lists, Adds};
+ghost use Rattle.fill_text.specs.Lists.{Lists, Adds};
 ghost use Rattle.fill_tree.specs.Separate.{IsTested};
 ghost use Rattle.fill_guard.specs.Listed.{OfOne, OfPair, OfSecond, OfTwo};
 

@@ -1,7 +1,6 @@
 pub mod EntryLaws
 pub mod HopLaws
 pub mod LayerLaws
-pub mod ListsLaws
 pub mod MarkLaws
 pub mod OrderLaws
 pub mod PairLaws

@@ -12,12 +12,12 @@ use Rattle.fill_tokens.specs.declared.token.Token.{Token}
 use Rattle.fill_tokens.specs.declared.place.Place.{Place}
 use Rattle.fill_tokens.specs.declared.place.Place.TheVariants.{CPos, Pos}
 use Rattle.fill_tokens.proofs.CountLaws.{count_unique, count_some, count_same}
-use Rattle.fill_places.specs.Lists.{Adds}
+use Rattle.fill_text.specs.Lists.{Adds}
 use Rattle.fill_places.specs.Marks.{AreMarks, Common}
 use Rattle.fill_places.specs.Sides.{IsLeft, IsRight, LeftAt, RightAt}
 use Rattle.fill_places.specs.Wanted.{FittingFixed, FittingPair, FixedOf, PairOf, Counts}
 use Rattle.fill_places.proofs.OrderLaws.{plus_first, minus_first, seq_same}
-use Rattle.fill_places.proofs.ListsLaws.{adds_then}
+use Rattle.fill_text.proofs.ListsLaws.{adds_then}
 
 -- the fixed places
 module _ (t : List ℕ) (k b : ℕ) (back : k + b ≡ length t) where

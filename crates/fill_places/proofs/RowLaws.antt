@@ -11,13 +11,13 @@ use Rattle.fill_tokens.specs.declared.token.Token.{Token}
 use Rattle.fill_tokens.specs.declared.place.Place.{Place}
 use Rattle.fill_tokens.specs.declared.place.Place.TheVariants.{CPos, Pos}
 use Rattle.fill_places.specs.declared.entry.Entry.{Entry}
-use Rattle.fill_places.specs.Lists.{Lists, Adds}
+use Rattle.fill_text.specs.Lists.{Lists, Adds}
 use Rattle.fill_places.specs.Marks.{AreMarks}
 use Rattle.fill_places.specs.Sides.{LeftAt, RightAt}
 use Rattle.fill_places.specs.Entries.{AreInOrder, AreLefts, AreRights, IsMarkedAt}
 use Rattle.fill_places.specs.Wanted.{IsWanted, FixedOf, PairOf, RowOf, FromLeft, FromLefts}
 use Rattle.fill_places.proofs.OrderLaws.{seq_same, less_nat, nat_less}
-use Rattle.fill_places.proofs.ListsLaws.{adds_none, adds_one, adds_same, adds_then, adds_all}
+use Rattle.fill_text.proofs.ListsLaws.{adds_none, adds_one, adds_same, adds_then, adds_all}
 
 wanted_cut : (t : List ℕ) (k : ℕ) (a b : List Token) (c : ℤ) → IsWanted t k (Pos a b c) → IsCut a b t k
 wanted_cut t k a b (pos c) h = h.1.1

@@ -3,7 +3,7 @@ ghost use Rattle.std.specs.Prelude.{◌≡◌, ◌≤◌, length, IfOk};
 ghost use Rattle.fill_tokens.specs.Place.{place_cmp};
 ghost use Rattle.fill_tokens.specs.Value.{HasValue};
 ghost use Rattle.fill_tokens.specs.PlaceGrammar.{IsPlace};
-ghost use Rattle.fill_places.specs.Lists.{Lists};
+ghost use Rattle.fill_text.specs.Lists.{Lists};
 
 use crate::entry::Entry;
 use crate::hops::{hops_back, hops_forth};

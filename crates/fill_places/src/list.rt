@@ -4,7 +4,7 @@ ghost use Rattle.std.specs.Ordering.{nat_cmp};
 ghost use Rattle.fill_tokens.specs.Place.{place_cmp};
 ghost use Rattle.fill_tokens.specs.Value.{HasValue};
 ghost use Rattle.fill_tokens.specs.PlaceGrammar.{IsPlace};
-ghost use Rattle.fill_places.specs.Lists.{Lists, Adds};
+ghost use Rattle.fill_text.specs.Lists.{Lists, Adds};
 ghost use Rattle.fill_places.specs.Marks.{AreMarks};
 ghost use Rattle.fill_places.specs.Sides.{LeftAt};
 ghost use Rattle.fill_places.specs.Entries.{AreLefts, AreRights, IsMarkedAt};

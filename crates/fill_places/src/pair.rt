@@ -5,7 +5,7 @@ ghost use Rattle.fill_tokens.specs.Value.{IsCount};
 ghost use Rattle.fill_tokens.specs.Place.{place_cmp};
 ghost use Rattle.fill_tokens.specs.declared.place.Place.{Place};
 ghost use Rattle.fill_tokens.specs.declared.place.Place.TheVariants.{CPos, Pos};
-ghost use Rattle.fill_places.specs.Lists.{Adds};
+ghost use Rattle.fill_text.specs.Lists.{Adds};
 ghost use Rattle.fill_places.specs.Marks.{AreMarks, Common};
 ghost use Rattle.fill_places.specs.Sides.{LeftAt, RightAt};
 ghost use Rattle.fill_places.specs.Wanted.{PairOf, FixedOf, FittingFixed, FittingPair, Counts};

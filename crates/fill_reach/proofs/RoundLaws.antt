@@ -10,7 +10,7 @@ use Rattle.std.proofs.lemmas.List.Kept.{AllPairs-filter}
 use Rattle.std.proofs.lemmas.List.Elements.{All-contains, Contains-get_or, filter_passes}
 use Rattle.fill_text.specs.Data.{SheetData, TableData}
 use Rattle.fill_tables.specs.Tables.{AreTables}
-use Rattle.fill_places.specs.Lists.{Lists}
+use Rattle.fill_text.specs.Lists.{Lists}
 use Rattle.fill_tree.specs.Tree.{select}
 use Rattle.fill_tree.specs.Grammar.{greatest_depth, source_depth}
 use Rattle.fill_tree.specs.declared.user.Settings.{Settings}

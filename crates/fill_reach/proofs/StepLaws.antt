@@ -8,8 +8,8 @@ use Rattle.std.proofs.lemmas.List.Elements.{All-append, All-nil, All-cons}
 use Rattle.std.proofs.lemmas.Option.{slice_get-get_or, slice_get_within, get_or_from_slice_get, slice_get-map}
 use Rattle.fill_text.specs.Data.{SheetData, TableData, cell_at, key_at, table_cell_at, width_at}
 use Rattle.fill_tables.specs.Tables.{key_count, row_count}
-use Rattle.fill_places.specs.Lists.{Lists}
-use Rattle.fill_places.proofs.ListsLaws.{adds_none, adds_one, adds_same, adds_then, adds_all}
+use Rattle.fill_text.specs.Lists.{Lists}
+use Rattle.fill_text.proofs.ListsLaws.{adds_none, adds_one, adds_same, adds_then, adds_all}
 use Rattle.fill_reach.specs.Marks.{AreTexts, IsNew, IsNewCell}
 use Rattle.fill_reach.specs.Spots.{AddsRows, Spot, Gains, HasFree, IsFree, IsFreeCell, IsInputCell, IsKeyCell, IsKeyOf, IsPieceOf, IsPieceOfSome, IsShort, IsSpot, spot_cmp, spot_of}
 use Rattle.fill_reach.specs.declared.rows.ReachedRow.{ReachedRow}

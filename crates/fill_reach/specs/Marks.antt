@@ -4,7 +4,7 @@ use Rattle.fill_text.specs.Data.{SheetData, TableData}
 use Rattle.fill_tree.specs.Tree.{SourceTree, Atoms, select}
 use Rattle.fill_tree.specs.Grammar.{IsSource, source_depth}
 use Rattle.fill_tree.specs.Value.{SourceIs}
-use Rattle.fill_places.specs.Lists.{Lists}
+use Rattle.fill_text.specs.Lists.{Lists}
 use Rattle.fill_reach.specs.Reach.{Picks}
 use Rattle.fill_reach.specs.Spots.{Spot, IsFreeCell, IsInputCell, IsShort, IsSpot, KeepScalars, Touches, spot_of, spot_cmp}
 use Rattle.fill_reach.specs.declared.rows.ReachedRow.{ReachedRow}

@@ -5,7 +5,7 @@ use Rattle.std.specs.declared.cmp.Ordering.{Ordering}
 use Rattle.std.specs.Ordering.{nat_cmp, ordering_then}
 use Rattle.fill_text.specs.Data.{SheetData, TableData, cell_at, key_at, table_cell_at, width_at}
 use Rattle.fill_tables.specs.Tables.{key_count, row_count}
-use Rattle.fill_places.specs.Lists.{Adds}
+use Rattle.fill_text.specs.Lists.{Adds}
 use Rattle.fill_reach.specs.declared.rows.ReachedRow.{ReachedRow}
 
 -- a row of a table by a key

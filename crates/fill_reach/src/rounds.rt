@@ -5,7 +5,7 @@
 //! no row is looked for in a text twice; where it made none known, no row is reached any more.
 ghost use Rattle.std.specs.Prelude.{◌≡◌, ◌≤◌, All, Contains, IfOk, length, map};
 ghost use Rattle.fill_tables.specs.Tables.{AreTables};
-ghost use Rattle.fill_places.specs.Lists.{Lists};
+ghost use Rattle.fill_text.specs.Lists.{Lists};
 ghost use Rattle.fill_reach.specs.Marks.{AreMarkedAs, IsMarkedAs};
 ghost use Rattle.fill_reach.specs.Reach.{IsReached, reached_cmp};
 ghost use Rattle.fill_reach.specs.Spots.{IsSpot, spot_of};

@@ -2,7 +2,7 @@
 ghost use Rattle.std.specs.Prelude.{◌≡◌, ◌≤◌, ◌↔◌, IsTrue, All, IfOk, OnOk, length, map, nat_lt};
 ghost use Rattle.std.specs.List.{filter};
 ghost use Rattle.fill_tables.specs.Tables.{AreTables, column_count};
-ghost use Rattle.fill_places.specs.Lists.{Lists};
+ghost use Rattle.fill_text.specs.Lists.{Lists};
 ghost use Rattle.fill_reach.specs.Spots.{AddsRows, HasFree, IsFree, IsKeyOf, IsSpot, spot_cmp, spot_of};
 
 use fill_tables::Tables;

@@ -1,5 +1,5 @@
 //! The project's list.
-ghost use Rattle.std.specs.Prelude.{◌≡◌, [], ◌∷◌, ◌++◌, length, OnOk, OnErr};
+ghost use Rattle.std.specs.Prelude.{◌≡◌, [], ◌∷◌, ◌++◌, length, IfOk, OnOk, OnErr};
 
 use crate::NoMemory;
 use std::alloc::Global;
@@ -32,6 +32,28 @@ impl<T> List<T> {
         List {
             items: Vec::new(alloc),
         }
+    }
+
+    /// The empty list with room for so many items, so that as many pushes take no memory.
+    pub fn with_capacity(alloc: Global, capacity: usize) -> Result<List<T>, NoMemory>
+        ensures { IfOk result (λ list. list ≡ []) }
+    {
+        let items = Vec::with_capacity(alloc, capacity)?;
+        Ok(List { items })
+    }
+
+    /// The list of the items of a vector, which are not copied.
+    pub fn from_vec(items: Vec<T>) -> List<T>
+        ensures { result ≡ items.items }
+    {
+        List { items }
+    }
+
+    /// The vector of the items, which are not copied.
+    pub fn into_vec(self) -> Vec<T>
+        ensures { result.items ≡ self }
+    {
+        self.items
     }
 
     /// The number of items.

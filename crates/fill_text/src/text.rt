@@ -60,7 +60,7 @@ impl Text {
     /// The number of characters.
     pub fn len(&self) -> usize
         ensures value { result ≡ length self.now }
-        ensures small { result < 2 ^ 62 }
+        ensures small { result < 2 ^ 61 }
     {
         self.chars.as_slice().len()
     }

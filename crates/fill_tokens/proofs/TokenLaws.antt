@@ -1,6 +1,6 @@
 -- The numbers and the names of tokens tell them apart, and the list of all tokens has each at its number.
 use Rattle.std.proofs.Common.{◌≡◌, ◌<◌, ◌≤◌, ℕ, zero, suc, ◌+◌, ◌-◌, ◌==◌, ◌&&◌, Bool, true, false, List, [], ◌∷◌, length, get_or, Some, slice_get, refl, ap, sym, ◌∙◌, inl, inr, arith, subst, eqb-true, add-zero}
-use Rattle.std.specs.Prelude.{◌≢◌, find, nat_eq, Option}
+use Rattle.std.specs.Prelude.{◌≢◌, ◌↔◌, find, nat_eq, Option}
 use Rattle.std.specs.Cmp.Lexicographic.{pointwise}
 use Rattle.std.specs.Ordering.{nat_cmp, on}
 use Rattle.std.proofs.lemmas.Bool.{cases_order, and_parts}
@@ -8,8 +8,9 @@ use Rattle.std.proofs.lemmas.Option.{same_Some, get_or_from_slice_get, slice_get
 use Rattle.std.proofs.lemmas.Cmp.{nat_list_eq_equiv}
 use Rattle.std.proofs.lemmas.Map.Lookups.{CmpEqualImpliesEq, exact_unsigned}
 use Rattle.fill_tokens.specs.Token.{token_number, token_name}
+use Rattle.fill_tokens.specs.Profile.{IsTokenOf}
 use Rattle.fill_tokens.specs.declared.token.Token.{Token}
-use Rattle.fill_tokens.specs.declared.token.Token.TheVariants.{Start}
+use Rattle.fill_tokens.specs.declared.token.Token.TheVariants.{Start, NonSpace, NonDigit, NonAlpha}
 use Rattle.fill_tokens.specs.declared.token.TheConstants.Token.{ALL}
 
 pub listed : (t : Token) → slice_get ALL (token_number t - 1) ≡ Some t
@@ -67,3 +68,27 @@ next_unnamed name i d within this below j t h e n = elim (cases_order j i) [
   | inl same ↦ this (ap token_name (get_or_from_slice_get ALL i t d (subst (λ k. slice_get ALL k ≡ Some t) same e)) ∙ n)
   | inr o ↦ elim o [ inl l ↦ below j t l e n | inr g ↦ absurd (omega arith) ]
 ]
+
+-- none of the three negated classes
+number_unlike : (x y : Token) → token_number x ≢ token_number y → x ≢ y
+number_unlike x y h e = h (ap token_number e)
+
+in_first_back : (x : Token) → x ≢ NonSpace → x ≢ NonDigit → x ≢ NonAlpha → token_number x ≤ 26
+in_first_back Start a b c = omega arith
+in_first_back NonSpace a b c = absurd (a refl)
+in_first_back NonDigit a b c = absurd (b refl)
+in_first_back NonAlpha a b c = absurd (c refl)
+in_first_back _ a b c = omega arith
+
+pub in_first : (x : Token) → IsTokenOf 1 x ↔ ((x ≢ NonSpace) × (x ≢ NonDigit) × (x ≢ NonAlpha))
+in_first x = (
+  λ h. (
+    number_unlike x NonSpace (λ e. absurd (omega arith)),
+    number_unlike x NonDigit (λ e. absurd (omega arith)),
+    number_unlike x NonAlpha (λ e. absurd (omega arith)),
+  ),
+  λ h. in_first_back x h.0 h.1 h.2,
+)
+
+pub in_second : (x : Token) → IsTokenOf 2 x
+in_second x = number_within x

@@ -1,14 +1,14 @@
 -- What a token spans: the table of tokens.
-use Rattle.std.specs.Prelude.{ℕ, Bool, ◌||◌}
+use Rattle.std.specs.Prelude.{ℕ, Bool, not, ◌||◌}
 use Rattle.fill_text.specs.Classes.{class_of}
 use Rattle.fill_tokens.specs.declared.kind.RunClass.{RunClass}
 use Rattle.fill_tokens.specs.declared.kind.RunClass.TheVariants as class
 use Rattle.fill_tokens.specs.declared.kind.Kind.{Kind}
 use Rattle.fill_tokens.specs.declared.kind.Kind.TheVariants.{AtStart, AtEnd, Run, Single}
 use Rattle.fill_tokens.specs.declared.token.Token.{Token}
-use Rattle.fill_tokens.specs.declared.token.Token.TheVariants.{Start, End, Digits, Upper, Lower, Alpha, Word, Space, Hyphen, Dot, Comma, Semicolon, Colon, Slash, Backslash, Underscore, At, Hash, Ampersand, LeftParen, RightParen, DoubleQuote, SingleQuote, Percent, Plus, Dollar}
+use Rattle.fill_tokens.specs.declared.token.Token.TheVariants.{Start, End, Digits, Upper, Lower, Alpha, Word, Space, Hyphen, Dot, Comma, Semicolon, Colon, Slash, Backslash, Underscore, At, Hash, Ampersand, LeftParen, RightParen, DoubleQuote, SingleQuote, Percent, Plus, Dollar, NonSpace, NonDigit, NonAlpha}
 
--- the characters of a class of runs; a word has letters and digits
+-- the characters of a class of runs; a word has letters and digits, and a negated class has what the class has not
 abbrev pub run_has : RunClass → ℕ → Bool
 run_has class.Digit c = (class_of c).digit
 run_has class.Upper c = (class_of c).upper
@@ -16,6 +16,9 @@ run_has class.Lower c = (class_of c).lower
 run_has class.Alpha c = (class_of c).alpha
 run_has class.Word c = (class_of c).alpha || (class_of c).digit
 run_has class.Space c = (class_of c).space
+run_has class.NonSpace c = not (class_of c).space
+run_has class.NonDigit c = not (class_of c).digit
+run_has class.NonAlpha c = not (class_of c).alpha
 
 abbrev pub kind_of : Token → Kind
 kind_of Start = AtStart
@@ -44,3 +47,6 @@ kind_of SingleQuote = Single 39
 kind_of Percent = Single 37
 kind_of Plus = Single 43
 kind_of Dollar = Single 36
+kind_of NonSpace = Run class.NonSpace
+kind_of NonDigit = Run class.NonDigit
+kind_of NonAlpha = Run class.NonAlpha

@@ -2,6 +2,7 @@ pub mod Cuts
 pub mod Kind
 pub mod Place
 pub mod PlaceGrammar
+pub mod Profile
 pub mod Seq
 pub mod Span
 pub mod Token

@@ -1,7 +1,7 @@
 -- The numbers and the names of tokens.
 use Rattle.std.specs.Prelude.{ℕ, List, codes}
 use Rattle.fill_tokens.specs.declared.token.Token.{Token}
-use Rattle.fill_tokens.specs.declared.token.Token.TheVariants.{Start, End, Digits, Upper, Lower, Alpha, Word, Space, Hyphen, Dot, Comma, Semicolon, Colon, Slash, Backslash, Underscore, At, Hash, Ampersand, LeftParen, RightParen, DoubleQuote, SingleQuote, Percent, Plus, Dollar}
+use Rattle.fill_tokens.specs.declared.token.Token.TheVariants.{Start, End, Digits, Upper, Lower, Alpha, Word, Space, Hyphen, Dot, Comma, Semicolon, Colon, Slash, Backslash, Underscore, At, Hash, Ampersand, LeftParen, RightParen, DoubleQuote, SingleQuote, Percent, Plus, Dollar, NonSpace, NonDigit, NonAlpha}
 
 -- the numbers, by which tokens are ordered
 abbrev pub token_number : Token → ℕ
@@ -31,6 +31,9 @@ token_number SingleQuote = 23
 token_number Percent = 24
 token_number Plus = 25
 token_number Dollar = 26
+token_number NonSpace = 27
+token_number NonDigit = 28
+token_number NonAlpha = 29
 
 -- the names, as texts of trees spell them
 abbrev pub token_name : Token → List ℕ
@@ -60,3 +63,6 @@ token_name SingleQuote = codes "SingleQuote"
 token_name Percent = codes "Percent"
 token_name Plus = codes "Plus"
 token_name Dollar = codes "Dollar"
+token_name NonSpace = codes "NonSpace"
+token_name NonDigit = codes "NonDigit"
+token_name NonAlpha = codes "NonAlpha"

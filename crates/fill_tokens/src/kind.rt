@@ -14,6 +14,9 @@ pub enum RunClass {
     Alpha,
     Word,
     Space,
+    NonSpace,
+    NonDigit,
+    NonAlpha,
 }
 
 /// What a token spans.
@@ -42,6 +45,9 @@ impl RunClass {
             RunClass::Alpha => class.alpha,
             RunClass::Word => class.alpha || class.digit,
             RunClass::Space => class.space,
+            RunClass::NonSpace => !class.space,
+            RunClass::NonDigit => !class.digit,
+            RunClass::NonAlpha => !class.alpha,
         }
     }
 }
@@ -78,6 +84,9 @@ impl Token {
             Token::Percent => Kind::Single('%'),
             Token::Plus => Kind::Single('+'),
             Token::Dollar => Kind::Single('$'),
+            Token::NonSpace => Kind::Run(RunClass::NonSpace),
+            Token::NonDigit => Kind::Run(RunClass::NonDigit),
+            Token::NonAlpha => Kind::Run(RunClass::NonAlpha),
         }
     }
 }

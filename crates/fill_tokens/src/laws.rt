@@ -1,7 +1,7 @@
 //! Laws of the definitions that the contracts of this crate cite.
 //!
 //! Each function does nothing: what it tells is its clauses, which hold for all texts, tokens and places.
-ghost use Rattle.std.specs.Prelude.{◌≡◌, ◌↔◌, ◌+◌, ◌-◌, ◌≤◌, ℕ, ℤ, List, length, reverse, slice_get};
+ghost use Rattle.std.specs.Prelude.{◌≡◌, ◌≢◌, ◌↔◌, ◌+◌, ◌-◌, ◌≤◌, ℕ, ℤ, List, length, reverse, slice_get};
 ghost use Rattle.std.specs.Ordering.{ordering_reverse};
 ghost use Rattle.std.specs.Cmp.{IsTotalOrder};
 ghost use Rattle.std.specs.declared.cmp.Ordering.{Ordering};
@@ -12,7 +12,9 @@ ghost use Rattle.fill_tokens.specs.Span.{Spans, Begins};
 ghost use Rattle.fill_tokens.specs.Value.{HasValue, IsCount, IsCutFromLeft, IsCutFromRight};
 ghost use Rattle.fill_tokens.specs.Cuts.{AreCuts, AreMatches};
 ghost use Rattle.fill_tokens.specs.Place.{place_cmp, seq_cmp, signed_cmp};
+ghost use Rattle.fill_tokens.specs.Profile.{IsTokenOf};
 ghost use Rattle.fill_tokens.specs.declared.token.Token.{Token};
+ghost use Rattle.fill_tokens.specs.declared.token.Token.TheVariants.{NonSpace, NonDigit, NonAlpha};
 ghost use Rattle.fill_tokens.specs.declared.place.Place.{Place};
 
 use crate::token::Token;
@@ -28,6 +30,13 @@ pub fn tokens_are_told_apart()
 #[tactic(auto, using(crate::proofs::TokenLaws::listed))]
 pub fn all_tokens_are_listed()
     ensures { (x : Token) → slice_get Token.ALL (token_number x - 1) ≡ Some x }
+{}
+
+/// The first profile has all tokens but the runs of negated classes, and the second one has all.
+#[tactic(auto, using(crate::proofs::TokenLaws::in_first, crate::proofs::TokenLaws::in_second))]
+pub fn profiles_have_their_tokens()
+    ensures first { (x : Token) → IsTokenOf 1 x ↔ ((x ≢ NonSpace) × (x ≢ NonDigit) × (x ≢ NonAlpha)) }
+    ensures second { (x : Token) → IsTokenOf 2 x }
 {}
 
 /// From each position a token spans at most one piece, and up to each position too.

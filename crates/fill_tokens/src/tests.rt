@@ -1,5 +1,8 @@
 use crate::*;
-use Token::{Alpha, Digits, End, Hyphen, Lower, Space, Start, Upper, Word};
+use Token::{
+    Alpha, Digits, Dollar, End, Hyphen, Lower, NonAlpha, NonDigit, NonSpace, Space, Start, Upper,
+    Word,
+};
 use fill_text::Text;
 use std::cmp::Ordering;
 use std::test::Fail;
@@ -42,11 +45,14 @@ fn numbers_and_names_of_tokens(rt: HostRuntime) {
         (24, "Percent"),
         (25, "Plus"),
         (26, "Dollar"),
+        (27, "NonSpace"),
+        (28, "NonDigit"),
+        (29, "NonAlpha"),
     ] {
         assert!(rt; there_and_back(number, name), "{name}");
     }
     assert_eq!(rt; Token::from_number(0), None);
-    assert_eq!(rt; Token::from_number(27), None);
+    assert_eq!(rt; Token::from_number(30), None);
     assert_eq!(rt; Token::from_name(b"digits"), None);
     assert_eq!(rt; Token::from_name(b""), None);
 }
@@ -70,11 +76,36 @@ fn values_of_places(rt: HostRuntime) -> Result<(), Fail> {
         (Place::CPos(-1), "abc", Some(3)),
         (Place::CPos(-4), "abc", Some(0)),
         (Place::CPos(-5), "abc", None),
+        (Place::Pos(none, Seq::one(NonSpace), 1), "+a b", Some(0)),
+        (Place::Pos(none, Seq::one(NonSpace), 1), " #cc d", Some(1)),
+        (Place::Pos(Seq::one(NonDigit), none, 1), "ab1c", Some(2)),
+        (Place::Pos(Seq::one(NonAlpha), none, -1), "a1-b", Some(3)),
+        (Place::Pos(Seq::one(NonAlpha), none, 1), "aé", None),
     ] {
         let text = Text::from_utf8(rt.alloc(), text.as_bytes())?;
         assert_eq!(rt; place_value(&place, &text), value, "{place:?} in {text:?}");
     }
     Ok(())
+}
+
+#[test]
+fn tokens_of_profiles(rt: HostRuntime) {
+    assert_eq!(rt; token_count(1), 26);
+    assert_eq!(rt; token_count(2), 29);
+    for (token, first) in [
+        (Start, true),
+        (Dollar, true),
+        (NonSpace, false),
+        (NonAlpha, false),
+    ] {
+        assert_eq!(rt; token.is_of(1), first, "{token:?}");
+        assert!(rt; token.is_of(2), "{token:?}");
+        let place = Place::Pos(Seq::one(Lower), Seq::two(Space, token), 1);
+        assert_eq!(rt; place.is_of(1), first, "{token:?}");
+        assert!(rt; place.is_of(2), "{token:?}");
+    }
+    assert!(rt; Place::CPos(3).is_of(1));
+    assert!(rt; Seq::empty().is_of(1));
 }
 
 #[test]

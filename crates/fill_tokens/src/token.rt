@@ -32,11 +32,14 @@ pub enum Token {
     Percent,
     Plus,
     Dollar,
+    NonSpace,
+    NonDigit,
+    NonAlpha,
 }
 
 impl Token {
     /// All tokens, in the order of their numbers.
-    pub const ALL: [Token; 26] = [
+    pub const ALL: [Token; 29] = [
         Token::Start,
         Token::End,
         Token::Digits,
@@ -63,6 +66,9 @@ impl Token {
         Token::Percent,
         Token::Plus,
         Token::Dollar,
+        Token::NonSpace,
+        Token::NonDigit,
+        Token::NonAlpha,
     ];
 
     /// The token's number, from 1, by which tokens are ordered.
@@ -117,6 +123,9 @@ impl Token {
             Token::Percent => "Percent",
             Token::Plus => "Plus",
             Token::Dollar => "Dollar",
+            Token::NonSpace => "NonSpace",
+            Token::NonDigit => "NonDigit",
+            Token::NonAlpha => "NonAlpha",
         }
     }
 

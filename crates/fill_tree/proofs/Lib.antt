@@ -1,5 +1,6 @@
 pub mod AtomLists
 mod Examples
+pub mod Explained
 pub mod GuardLaws
 pub mod Lookups
 pub mod ProgramOrder

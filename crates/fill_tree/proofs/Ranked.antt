@@ -6,11 +6,8 @@ use Rattle.std.specs.declared.cmp.Ordering.TheVariants.{Less, Equal, Greater}
 use Rattle.std.specs.Ordering.{nat_cmp, ordering_then}
 use Rattle.std.proofs.lemmas.Bool.Decides.{nat_tests}
 use Rattle.std.proofs.lemmas.Map.Lookups.{exact_unsigned}
+use Rattle.fill_text.specs.Orders.{AtMost}
 use Rattle.fill_tokens.proofs.OrderingLemmas.{then_first, then_second}
-
--- less than, or alike
-abbrev pub AtMost : Ordering → Type 0
-AtMost o = (o ≡ Less) ⊎ (o ≡ Equal)
 
 -- by the costs, and then as the second order says
 abbrev pub ranked : ℕ → ℕ → Ordering → Ordering

@@ -89,14 +89,14 @@ are_scalar zero d h = refl
 are_scalar (suc zero) d h = refl
 are_scalar (suc (suc k)) d h = absurd (omega arith)
 
-price_is_source : IsSource sheet tables price
-price_is_source = (numbers, inl tt, (((0, lit< tt, refl), lit< tt), (are_scalar, tt)))
+price_is_source : (settings : Settings) → IsSource settings sheet tables price
+price_is_source settings = (numbers, inl tt, (((0, lit< tt, refl), lit< tt), (are_scalar, tt)))
 
 abbrev deep : ℕ → Settings
 deep depth = record { depth = depth; constants = Any; profile = 1 }
 
 price_in_grammar : InGrammar (deep 1) sheet tables (more (whole price) end)
-price_in_grammar = ((price_is_source, lit≤ tt), tt)
+price_in_grammar = ((price_is_source (deep 1), lit≤ tt), tt)
 
 no_lookup : InGrammar (deep 0) sheet tables (more (whole price) end) → ⊥
 no_lookup h = omega (arith, h.0.1)

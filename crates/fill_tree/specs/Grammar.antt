@@ -1,13 +1,21 @@
 -- Which trees the bounded grammar has, for settings, a sheet and tables.
-use Rattle.std.specs.Prelude.{◌≡◌, ◌≢◌, ◌⊎◌, ℕ, suc, ◌+◌, ◌<◌, ◌≤◌, ◌^◌, List, [], Some, All, Contains, true, max, length}
+use Rattle.std.specs.Prelude.{◌≡◌, ◌≢◌, ◌⊎◌, ℕ, suc, ◌+◌, ◌<◌, ◌≤◌, ◌^◌, ◌==◌, cond, List, [], Some, All, Contains, true, max, length}
 use Rattle.std.specs.Char.{IsScalar}
 use Rattle.fill_text.specs.Classes.{is_separator}
 use Rattle.fill_text.specs.Data.{SheetData, TableData, key_at, width_at}
-use Rattle.fill_tokens.specs.PlaceGrammar.{IsPlace}
+use Rattle.fill_tokens.specs.Profile.{IsProfile, IsPlaceOf}
 use Rattle.fill_tree.specs.Tree.{SourceTree, AtomTree, Atoms, col, select, constant, whole, sub, end, more}
 use Rattle.fill_tree.specs.declared.user.Settings.{Settings}
 use Rattle.fill_tree.specs.declared.user.Constants.{Constants}
 use Rattle.fill_tree.specs.declared.user.Constants.TheVariants.{Any, Separators}
+
+-- how many lookups may stand inside each other at most
+abbrev pub depth_limit : ℕ → ℕ
+depth_limit profile = cond (profile == 1) 2 3
+
+-- what settings keep wherever they are handed in
+abbrev pub AreSettings : Settings → Type 0
+AreSettings settings = IsProfile settings.profile × (settings.depth ≤ depth_limit settings.profile)
 
 abbrev pub number_of_atoms : Atoms → ℕ
 number_of_atoms end = 0
@@ -44,21 +52,22 @@ AreNumbersOf tables column table key size = (columns : List ℕ) × (width : ℕ
     × (width_at tables table ≡ Some width) × (length columns ≡ size) × (1 ≤ column) × (column ≤ width) × ¬ (Contains columns column)
     × (column < 2 ^ 32) × (table < 2 ^ 32) × (key < 2 ^ 32)
 
+-- under the settings' profile
 abbrev mutual
-  pub IsSource : SheetData → List TableData → SourceTree → Type 0
-  IsSource sheet tables (col c) = Contains sheet.inputs c × (c < 2 ^ 32)
-  IsSource sheet tables (select column table key conditions) =
-      AreNumbersOf tables column table key (number_of_atoms conditions) × HasPart conditions × AreConditions sheet tables conditions
+  pub IsSource : Settings → SheetData → List TableData → SourceTree → Type 0
+  IsSource settings sheet tables (col c) = Contains sheet.inputs c × (c < 2 ^ 32)
+  IsSource settings sheet tables (select column table key conditions) =
+      AreNumbersOf tables column table key (number_of_atoms conditions) × HasPart conditions × AreConditions settings sheet tables conditions
 
   -- a condition may be any constant, also the empty one
-  pub IsCondition : SheetData → List TableData → AtomTree → Type 0
-  IsCondition sheet tables (constant t) = All IsScalar t
-  IsCondition sheet tables (whole s) = IsSource sheet tables s
-  IsCondition sheet tables (sub s p q) = IsSource sheet tables s × IsPlace p × IsPlace q
+  pub IsCondition : Settings → SheetData → List TableData → AtomTree → Type 0
+  IsCondition settings sheet tables (constant t) = All IsScalar t
+  IsCondition settings sheet tables (whole s) = IsSource settings sheet tables s
+  IsCondition settings sheet tables (sub s p q) = IsSource settings sheet tables s × IsPlaceOf settings.profile p × IsPlaceOf settings.profile q
 
-  pub AreConditions : SheetData → List TableData → Atoms → Type 0
-  AreConditions sheet tables end = Unit {0}
-  AreConditions sheet tables (more a rest) = IsCondition sheet tables a × AreConditions sheet tables rest
+  pub AreConditions : Settings → SheetData → List TableData → Atoms → Type 0
+  AreConditions settings sheet tables end = Unit {0}
+  AreConditions settings sheet tables (more a rest) = IsCondition settings sheet tables a × AreConditions settings sheet tables rest
 
 -- the characters that a program's constants may have
 abbrev pub Allows : Constants → List ℕ → Type 0
@@ -68,8 +77,8 @@ Allows Separators t = All (λ c. is_separator c ≡ true) t
 -- an atom of a program: a constant is not empty, and a source is no deeper than the settings allow
 abbrev pub IsAtom : Settings → SheetData → List TableData → AtomTree → Type 0
 IsAtom settings sheet tables (constant t) = (t ≢ []) × All IsScalar t × Allows settings.constants t
-IsAtom settings sheet tables (whole s) = IsSource sheet tables s × (source_depth s ≤ settings.depth)
-IsAtom settings sheet tables (sub s p q) = IsSource sheet tables s × (source_depth s ≤ settings.depth) × IsPlace p × IsPlace q
+IsAtom settings sheet tables (whole s) = IsSource settings sheet tables s × (source_depth s ≤ settings.depth)
+IsAtom settings sheet tables (sub s p q) = IsSource settings sheet tables s × (source_depth s ≤ settings.depth) × IsPlaceOf settings.profile p × IsPlaceOf settings.profile q
 
 abbrev pub InGrammar : Settings → SheetData → List TableData → Atoms → Type 0
 InGrammar settings sheet tables end = Unit {0}

@@ -7,11 +7,13 @@ use Rattle.std.specs.Cmp.Lexicographic.{slice_cmp}
 use Rattle.fill_text.specs.Data.{SheetData}
 use Rattle.fill_tokens.specs.Place.{seq_cmp}
 use Rattle.fill_tokens.specs.PlaceGrammar.{OnlyFirst, OnlyLast}
+use Rattle.fill_tokens.specs.Profile.{AreTokensOf}
 use Rattle.fill_tokens.specs.declared.token.Token.{Token}
 use Rattle.fill_tokens.specs.declared.token.Token.TheVariants.{Start, End}
 use Rattle.fill_tree.specs.Guard.{GuardHolds}
 use Rattle.fill_tree.specs.declared.guard.Literal.{Literal}
 use Rattle.fill_tree.specs.declared.guard.Guard.{Guard}
+use Rattle.fill_tree.specs.declared.user.Settings.{Settings}
 
 -- the sequences of literals: one or two tokens, the start of the text only first and its end only last
 pub record IsTested (r : List Token) : Type 0 where
@@ -20,10 +22,11 @@ pub record IsTested (r : List Token) : Type 0 where
   pub start : OnlyFirst Start r
   pub last : OnlyLast End r
 
--- the literal tests an input's cell for one, two or three matches
-pub record IsLiteral (sheet : SheetData) (l : Literal) : Type 0 where
+-- the literal tests an input's cell for one, two or three matches of a sequence of the profile's tokens
+pub record IsLiteral (settings : Settings) (sheet : SheetData) (l : Literal) : Type 0 where
   pub input : Contains sheet.inputs l.column
   pub tested : IsTested l.seq
+  pub tokens : AreTokensOf settings.profile l.seq
   pub some : 1 ≤ l.least
   pub few : l.least ≤ 3
 
@@ -45,16 +48,16 @@ abbrev pub guard_cmp : Guard → Guard → Ordering
 guard_cmp = then_cmp (on (λ g. length (literals g)) nat_cmp) (on literals (slice_cmp literal_cmp))
 
 -- one literal, or two of which the first is before the second
-abbrev pub IsGuard : SheetData → Guard → Type 0
-IsGuard sheet g = IsLiteral sheet g.first × IfSome g.second (λ l. IsLiteral sheet l × (literal_cmp g.first l ≡ Less))
+abbrev pub IsGuard : Settings → SheetData → Guard → Type 0
+IsGuard settings sheet g = IsLiteral settings sheet g.first × IfSome g.second (λ l. IsLiteral settings sheet l × (literal_cmp g.first l ≡ Less))
 
 -- the guard holds on each row inside and on no row outside
-pub record Separates (sheet : SheetData) (inside outside : List ℕ) (g : Guard) : Type 0 where
-  pub is : IsGuard sheet g
+pub record Separates (settings : Settings) (sheet : SheetData) (inside outside : List ℕ) (g : Guard) : Type 0 where
+  pub is : IsGuard settings sheet g
   pub holds : All (λ row. GuardHolds sheet row g) inside
   pub fails : All (λ row. ¬ (GuardHolds sheet row g)) outside
 
 -- of all guards that do so, none is before this one
-pub record IsLeastGuard (sheet : SheetData) (inside outside : List ℕ) (g : Guard) : Type 0 where
-  pub separates : Separates sheet inside outside g
-  pub least : (h : Guard) → Separates sheet inside outside h → ¬ (guard_cmp h g ≡ Less)
+pub record IsLeastGuard (settings : Settings) (sheet : SheetData) (inside outside : List ℕ) (g : Guard) : Type 0 where
+  pub separates : Separates settings sheet inside outside g
+  pub least : (h : Guard) → Separates settings sheet inside outside h → ¬ (guard_cmp h g ≡ Less)

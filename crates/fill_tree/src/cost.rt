@@ -43,7 +43,7 @@ impl Atom {
 
     /// The cost as a condition of a lookup: a constant costs the same whatever its text.
     #[cycle(cost)]
-    fn condition_cost(&self) -> Option<u64>
+    pub fn condition_cost(&self) -> Option<u64>
         ensures some { IfSome result (λ n. n ≡ condition_cost (atom_tree self.now)) }
         ensures none { IfNone result (2 ^ 64 ≤ condition_cost (atom_tree self.now)) }
     {

@@ -1,7 +1,8 @@
 //! Which trees the bounded grammar has.
 ghost use Rattle.std.specs.Prelude.{◌≤◌, ◌↔◌, IsTrue, Contains, length, map};
+ghost use Rattle.fill_tokens.specs.Profile.{IsPlaceOf};
 ghost use Rattle.fill_tree.specs.Tree.{atoms_of};
-ghost use Rattle.fill_tree.specs.Grammar.{AreConditions, AreNumbersOf, Allows, HasPart, InGrammar, IsAtom, IsCondition, IsPart, IsSource, atom_depth, source_depth};
+ghost use Rattle.fill_tree.specs.Grammar.{AreConditions, AreNumbersOf, AreSettings, Allows, HasPart, InGrammar, IsAtom, IsCondition, IsPart, IsSource, atom_depth, source_depth};
 ghost use Rattle.fill_tree.specs.Meaning.{source_tree, select_tree, atom_tree, program_tree};
 
 use crate::tree::{Atom, Program, Select, Source};
@@ -9,10 +10,11 @@ use crate::user::{Constants, Settings};
 use fill_sheet::Sheet;
 use fill_tables::Tables;
 use fill_text::{Text, is_separator};
-use fill_tokens::is_place;
+use fill_tokens::{Place, is_place};
 
 /// Whether the program is one of the grammar, for the settings, the sheet and the tables.
 pub fn in_grammar(p: &Program, settings: &Settings, sheet: &Sheet, tables: &Tables) -> bool
+    requires { AreSettings settings.now }
     ensures { IsTrue result ↔ InGrammar settings.now sheet.now tables.now (program_tree p.now) }
 {
     for atom in p.atoms.as_slice() {
@@ -37,7 +39,7 @@ fn is_atom(atom: &Atom, settings: &Settings, sheet: &Sheet, tables: &Tables) -> 
     if !is_atom_no_deeper(atom, settings.depth) {
         return false;
     }
-    is_condition(atom, sheet, tables)
+    is_condition(atom, settings, sheet, tables)
 }
 
 /// Whether a program's constant may have these characters.
@@ -88,18 +90,18 @@ fn is_atom_no_deeper(atom: &Atom, limit: u8) -> bool
 }
 
 #[cycle(grammar)]
-fn is_source(source: &Source, sheet: &Sheet, tables: &Tables) -> bool
-    ensures { IsTrue result ↔ IsSource sheet.now tables.now (source_tree source.now) }
+fn is_source(source: &Source, settings: &Settings, sheet: &Sheet, tables: &Tables) -> bool
+    ensures { IsTrue result ↔ IsSource settings.now sheet.now tables.now (source_tree source.now) }
 {
     match source {
         Source::Col(column) => is_input(*column, sheet),
-        Source::Select(select) => is_lookup(select, sheet, tables),
+        Source::Select(select) => is_lookup(select, settings, sheet, tables),
     }
 }
 
 #[cycle(grammar)]
-fn is_lookup(select: &Select, sheet: &Sheet, tables: &Tables) -> bool
-    ensures { IsTrue result ↔ IsSource sheet.now tables.now (select_tree select.now) }
+fn is_lookup(select: &Select, settings: &Settings, sheet: &Sheet, tables: &Tables) -> bool
+    ensures { IsTrue result ↔ IsSource settings.now sheet.now tables.now (select_tree select.now) }
 {
     let conditions = select.conditions.as_slice();
     if !are_numbers_of(
@@ -114,15 +116,15 @@ fn is_lookup(select: &Select, sheet: &Sheet, tables: &Tables) -> bool
     if !has_part(conditions) {
         return false;
     }
-    are_conditions(conditions, sheet, tables)
+    are_conditions(conditions, settings, sheet, tables)
 }
 
 #[cycle(grammar)]
-fn are_conditions(atoms: &[Atom], sheet: &Sheet, tables: &Tables) -> bool
-    ensures { IsTrue result ↔ AreConditions sheet.now tables.now (atoms_of (map atom_tree atoms.now)) }
+fn are_conditions(atoms: &[Atom], settings: &Settings, sheet: &Sheet, tables: &Tables) -> bool
+    ensures { IsTrue result ↔ AreConditions settings.now sheet.now tables.now (atoms_of (map atom_tree atoms.now)) }
 {
     for atom in atoms {
-        if !is_condition(atom, sheet, tables) {
+        if !is_condition(atom, settings, sheet, tables) {
             return false;
         }
     }
@@ -131,25 +133,33 @@ fn are_conditions(atoms: &[Atom], sheet: &Sheet, tables: &Tables) -> bool
 
 /// Whether the atom may be a condition of a lookup.
 #[cycle(grammar)]
-fn is_condition(atom: &Atom, sheet: &Sheet, tables: &Tables) -> bool
-    ensures { IsTrue result ↔ IsCondition sheet.now tables.now (atom_tree atom.now) }
+fn is_condition(atom: &Atom, settings: &Settings, sheet: &Sheet, tables: &Tables) -> bool
+    ensures { IsTrue result ↔ IsCondition settings.now sheet.now tables.now (atom_tree atom.now) }
 {
     match atom {
         Atom::Const(text) => {
             text.keeps_scalars();
             true
         }
-        Atom::Whole(source) => is_source(source, sheet, tables),
+        Atom::Whole(source) => is_source(source, settings, sheet, tables),
         Atom::Sub(source, left, right) => {
-            if !is_source(source, sheet, tables) {
+            if !is_source(source, settings, sheet, tables) {
                 return false;
             }
-            is_place(left) && is_place(right)
+            is_place_of(left, settings) && is_place_of(right, settings)
         }
     }
 }
 
-fn is_input(column: u32, sheet: &Sheet) -> bool
+/// Whether the place is one of the grammar.
+fn is_place_of(p: &Place, settings: &Settings) -> bool
+    ensures { IsTrue result ↔ IsPlaceOf settings.now.profile p.now }
+{
+    is_place(p) && p.is_of(settings.profile)
+}
+
+/// Whether the column is one of the sheet's inputs.
+pub fn is_input(column: u32, sheet: &Sheet) -> bool
     ensures { IsTrue result ↔ Contains sheet.now.inputs column }
 {
     sheet.inputs().contains(&column)
@@ -173,7 +183,7 @@ fn are_numbers_of(column: u32, table: u32, key: u32, size: usize, tables: &Table
 }
 
 /// Whether some condition is no constant.
-fn has_part(conditions: &[Atom]) -> bool
+pub fn has_part(conditions: &[Atom]) -> bool
     ensures { IsTrue result ↔ HasPart (atoms_of (map atom_tree conditions.now)) }
 {
     for condition in conditions {
@@ -184,7 +194,8 @@ fn has_part(conditions: &[Atom]) -> bool
     false
 }
 
-fn is_part(atom: &Atom) -> bool
+/// Whether the atom is no constant, so that it reads the row.
+pub fn is_part(atom: &Atom) -> bool
     ensures { IsTrue result ↔ IsPart (atom_tree atom.now) }
 {
     !matches!(atom, Atom::Const(_))

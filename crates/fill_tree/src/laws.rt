@@ -1,13 +1,13 @@
 //! Laws of the definitions that the contracts of this crate cite.
 //!
 //! Each function does nothing: what it tells is its clauses, which hold for all plain trees.
-ghost use Rattle.std.specs.Prelude.{◌≡◌, ◌≢◌, ℕ, List};
+ghost use Rattle.std.specs.Prelude.{◌≡◌, ◌≢◌, ◌↔◌, ◌++◌, ℕ, List};
 ghost use Rattle.std.specs.Cmp.{IsTotalOrder};
 ghost use Rattle.std.specs.declared.cmp.Ordering.TheVariants.{Equal};
 ghost use Rattle.fill_text.specs.Data.{SheetData, TableData};
 ghost use Rattle.fill_tree.specs.Tree.{SourceTree, AtomTree, Atoms, end, more};
 ghost use Rattle.fill_tree.specs.Order.{source_cmp, atom_cmp, atoms_cmp, program_cmp, Before, NotAfter, OneIsBefore};
-ghost use Rattle.fill_tree.specs.Chosen.{IsChosen};
+ghost use Rattle.fill_tree.specs.Chosen.{Explains, IsChosen};
 ghost use Rattle.fill_tables.specs.Keys.{KeysDistinguish};
 ghost use Rattle.fill_tree.specs.Switch.{SwitchTree};
 ghost use Rattle.fill_tree.specs.Guard.{Takes, SwitchIs};
@@ -61,6 +61,14 @@ pub fn earlier_parts_make_earlier_programs()
     ensures head_back { (a : AtomTree) → (b : AtomTree) → (p : Atoms) →
         NotAfter (more a p) (more b p) → NotAfter (more a end) (more b end) }
     ensures tail_back { (a : AtomTree) → (p : Atoms) → (q : Atoms) → NotAfter (more a p) (more a q) → NotAfter p q }
+{}
+
+/// A program explains two lists of examples together exactly where it explains each of them.
+#[tactic(auto, using(crate::proofs::Explained::together))]
+pub fn lists_are_explained_together()
+    ensures { (settings : Settings) → (sheet : SheetData) → (tables : List TableData) → (examples : List Example) →
+        (others : List Example) → (p : Atoms) → Explains settings sheet tables (examples ++ others) p
+        ↔ (Explains settings sheet tables examples p × Explains settings sheet tables others p) }
 {}
 
 /// At most one program is chosen for examples.

@@ -15,7 +15,7 @@ mod tree;
 mod user;
 
 pub use fill_tokens::{Place, Seq, Token};
-pub use grammar::in_grammar;
+pub use grammar::{has_part, in_grammar, is_input, is_part};
 pub use guard::{Case, Guard, Literal, Switch};
 pub use tree::{Atom, Program, Select, Source};
 pub use user::{Constants, Edit, Example, Settings};

@@ -11,12 +11,15 @@ pub enum Constants {
 }
 
 /// The bounds of the grammar.
+///
+/// Profile 1 has 26 tokens, and lookups stand inside each other at most twice. Profile 2 has three more, the runs of
+/// characters that are not space, not digits and not letters, and lookups stand inside each other at most three times.
 #[derive(Clone, Copy, Debug, PartialEq, Eq)]
 pub struct Settings {
-    /// How deep lookups may stand inside each other.
+    /// How many lookups may stand inside each other.
     pub depth: u8,
     pub constants: Constants,
-    /// The table of tokens; 1 is the only one yet.
+    /// The profile, 1 or 2.
     pub profile: u8,
 }
 

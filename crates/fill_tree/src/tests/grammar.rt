@@ -1,7 +1,7 @@
 //! Which programs are in the grammar, over a sheet and two tables.
 use super::{constant, lookup, one};
 use crate::*;
-use Token::Upper;
+use Token::{NonSpace, Upper};
 use fill_sheet::Sheet;
 use fill_tables::Tables;
 use fill_text::List;
@@ -18,6 +18,12 @@ const SEPARATORS: Settings = Settings {
     depth: 2,
     constants: Constants::Separators,
     profile: 1,
+};
+
+const SECOND: Settings = Settings {
+    depth: 3,
+    constants: Constants::Any,
+    profile: 2,
 };
 
 /// A sheet whose only input is its first column.
@@ -162,5 +168,40 @@ fn programs_of_the_grammar(rt: HostRuntime) -> Result<(), Fail> {
             "{p:?}"
         );
     }
+    Ok(())
+}
+
+#[test]
+fn what_only_the_second_profile_has(rt: HostRuntime) -> Result<(), Fail> {
+    let alloc = rt.alloc();
+    let sheet = sheet(alloc)?;
+    let tables = tables(alloc)?;
+    let place = Place::Pos(Seq::empty(), Seq::one(NonSpace), 1);
+    let piece = || Atom::Sub(Source::Col(1), place, Place::CPos(-1));
+    let by_piece = lookup(alloc, 2, 2, piece())?;
+    let once = lookup(alloc, 2, 2, input())?;
+    let twice = lookup(alloc, 2, 2, Atom::Whole(once))?;
+    let thrice = lookup(alloc, 2, 2, Atom::Whole(twice))?;
+    let mut programs = List::new(alloc);
+    programs.push(one(alloc, piece())?)?;
+    programs.push(one(alloc, Atom::Whole(by_piece))?)?;
+    programs.push(one(alloc, Atom::Whole(thrice))?)?;
+    for p in programs.as_slice() {
+        assert!(rt; !in_grammar(p, &ANY, &sheet, &tables), "{p:?}");
+        assert!(rt; in_grammar(p, &SECOND, &sheet, &tables), "{p:?}");
+    }
+    let fourth = lookup(
+        alloc,
+        2,
+        2,
+        Atom::Whole(lookup(
+            alloc,
+            2,
+            2,
+            Atom::Whole(lookup(alloc, 2, 2, Atom::Whole(lookup(alloc, 2, 2, input())?))?),
+        )?),
+    )?;
+    let deeper = one(alloc, Atom::Whole(fourth))?;
+    assert!(rt; !in_grammar(&deeper, &SECOND, &sheet, &tables));
     Ok(())
 }

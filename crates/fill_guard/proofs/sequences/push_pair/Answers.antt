@@ -1,7 +1,7 @@
 use Rattle.std.proofs.Common.{◌≡◌, ◌++◌, ◌∷◌, [], ◌∙◌, ap}
 use Rattle.std.proofs.lemmas.Bool.{iff_false}
 use Rattle.fill_tokens.specs.Place.{seq_cmp}
-use Rattle.fill_places.specs.Lists.{Adds}
+use Rattle.fill_text.specs.Lists.{Adds}
 use Rattle.fill_places.proofs.HopLaws.{on_ok}
 use Rattle.fill_guard.specs.Listed.{OfPair}
 use Rattle.fill_guard.proofs.SeqLaws.{pair_barred, pair_added}

@@ -1,6 +1,6 @@
 use Rattle.std.proofs.Common.{◌+◌}
 use Rattle.fill_tokens.specs.Place.{seq_cmp}
-use Rattle.fill_places.specs.Lists.{Adds}
+use Rattle.fill_text.specs.Lists.{Adds}
 use Rattle.fill_guard.specs.Listed.{OfSecond}
 use Rattle.fill_guard.proofs.sequences.push_seconds.Given as goal
 

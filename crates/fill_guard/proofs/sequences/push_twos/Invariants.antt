@@ -1,6 +1,6 @@
 use Rattle.std.proofs.Common.{◌+◌}
 use Rattle.fill_tokens.specs.Place.{seq_cmp}
-use Rattle.fill_places.specs.Lists.{Adds}
+use Rattle.fill_text.specs.Lists.{Adds}
 use Rattle.fill_guard.specs.Listed.{OfTwo}
 use Rattle.fill_guard.proofs.sequences.push_twos.Given as goal
 

@@ -1,6 +1,6 @@
 use Rattle.std.proofs.Common.{◌<◌}
 use Rattle.std.specs.Ordering.{nat_cmp}
-use Rattle.fill_places.specs.Lists.{Adds}
+use Rattle.fill_text.specs.Lists.{Adds}
 use Rattle.fill_places.specs.Entries.{IsMarkedAt}
 use Rattle.fill_places.proofs.list.marked_at.Given as goal
 

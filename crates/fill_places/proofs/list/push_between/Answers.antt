@@ -1,7 +1,7 @@
 use Rattle.std.proofs.Common.{arith, ◌≡◌, ℕ, length, refl, subst}
 use Rattle.std.proofs.lemmas.Option.{slice_get_read}
 use Rattle.fill_tokens.specs.Place.{place_cmp}
-use Rattle.fill_places.specs.Lists.{Adds}
+use Rattle.fill_text.specs.Lists.{Adds}
 use Rattle.fill_places.specs.Wanted.{FromLefts}
 use Rattle.fill_places.proofs.RowLaws.{lefts_more}
 use Rattle.fill_places.proofs.list.push_between.Goals as goal

@@ -1,5 +1,5 @@
 use Rattle.fill_tokens.specs.Place.{place_cmp}
-use Rattle.fill_places.specs.Lists.{Adds}
+use Rattle.fill_text.specs.Lists.{Adds}
 use Rattle.fill_places.specs.Wanted.{FromLefts}
 use Rattle.fill_places.proofs.list.push_between.Given as goal
 

@@ -2,7 +2,7 @@ use Rattle.std.proofs.Common.{arith, ◌≡◌, ◌<◌, ◌+◌, ◌++◌, ◌�
 use Rattle.std.specs.Ordering.{nat_cmp}
 use Rattle.std.proofs.lemmas.Option.{slice_get_read}
 use Rattle.fill_places.specs.declared.entry.Entry.{Entry}
-use Rattle.fill_places.specs.Lists.{Adds}
+use Rattle.fill_text.specs.Lists.{Adds}
 use Rattle.fill_places.specs.Entries.{IsMarkedAt}
 use Rattle.fill_places.proofs.HopLaws.{on_ok}
 use Rattle.fill_places.proofs.MarkLaws.{marked_read}

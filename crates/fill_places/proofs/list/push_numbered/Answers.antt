@@ -3,7 +3,7 @@ use Rattle.std.specs.Prelude.{OnOk}
 use Rattle.std.proofs.lemmas.Option.{slice_get_read, slice_get_within, same_Some}
 use Rattle.fill_tokens.specs.Place.{place_cmp}
 use Rattle.fill_places.specs.declared.entry.Entry.{Entry}
-use Rattle.fill_places.specs.Lists.{Adds}
+use Rattle.fill_text.specs.Lists.{Adds}
 use Rattle.fill_places.specs.Wanted.{PairOf}
 use Rattle.fill_places.proofs.list.push_numbered.Goals as goal
 

@@ -1,7 +1,7 @@
 use Rattle.std.proofs.Common.{arith, ◌≡◌, ℕ, length, subst, get_or, slice_get, Some}
 use Rattle.std.proofs.lemmas.Option.{slice_get-get_or}
 use Rattle.fill_tokens.specs.Place.{place_cmp}
-use Rattle.fill_places.specs.Lists.{Adds}
+use Rattle.fill_text.specs.Lists.{Adds}
 use Rattle.fill_places.specs.Wanted.{RowOf}
 use Rattle.fill_places.proofs.RowLaws.{number_is, row_more, row_all}
 use Rattle.fill_places.proofs.list.push_row.Goals as goal

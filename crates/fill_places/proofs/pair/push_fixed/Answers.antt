@@ -1,6 +1,6 @@
 use Rattle.std.proofs.Common.{arith, ◌≡◌, ◌+◌, ◌-◌, ℕ, length, subst, pos, negsuc}
 use Rattle.fill_tokens.specs.Place.{place_cmp}
-use Rattle.fill_places.specs.Lists.{Adds}
+use Rattle.fill_text.specs.Lists.{Adds}
 use Rattle.fill_places.specs.Wanted.{FittingFixed, FixedOf}
 use Rattle.fill_places.proofs.HopLaws.{on_ok}
 use Rattle.fill_places.proofs.PairLaws.{fixed_two, fixed_two_back}

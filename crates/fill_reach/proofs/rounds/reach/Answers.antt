@@ -1,7 +1,7 @@
 use Rattle.std.proofs.Common.{◌≡◌, ◌+◌, ◌-◌, [], ℕ, map, Contains, subst, sym, ◌∙◌, arith}
 use Rattle.std.proofs.lemmas.Bool.{eqb-true}
 use Rattle.std.proofs.lemmas.List.{nil_from_length}
-use Rattle.fill_places.specs.Lists.{Lists}
+use Rattle.fill_text.specs.Lists.{Lists}
 use Rattle.fill_reach.specs.Marks.{AreMarked, AreMarkedAs, AreTexts, IsNew}
 use Rattle.fill_reach.specs.Reach.{IsReached, reached_cmp}
 use Rattle.fill_reach.proofs.RoundLaws.{marked_spots, marks_after, marks_stay, marks_end}

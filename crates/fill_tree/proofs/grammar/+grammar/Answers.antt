@@ -15,7 +15,7 @@ is_lookup-returns-then-not-are_numbers_of t c =
     let e : select_tree s ≡ select s.column s.table s.key (atoms_of (map atom_tree l)) = search (rules, the_lemmas) in (
       λ h. absurd (false≢true h),
       λ h. absurd (iff_false c.are_numbers_of.ensures c.if-not-are_numbers_of.true
-          (numbers_from_lookup c.args.sheet.now c.args.tables.now s.column s.table s.key l (subst (IsSource c.args.sheet.now c.args.tables.now) e h))),
+          (numbers_from_lookup c.args.settings.now c.args.sheet.now c.args.tables.now s.column s.table s.key l (subst (IsSource c.args.settings.now c.args.sheet.now c.args.tables.now) e h))),
     )
 
 pub is_lookup-returns : goal.is_lookup-returns
@@ -23,8 +23,8 @@ is_lookup-returns t c =
     let s = c.args.select.now in
     let l = c.as_slice-conditions.result.now in
     let e : select_tree s ≡ select s.column s.table s.key (atoms_of (map atom_tree l)) = search (rules, the_lemmas) in
-    let by_conditions = lookup_by_conditions c.args.sheet.now c.args.tables.now s.column s.table s.key l
+    let by_conditions = lookup_by_conditions c.args.settings.now c.args.sheet.now c.args.tables.now s.column s.table s.key l
     (c.are_numbers_of.ensures.0 c.if-not-are_numbers_of.false) (c.has_part.ensures.0 c.if-not-has_part.false) in
-    subst (λ x. (IsTrue c.are_conditions.result → IsSource c.args.sheet.now c.args.tables.now x)
-    × (IsSource c.args.sheet.now c.args.tables.now x → IsTrue c.are_conditions.result)) (sym e)
+    subst (λ x. (IsTrue c.are_conditions.result → IsSource c.args.settings.now c.args.sheet.now c.args.tables.now x)
+    × (IsSource c.args.settings.now c.args.sheet.now c.args.tables.now x → IsTrue c.are_conditions.result)) (sym e)
     (λ h. by_conditions.1 (c.are_conditions.ensures.0 h), λ h. c.are_conditions.ensures.1 (by_conditions.0 h))
