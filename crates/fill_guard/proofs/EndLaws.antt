@@ -7,6 +7,7 @@ use Rattle.fill_tokens.specs.Token.{token_number}
 use Rattle.fill_tokens.specs.Span.{Spans, Begins}
 use Rattle.fill_tokens.specs.Value.{IsCount}
 use Rattle.fill_tokens.specs.declared.token.Token.{Token}
+use Rattle.fill_tokens.specs.declared.token.TheConstants.Token.{ALL}
 use Rattle.fill_tokens.proofs.CountLaws.{count_same}
 use Rattle.fill_tokens.proofs.SpanLaws.{one_end, within}
 use Rattle.fill_tokens.proofs.TokenLaws.{number_exact}
@@ -58,7 +59,7 @@ rows_more t m rows row are number ends = record {
   ];
 }
 
-pub rows_all : (t : List ℕ) (m : ℕ) (rows : List TokenEnds) → AreRows t m rows → m ≡ 26 → AreTables t rows
+pub rows_all : (t : List ℕ) (m : ℕ) (rows : List TokenEnds) → AreRows t m rows → m ≡ length ALL → AreTables t rows
 rows_all t m rows are e = record { all = are.many ∙ e; each = are.each }
 
 -- the row at the place of a token is that token's

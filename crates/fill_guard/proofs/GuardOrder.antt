@@ -9,7 +9,7 @@ use Rattle.std.proofs.lemmas.Map.Lookups.{CmpEqualImpliesEq, exact_unsigned}
 use Rattle.fill_tokens.specs.Place.{seq_cmp}
 use Rattle.fill_tokens.proofs.PlaceLaws.{seq_total, exact_seqs}
 use Rattle.fill_tokens.proofs.OrderingLemmas.{then_first, then_second, exact_lists}
-use Rattle.fill_places.proofs.OrderLaws.{nat_less, seq_same}
+use Rattle.fill_tokens.proofs.SeqOrder.{nat_less, seq_same}
 use Rattle.fill_tree.specs.Separate.{literal_cmp, guard_cmp, literals, sign_number}
 use Rattle.fill_tree.specs.declared.guard.Literal.{Literal}
 use Rattle.fill_tree.specs.declared.guard.Guard.{Guard}

@@ -8,11 +8,12 @@ use Rattle.std.specs.declared.cmp.Ordering.TheVariants.{Less, Equal, Greater}
 use Rattle.std.proofs.lemmas.Bool.{cases_lt, cases_order}
 use Rattle.std.proofs.lemmas.Option.{same_Some, slice_get_within, get_or_from_slice_get}
 use Rattle.fill_text.specs.Data.{SheetData}
-use Rattle.fill_places.proofs.HopLaws.{contains_read, read_contains}
+use Rattle.fill_text.proofs.ListReads.{contains_read, read_contains}
 use Rattle.fill_tree.specs.Guard.{LiteralHolds}
 use Rattle.fill_tree.specs.Separate.{IsLiteral, literal_cmp, guard_cmp, Separates, IsLeastGuard}
 use Rattle.fill_tree.specs.declared.guard.Literal.{Literal}
 use Rattle.fill_tree.specs.declared.guard.Guard.{Guard}
+use Rattle.fill_tree.specs.declared.user.Settings.{Settings}
 use Rattle.fill_guard.specs.Read.{HoldsOn}
 use Rattle.fill_guard.specs.Kept.{IsSetOf, StandsFor, NotAfter}
 use Rattle.fill_guard.specs.Least.{AreKept, NoneAlone, IsFirstAlone, AreApart, NonePartner, NonePair, IsFirstPair}
@@ -41,9 +42,9 @@ one_guard a = record { first = a; second = None }
 abbrev two_guard : Literal → Literal → Guard
 two_guard a b = record { first = a; second = Some b }
 
-module _ (sheet : SheetData) (inside outside : List ℕ) (ks : List Kept) (are : AreKept sheet inside outside ks) where
+module _ (settings : Settings) (sheet : SheetData) (inside outside : List ℕ) (ks : List Kept) (are : AreKept settings sheet inside outside ks) where
   -- what is known of the one at a place
-  known : (i : ℕ) (k : Kept) → slice_get ks i ≡ Some k → IsLiteral sheet k.literal × HoldsOn sheet inside k.literal × IsSetOf sheet outside k.literal k.outside
+  known : (i : ℕ) (k : Kept) → slice_get ks i ≡ Some k → IsLiteral settings sheet k.literal × HoldsOn sheet inside k.literal × IsSetOf sheet outside k.literal k.outside
   known i k at = are.each k (contains_read ks i k at)
 
   rises : (i j : ℕ) (a b : Kept) → i < j → slice_get ks i ≡ Some a → slice_get ks j ≡ Some b → Before a.literal b.literal
@@ -62,7 +63,7 @@ module _ (sheet : SheetData) (inside outside : List ℕ) (ks : List Kept) (are :
   ]
 
   -- the one that is kept for a literal
-  kept_for : (l : Literal) → IsLiteral sheet l → HoldsOn sheet inside l → (i : ℕ) × (k : Kept) × (slice_get ks i ≡ Some k) × StandsFor sheet outside l k × NotAfter k.literal l
+  kept_for : (l : Literal) → IsLiteral settings sheet l → HoldsOn sheet inside l → (i : ℕ) × (k : Kept) × (slice_get ks i ≡ Some k) × StandsFor sheet outside l k × NotAfter k.literal l
   kept_for l is holds =
       let f = are.full l is holds in
       elim f.2 [
@@ -71,7 +72,7 @@ module _ (sheet : SheetData) (inside outside : List ℕ) (ks : List Kept) (are :
       ]
 
   -- .. where none makes a guard alone
-  set_for : NoneAlone ks (length ks) → (l : Literal) → IsLiteral sheet l → HoldsOn sheet inside l →
+  set_for : NoneAlone ks (length ks) → (l : Literal) → IsLiteral settings sheet l → HoldsOn sheet inside l →
       (i : ℕ) × (k : Kept) × (slice_get ks i ≡ Some k) × IsSetOf sheet outside l k.outside × NotAfter k.literal l
   set_for alone l is holds =
       let f = kept_for l is holds in
@@ -81,7 +82,7 @@ module _ (sheet : SheetData) (inside outside : List ℕ) (ks : List Kept) (are :
       ]
 
   -- what a guard of one literal and of two says of them
-  module _ (l : Literal) (s : Separates sheet inside outside (one_guard l)) where
+  module _ (l : Literal) (s : Separates settings sheet inside outside (one_guard l)) where
     one_holds : HoldsOn sheet inside l
     one_holds k d lt = (s.holds k d lt).0
 
@@ -94,7 +95,7 @@ module _ (sheet : SheetData) (inside outside : List ℕ) (ks : List Kept) (are :
         let empty : f.1.outside ≡ 0 = elim f.3 [ inl is ↦ zero_mask (λ row. LiteralHolds sheet row l) outside f.1.outside is one_fails | inr none ↦ none ] in
         (f.0, f.1, f.2, empty, f.4)
 
-  module _ (l m : Literal) (s : Separates sheet inside outside (two_guard l m)) where
+  module _ (l m : Literal) (s : Separates settings sheet inside outside (two_guard l m)) where
     first_holds : HoldsOn sheet inside l
     first_holds k d lt = (s.holds k d lt).0
 
@@ -153,26 +154,26 @@ module _ (sheet : SheetData) (inside outside : List ℕ) (ks : List Kept) (are :
           | inr same ↦ subst (Before a) same before
         ]
 
-  none_alone : NoneAlone ks (length ks) → (l : Literal) → Separates sheet inside outside (one_guard l) → ⊥
+  none_alone : NoneAlone ks (length ks) → (l : Literal) → Separates settings sheet inside outside (one_guard l) → ⊥
   none_alone alone l s = let f = one_kept l s in alone f.0 f.1 (slice_get_within ks f.0 f.1 f.2) f.2 f.3
 
   -- the first one that holds on no row outside
-  pub alone_least : (l : Literal) → IsFirstAlone ks l → IsLeastGuard sheet inside outside (one_guard l)
-  alone_least l first = subst (λ z. IsLeastGuard sheet inside outside (one_guard z)) first.4 (record { separates = separates; least = λ h s less. least h.first h.second s less })
+  pub alone_least : (l : Literal) → IsFirstAlone ks l → IsLeastGuard settings sheet inside outside (one_guard l)
+  alone_least l first = subst (λ z. IsLeastGuard settings sheet inside outside (one_guard z)) first.4 (record { separates = separates; least = λ h s less. least h.first h.second s less })
     where
       k : Kept
       k = first.1
 
-      facts : IsLiteral sheet k.literal × HoldsOn sheet inside k.literal × IsSetOf sheet outside k.literal k.outside
+      facts : IsLiteral settings sheet k.literal × HoldsOn sheet inside k.literal × IsSetOf sheet outside k.literal k.outside
       facts = known first.0 k first.2
 
       nowhere : All (λ row. ¬ (LiteralHolds sheet row k.literal)) outside
       nowhere = mask_zero (λ row. LiteralHolds sheet row k.literal) outside (subst (IsSetOf sheet outside k.literal) first.3 facts.2)
 
-      separates : Separates sheet inside outside (one_guard k.literal)
+      separates : Separates settings sheet inside outside (one_guard k.literal)
       separates = record { is = (facts.0, tt); holds = λ i d lt. (facts.1 i d lt, tt); fails = λ i d lt h. nowhere i d lt h.0 }
 
-      one : (f : Literal) → Separates sheet inside outside (one_guard f) → Before f k.literal → ⊥
+      one : (f : Literal) → Separates settings sheet inside outside (one_guard f) → Before f k.literal → ⊥
       one f s before =
           let g = one_kept f s in
           elim (cases_lt g.0 first.0) [
@@ -180,7 +181,7 @@ module _ (sheet : SheetData) (inside outside : List ℕ) (ks : List Kept) (are :
             | inr ge ↦ g.4 (before_later first.0 g.0 k g.1 ge first.2 g.2 f before)
           ]
 
-      least : (f : Literal) (second : Option Literal) → Separates sheet inside outside (record { first = f; second = second }) → guard_cmp (record { first = f; second = second }) (one_guard k.literal) ≡ Less → ⊥
+      least : (f : Literal) (second : Option Literal) → Separates settings sheet inside outside (record { first = f; second = second }) → guard_cmp (record { first = f; second = second }) (one_guard k.literal) ≡ Less → ⊥
       least f None s less = one f s (then_only (literal_cmp f k.literal) less)
       least f (Some m) s less = cc
 
@@ -188,13 +189,13 @@ module _ (sheet : SheetData) (inside outside : List ℕ) (ks : List Kept) (are :
   module _ (alone : NoneAlone ks (length ks)) where
     module _ (i j : ℕ) (a b : Kept) (lt : i < j) (at : slice_get ks i ≡ Some a) (at2 : slice_get ks j ≡ Some b) (apart : bit_and a.outside b.outside ≡ 0) (none : NonePair ks i)
         (partner : NonePartner ks i j) where
-      first : IsLiteral sheet a.literal × HoldsOn sheet inside a.literal × IsSetOf sheet outside a.literal a.outside
+      first : IsLiteral settings sheet a.literal × HoldsOn sheet inside a.literal × IsSetOf sheet outside a.literal a.outside
       first = known i a at
 
-      second : IsLiteral sheet b.literal × HoldsOn sheet inside b.literal × IsSetOf sheet outside b.literal b.outside
+      second : IsLiteral settings sheet b.literal × HoldsOn sheet inside b.literal × IsSetOf sheet outside b.literal b.outside
       second = known j b at2
 
-      separates : Separates sheet inside outside (two_guard a.literal b.literal)
+      separates : Separates settings sheet inside outside (two_guard a.literal b.literal)
       separates = record {
         is = (first.0, (second.0, rises i j a b lt at at2));
         holds = λ k d l. (first.1 k d l, second.1 k d l);
@@ -206,7 +207,7 @@ module _ (sheet : SheetData) (inside outside : List ℕ) (ks : List Kept) (are :
       crossed c f X before (inl less) = never_less c (literal_total.trans c f c less before)
       crossed c f X before (inr not) = not.0 before
 
-      module _ (f m : Literal) (s : Separates sheet inside outside (two_guard f m)) where
+      module _ (f m : Literal) (s : Separates settings sheet inside outside (two_guard f m)) where
         p : (u v : ℕ) × (c d : Kept) × (u < v) × (slice_get ks u ≡ Some c) × (slice_get ks v ≡ Some d) × (bit_and c.outside d.outside ≡ 0)
             × (Before c.literal f ⊎ (NotAfter c.literal f × NotAfter d.literal m))
         p = two_kept f m s alone
@@ -249,28 +250,28 @@ module _ (sheet : SheetData) (inside outside : List ℕ) (ks : List Kept) (are :
           ]
         ]
 
-      least : (f : Literal) (more : Option Literal) → Separates sheet inside outside (record { first = f; second = more }) →
+      least : (f : Literal) (more : Option Literal) → Separates settings sheet inside outside (record { first = f; second = more }) →
           guard_cmp (record { first = f; second = more }) (two_guard a.literal b.literal) ≡ Less → ⊥
       least f None s less = none_alone alone f s
       least f (Some m) s less = two f m s less
 
-      pair_least : IsLeastGuard sheet inside outside (two_guard a.literal b.literal)
+      pair_least : IsLeastGuard settings sheet inside outside (two_guard a.literal b.literal)
       pair_least = record { separates = separates; least = λ h s less. least h.first h.second s less }
 
-    first_pair_least : (g : Guard) → IsFirstPair ks g → IsLeastGuard sheet inside outside g
-    first_pair_least g h = subst (IsLeastGuard sheet inside outside) (sym h.8) (pair_least h.0 h.1 h.2 h.3 h.4 h.5 h.6 h.7 h.9 h.10)
+    first_pair_least : (g : Guard) → IsFirstPair ks g → IsLeastGuard settings sheet inside outside g
+    first_pair_least g h = subst (IsLeastGuard settings sheet inside outside) (sym h.8) (pair_least h.0 h.1 h.2 h.3 h.4 h.5 h.6 h.7 h.9 h.10)
 
     -- where no two are, there is no guard
-    no_guard : NonePair ks (length ks) → (g : Guard) → Separates sheet inside outside g → ⊥
+    no_guard : NonePair ks (length ks) → (g : Guard) → Separates settings sheet inside outside g → ⊥
     no_guard none g s = by_second g.first g.second s
       where
-        by_second : (f : Literal) (second : Option Literal) → Separates sheet inside outside (record { first = f; second = second }) → ⊥
+        by_second : (f : Literal) (second : Option Literal) → Separates settings sheet inside outside (record { first = f; second = second }) → ⊥
         by_second f None s = none_alone alone f s
         by_second f (Some m) s =
             let p = two_kept f m s alone in
             none p.0 (slice_get_within ks p.0 p.2 p.5) p.1 p.4 (slice_get_within ks p.1 p.3 p.6) (record { first = p.2; second = p.3; at_first = p.5; at_second = p.6; apart = p.7 })
 
-    pub least_of_pair : (made : Option Guard) → MatchOption made (NonePair ks (length ks)) (IsFirstPair ks) → MatchOption made ((g : Guard) → ¬ (Separates sheet inside outside g)) (IsLeastGuard sheet inside outside)
+    pub least_of_pair : (made : Option Guard) → MatchOption made (NonePair ks (length ks)) (IsFirstPair ks) → MatchOption made ((g : Guard) → ¬ (Separates settings sheet inside outside g)) (IsLeastGuard settings sheet inside outside)
     least_of_pair None h = no_guard h
     least_of_pair (Some g) h = first_pair_least g h
 

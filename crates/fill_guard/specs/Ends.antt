@@ -3,6 +3,7 @@ use Rattle.std.specs.Prelude.{◌≡◌, ℕ, ◌+◌, List, Option, Some, lengt
 use Rattle.fill_tokens.specs.Token.{token_number}
 use Rattle.fill_tokens.specs.Span.{Spans}
 use Rattle.fill_tokens.specs.declared.token.Token.{Token}
+use Rattle.fill_tokens.specs.declared.token.TheConstants.Token.{ALL}
 use Rattle.fill_guard.specs.declared.pieces.TokenEnds.{TokenEnds}
 
 -- the end of the piece that begins at the position, none where no piece does
@@ -14,9 +15,9 @@ pub record AreEnds (token : Token) (t : List ℕ) (ends : List (Option ℕ)) : T
   pub long : length ends ≡ length t + 1
   pub each : (k : ℕ) (end : Option ℕ) → slice_get ends k ≡ Some end → IsEnd token t k end
 
--- a row for each token, in the order of their numbers
+-- a row for each token of all profiles, in the order of their numbers
 pub record AreTables (t : List ℕ) (rows : List TokenEnds) : Type 0 where
-  pub all : length rows ≡ 26
+  pub all : length rows ≡ length ALL
   pub each : (i : ℕ) (row : TokenEnds) → slice_get rows i ≡ Some row → (token_number row.token ≡ i + 1) × AreEnds row.token t row.ends.items
 
 -- a piece begins there

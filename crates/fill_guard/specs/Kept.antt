@@ -65,9 +65,10 @@ OfSigns column r least l = (l.column ≡ column) × (l.seq ≡ r) × (l.least �
 abbrev pub OfSeqs : ℕ → List (List Token) → ℕ → Literal → Type 0
 OfSeqs column seqs m l = (l.column ≡ column) × ((i : ℕ) × (i < m) × (slice_get seqs i ≡ Some l.seq)) × (1 ≤ l.least) × (l.least ≤ 3)
 
-abbrev pub OfColumn : ℕ → Literal → Type 0
-OfColumn column l = (l.column ≡ column) × IsTested l.seq × (1 ≤ l.least) × (l.least ≤ 3)
+-- .. of the column and a sequence of the profile
+abbrev pub OfColumn : ℕ → ℕ → Literal → Type 0
+OfColumn profile column l = (l.column ≡ column) × IsTested profile l.seq × (1 ≤ l.least) × (l.least ≤ 3)
 
 -- .. of one of the first m columns
-abbrev pub OfColumns : List ℕ → ℕ → Literal → Type 0
-OfColumns columns m l = ((i : ℕ) × (i < m) × (slice_get columns i ≡ Some l.column)) × IsTested l.seq × (1 ≤ l.least) × (l.least ≤ 3)
+abbrev pub OfColumns : ℕ → List ℕ → ℕ → Literal → Type 0
+OfColumns profile columns m l = ((i : ℕ) × (i < m) × (slice_get columns i ≡ Some l.column)) × IsTested profile l.seq × (1 ≤ l.least) × (l.least ≤ 3)

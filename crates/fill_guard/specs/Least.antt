@@ -4,12 +4,13 @@ use Rattle.fill_text.specs.Data.{SheetData}
 use Rattle.fill_tree.specs.Separate.{IsLiteral}
 use Rattle.fill_tree.specs.declared.guard.Literal.{Literal}
 use Rattle.fill_tree.specs.declared.guard.Guard.{Guard}
+use Rattle.fill_tree.specs.declared.user.Settings.{Settings}
 use Rattle.fill_guard.specs.Kept.{AreMore}
 use Rattle.fill_guard.specs.declared.kept.Kept.{Kept}
 
 -- the literals that are kept of all of the grammar
-abbrev pub AreKept : SheetData → List ℕ → List ℕ → List Kept → Type 0
-AreKept sheet inside outside ks = AreMore sheet inside outside (IsLiteral sheet) [] ks
+abbrev pub AreKept : Settings → SheetData → List ℕ → List ℕ → List Kept → Type 0
+AreKept settings sheet inside outside ks = AreMore sheet inside outside (IsLiteral settings sheet) [] ks
 
 -- none of the first m literals alone holds on no row outside
 abbrev pub NoneAlone : List Kept → ℕ → Type 0

@@ -3,7 +3,7 @@
 //!
 //! Where two literals hold on the same rows outside, the earlier one in place of the later one makes an earlier guard that
 //! tells the rows apart as well. And from the first literal on that holds on no row outside no other one is needed.
-ghost use Rattle.std.specs.Prelude.{◌≡◌, ℕ, ◌≤◌, ◌+◌, ◌++◌, ◌∷◌, [], length, All, Contains, IfOk, OnOk, IsTrue, ◌↔◌};
+ghost use Rattle.std.specs.Prelude.{◌≡◌, ℕ, ◌<◌, ◌≤◌, ◌+◌, ◌++◌, ◌∷◌, [], length, All, Contains, IfOk, OnOk, IsTrue, ◌↔◌};
 ghost use Rattle.fill_tokens.specs.Place.{seq_cmp};
 ghost use Rattle.fill_text.specs.Lists.{Lists};
 ghost use Rattle.fill_tree.specs.Separate.{IsTested};
@@ -19,7 +19,7 @@ use crate::sequences::sequences;
 use fill_sheet::Sheet;
 use fill_text::NoMemory;
 use fill_tokens::Seq;
-use fill_tree::Literal;
+use fill_tree::{Literal, Settings};
 use std::alloc::Global;
 
 /// A literal that holds on all rows inside, and on which rows outside it does: those whose bit is set.
@@ -131,7 +131,8 @@ fn keep_sequence(
     inside: &[Pieces],
     outside: &[Pieces],
 ) -> Result<(), NoMemory>
-    requires tested { IsTested seq.now }
+    requires some { 0 < length seq.now }
+    requires short { length seq.now ≤ 2 }
     requires few { length outside.now ≤ 64 }
     ensures { OnOk result (KeepsRead column inside.now outside.now kept.old.items kept.new.items
         (OfLeast column seq.now 4)) }
@@ -150,13 +151,15 @@ fn keep_sequences(
     kept: &mut Vec<Kept>,
     column: u32,
     seqs: &[Seq],
+    profile: u8,
     inside: &[Pieces],
     outside: &[Pieces],
 ) -> Result<(), NoMemory>
-    requires seqs { Lists seq_cmp IsTested seqs.now }
+    requires seqs { Lists seq_cmp (IsTested profile) seqs.now }
     requires few { length outside.now ≤ 64 }
-    ensures { OnOk result (KeepsRead column inside.now outside.now kept.old.items kept.new.items (OfColumn column)) }
+    ensures { OnOk result (KeepsRead column inside.now outside.now kept.old.items kept.new.items (OfColumn profile column)) }
 {
+    let _profile = profile;
     for i in 0..seqs.len() {
         keep_sequence(alloc, kept, column, &seqs[i], inside, outside)?;
     }
@@ -170,42 +173,47 @@ fn keep_column(
     sheet: &Sheet,
     column: u32,
     seqs: &[Seq],
+    profile: u8,
     inside: &[u32],
     outside: &[u32],
 ) -> Result<(), NoMemory>
     requires input { Contains sheet.now.inputs column }
-    requires seqs { Lists seq_cmp IsTested seqs.now }
+    requires seqs { Lists seq_cmp (IsTested profile) seqs.now }
     requires inside { All (IsRowOf sheet.now) inside.now }
     requires outside { All (IsRowOf sheet.now) outside.now }
     requires few { length outside.now ≤ 64 }
-    ensures { OnOk result (Keeps sheet.now inside.now outside.now kept.old.items kept.new.items (OfColumn column)) }
+    ensures { OnOk result (Keeps sheet.now inside.now outside.now kept.old.items kept.new.items (OfColumn profile column)) }
 {
     if has_set(kept, NO_ROWS) {
         return Ok(());
     }
     let inside = read_cells(alloc, sheet, column, inside)?;
     let outside = read_cells(alloc, sheet, column, outside)?;
-    keep_sequences(alloc, kept, column, seqs, &inside, &outside)
+    keep_sequences(alloc, kept, column, seqs, profile, &inside, &outside)
 }
 
-/// The literals of all input columns that can stand in the least guard, in order.
+/// The literals of all input columns that can stand in the least guard under the settings, in order.
 pub fn kept_literals(
     alloc: Global,
     sheet: &Sheet,
     inside: &[u32],
     outside: &[u32],
+    settings: &Settings,
 ) -> Result<Vec<Kept>, NoMemory>
     requires inside { All (IsRowOf sheet.now) inside.now }
     requires outside { All (IsRowOf sheet.now) outside.now }
     requires few { length outside.now ≤ 64 }
-    ensures { IfOk result (λ kept. AreKept sheet.now inside.now outside.now kept.items) }
+    ensures { IfOk result (λ kept. AreKept settings.now sheet.now inside.now outside.now kept.items) }
 {
     let _rows = sheet.rows();
-    let seqs = sequences(alloc)?;
+    let profile = settings.profile;
+    let seqs = sequences(alloc, profile)?;
     let inputs = sheet.inputs();
     let mut kept = Vec::new(alloc);
     for i in 0..inputs.len() {
-        keep_column(alloc, &mut kept, sheet, inputs[i], &seqs, inside, outside)?;
+        keep_column(
+            alloc, &mut kept, sheet, inputs[i], &seqs, profile, inside, outside,
+        )?;
     }
     Ok(kept)
 }

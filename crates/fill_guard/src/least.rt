@@ -1,7 +1,9 @@
 //! The least guard of the literals that are kept.
 ghost use Rattle.std.specs.Prelude.{◌≡◌, ◌≢◌, ℕ, List, ◌≤◌, ◌<◌, ◌+◌, [], length, All, IfOk, MatchOption, IsTrue, ◌↔◌};
 ghost use Rattle.fill_text.specs.Data.{SheetData};
+ghost use Rattle.fill_tree.specs.Grammar.{AreSettings};
 ghost use Rattle.fill_tree.specs.Separate.{Separates, IsLeastGuard};
+ghost use Rattle.fill_tree.specs.declared.user.Settings.{Settings};
 ghost use Rattle.fill_tree.specs.declared.guard.Guard.{Guard};
 ghost use Rattle.fill_guard.specs.Read.{IsRowOf};
 ghost use Rattle.fill_guard.specs.Least.{AreKept, AreApart, NoneAlone, IsFirstAlone, NonePartner, IsPartner, NonePair, IsFirstPair};
@@ -64,8 +66,8 @@ fn first_pair(kept: &[Kept]) -> Option<Guard>
 
 /// The least guard of the literals.
 fn least(kept: &[Kept]) -> Option<Guard>
-    ensures { (sheet : SheetData) (inside outside : List ℕ) → AreKept sheet inside outside kept.now →
-        MatchOption result ((g : Guard) → ¬ (Separates sheet inside outside g)) (IsLeastGuard sheet inside outside) }
+    ensures { (settings : Settings) (sheet : SheetData) (inside outside : List ℕ) → AreKept settings sheet inside outside kept.now →
+        MatchOption result ((g : Guard) → ¬ (Separates settings sheet inside outside g)) (IsLeastGuard settings sheet inside outside) }
 {
     match first_alone(kept) {
         Some(first) => Some(Guard {
@@ -76,7 +78,8 @@ fn least(kept: &[Kept]) -> Option<Guard>
     }
 }
 
-/// The least guard that holds on all rows inside and on no row outside; none exactly where no guard does.
+/// The least guard of the settings' grammar that holds on all rows inside and on no row outside; none exactly where no
+/// guard does.
 pub fn guard(
     alloc: Global,
     sheet: &Sheet,
@@ -84,14 +87,14 @@ pub fn guard(
     outside: &[u32],
     settings: &Settings,
 ) -> Result<Option<Guard>, NoMemory>
+    requires settings { AreSettings settings.now }
     requires few { length outside.now ≤ 64 }
     requires inside { All (IsRowOf sheet.now) inside.now }
     requires outside { All (IsRowOf sheet.now) outside.now }
     ensures { IfOk result (λ made. MatchOption made
-        ((g : Guard) → ¬ (Separates sheet.now inside.now outside.now g))
-        (IsLeastGuard sheet.now inside.now outside.now)) }
+        ((g : Guard) → ¬ (Separates settings.now sheet.now inside.now outside.now g))
+        (IsLeastGuard settings.now sheet.now inside.now outside.now)) }
 {
-    let _settings = settings;
-    let kept = kept_literals(alloc, sheet, inside, outside)?;
+    let kept = kept_literals(alloc, sheet, inside, outside, settings)?;
     Ok(least(&kept))
 }

@@ -39,7 +39,7 @@ impl Model for Pieces {
 
 /// The token of a place in the list of all tokens.
 pub fn token_at(i: usize) -> Token
-    requires { i < 26 }
+    requires { i < length Token.ALL }
     ensures { token_number result ≡ i + 1 }
 {
     Token::ALL[i]
@@ -58,7 +58,7 @@ fn ends_of(alloc: Global, token: Token, t: &Text) -> Result<Vec<Option<usize>>, 
 
 /// Puts the row of the token of this place to the table.
 fn push_row(alloc: Global, rows: &mut Vec<TokenEnds>, i: usize, t: &Text) -> Result<(), NoMemory>
-    requires { i < 26 }
+    requires { i < length Token.ALL }
     ensures { OnOk result ((row : TokenEnds) × (rows.new.items ≡ rows.old.items ++ row ∷ []) ×
         (token_number row.token ≡ i + 1) × AreEnds row.token t.now row.ends.items) }
 {
@@ -72,7 +72,7 @@ fn tables(alloc: Global, t: &Text) -> Result<Vec<TokenEnds>, NoMemory>
     ensures { IfOk result (λ rows. AreTables t.now rows.items) }
 {
     let mut rows = Vec::new(alloc);
-    for i in 0..26 {
+    for i in 0..Token::ALL.len() {
         push_row(alloc, &mut rows, i, t)?;
     }
     Ok(rows)

@@ -3,7 +3,7 @@ ghost use Rattle.std.specs.Prelude.{◌↔◌, IsTrue, All};
 ghost use Rattle.fill_guard.specs.Read.{IsRowOf};
 
 use crate::guard;
-use Token::{Digits, Lower, Start, Upper};
+use Token::{Digits, Lower, NonAlpha, Start, Upper};
 use fill_sheet::Sheet;
 use fill_tokens::{Seq, Token};
 use fill_tree::{Constants, Guard, Literal, Settings};
@@ -14,6 +14,12 @@ const SETTINGS: Settings = Settings {
     depth: 2,
     constants: Constants::Any,
     profile: 1,
+};
+
+const SECOND: Settings = Settings {
+    depth: 3,
+    constants: Constants::Any,
+    profile: 2,
 };
 
 /// Whether the column has the token at least once, or where negated has not.
@@ -68,7 +74,7 @@ fn are_rows(rows: &[u32], sheet: &Sheet) -> bool
     true
 }
 
-/// Whether this is the least guard that tells the rows apart.
+/// Whether this is the least guard that tells the rows apart under the first profile.
 fn gives(
     alloc: Global,
     sheet: &Sheet,
@@ -76,6 +82,19 @@ fn gives(
     outside: &[u32],
     expected: Option<Guard>,
 ) -> Result<bool, Fail> {
+    gives_under(alloc, false, sheet, inside, outside, expected)
+}
+
+/// Whether it is under the first profile, or under the second one.
+fn gives_under(
+    alloc: Global,
+    second: bool,
+    sheet: &Sheet,
+    inside: &[u32],
+    outside: &[u32],
+    expected: Option<Guard>,
+) -> Result<bool, Fail> {
+    let settings = if second { SECOND } else { SETTINGS };
     if !are_rows(inside, sheet) {
         return Ok(false);
     }
@@ -86,7 +105,7 @@ fn gives(
         return Ok(false);
     }
     Ok(
-        match (guard(alloc, sheet, inside, outside, &SETTINGS)?, &expected) {
+        match (guard(alloc, sheet, inside, outside, &settings)?, &expected) {
             (None, None) => true,
             (Some(made), Some(expected)) => are_same_guards(&made, expected),
             _ => false,
@@ -134,5 +153,18 @@ fn literals_in_two_columns(rt: HostRuntime) -> Result<(), Fail> {
     let both = two_columns(alloc, b"1,1\na,1\n1,a\n")?;
     let expected = two(literal(false, 1, Digits), literal(false, 2, Digits));
     assert!(rt; gives(alloc, &both, &[1], &[2, 3], expected)?);
+    Ok(())
+}
+
+#[test]
+fn a_guard_that_only_the_second_profile_has(rt: HostRuntime) -> Result<(), Fail> {
+    let alloc = rt.alloc();
+    let sheet = one_column(alloc, b"a!a!a!a\na!a!a\n")?;
+    assert!(rt; gives_under(alloc, false, &sheet, &[1], &[2], None)?);
+    let thrice = Literal {
+        least: 3,
+        ..literal(false, 1, NonAlpha)
+    };
+    assert!(rt; gives_under(alloc, true, &sheet, &[1], &[2], one(thrice))?);
     Ok(())
 }

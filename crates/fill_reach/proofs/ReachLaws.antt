@@ -5,12 +5,13 @@ use Rattle.std.proofs.lemmas.List.{take_all, get_or_default}
 use Rattle.fill_text.specs.Data.{SheetData, TableData, nth, key_at, table_row_at}
 use Rattle.fill_tables.specs.Keys.{IsKeyedRow}
 use Rattle.fill_tables.specs.Tables.{AreTables, IsTable}
-use Rattle.fill_tokens.specs.PlaceGrammar.{IsPlace}
+use Rattle.fill_tokens.specs.Profile.{IsPlaceOf}
 use Rattle.fill_tokens.specs.declared.place.Place.TheVariants.{CPos}
 use Rattle.fill_tokens.proofs.ValueLaws.{value_within}
 use Rattle.fill_tree.specs.Tree.{SourceTree, AtomTree, Atoms, col, select, constant, whole, sub, end, more}
 use Rattle.fill_tree.specs.Grammar.{AreConditions, AreNumbersOf, HasPart, IsCondition, IsPart, IsSource, atom_depth, greatest_depth, number_of_atoms, source_depth}
 use Rattle.fill_tree.specs.Value.{ConditionIs, ConditionsAre, SourceIs}
+use Rattle.fill_tree.specs.declared.user.Settings.{Settings}
 use Rattle.fill_reach.specs.Marks.{IsKnownBy, IsReachedBy}
 use Rattle.fill_reach.specs.Spots.{Spot, IsFree, IsFreeCell, IsInputCell, IsKeyCell, IsPieceOf, IsPieceOfSome, IsShort, IsSpot, KeepScalars, Touches}
 use Rattle.fill_reach.proofs.CellLaws.{some_same, nth_at, nth_all, nth_within, keys_of, rows_of, width_of, row_read, key_table, row_table, cell_of, read_there, read_back, all_read, same_length, key_column, row_full}
@@ -55,19 +56,19 @@ texts_scalars tables s columns cells texts key_is row_is same scalars k e l =
     let at = read_back (nth cells) columns texts x same (k, l, refl_at texts k e l) in
     scalars x (columns, at.0, key_is, at.1, cell_of tables s.table s.row at.0 cells row_is ∙ at.2)
 
-module _ (sheet : SheetData) (tables : List TableData) (row : ℕ) where
-  pub reached_deeper : (d e : ℕ) (s : Spot) → d ≤ e → IsReachedBy sheet tables row d s → IsReachedBy sheet tables row e s
+module _ (settings : Settings) (sheet : SheetData) (tables : List TableData) (row : ℕ) where
+  pub reached_deeper : (d e : ℕ) (s : Spot) → d ≤ e → IsReachedBy settings sheet tables row d s → IsReachedBy settings sheet tables row e s
   reached_deeper d e s le h = record { column = h.column; conditions = h.conditions; source = h.source; shallow = (let f = h.shallow in omega arith); picks = h.picks }
 
   -- no lookup has the depth 0
-  pub reached_not_zero : (s : Spot) → IsReachedBy sheet tables row 0 s → ⊥
+  pub reached_not_zero : (s : Spot) → IsReachedBy settings sheet tables row 0 s → ⊥
   reached_not_zero s h = let f : 1 + greatest_depth h.conditions ≤ 0 = h.shallow in omega arith
 
   -- a text is known where it is an input's cell, or the cell of a row that is reached in a free column
-  pub known_input : (d : ℕ) (v : List ℕ) → IsInputCell sheet row v → IsKnownBy sheet tables row d v
+  pub known_input : (d : ℕ) (v : List ℕ) → IsInputCell sheet row v → IsKnownBy settings sheet tables row d v
   known_input d v h = record { tree = col h.0; source = (h.1, h.2); shallow = omega arith; value = h.3 }
 
-  pub known_cell : (d : ℕ) (s : Spot) (v : List ℕ) → AreTables tables → IsReachedBy sheet tables row d s → IsFreeCell tables s v → IsKnownBy sheet tables row d v
+  pub known_cell : (d : ℕ) (s : Spot) (v : List ℕ) → AreTables tables → IsReachedBy settings sheet tables row d s → IsFreeCell tables s v → IsKnownBy settings sheet tables row d v
   known_cell d s v are h (column, free, cell) = record {
     tree = select column s.table s.key h.conditions;
     source = (numbers_from tables column s.table s.key (number_of_atoms h.conditions) h.source.0.0 are h.source.0.2 h.source.0.4 free, h.source.1, h.source.2);
@@ -75,8 +76,8 @@ module _ (sheet : SheetData) (tables : List TableData) (row : ℕ) where
     value = (h.picks.0, s.row, h.picks.1, h.picks.2, cell);
   }
 
-  known_split : (d : ℕ) (v : List ℕ) (t : SourceTree) → IsSource sheet tables t → source_depth t ≤ d → SourceIs sheet tables row t v
-      → IsInputCell sheet row v ⊎ ((s : Spot) × IsReachedBy sheet tables row d s × IsFreeCell tables s v)
+  known_split : (d : ℕ) (v : List ℕ) (t : SourceTree) → IsSource settings sheet tables t → source_depth t ≤ d → SourceIs sheet tables row t v
+      → IsInputCell sheet row v ⊎ ((s : Spot) × IsReachedBy settings sheet tables row d s × IsFreeCell tables s v)
   known_split d v (col c) is le value = inl (c, is.0, is.1, value)
   known_split d v (select column table key conditions) is le (texts, found, conditions_are, keyed, cell) = inr (
     record { table = table; key = key; row = found },
@@ -84,11 +85,11 @@ module _ (sheet : SheetData) (tables : List TableData) (row : ℕ) where
     (column, free_of tables column table key (number_of_atoms conditions) is.0, cell),
   )
 
-  pub known_cases : (d : ℕ) (v : List ℕ) → IsKnownBy sheet tables row d v → IsInputCell sheet row v ⊎ ((s : Spot) × IsReachedBy sheet tables row d s × IsFreeCell tables s v)
+  pub known_cases : (d : ℕ) (v : List ℕ) → IsKnownBy settings sheet tables row d v → IsInputCell sheet row v ⊎ ((s : Spot) × IsReachedBy settings sheet tables row d s × IsFreeCell tables s v)
   known_cases d v h = known_split d v h.tree h.source h.shallow h.value
 
   -- a condition that is no constant is a piece of a known text
-  part_piece : (d : ℕ) (a : AtomTree) (v : List ℕ) → IsPart a → IsCondition sheet tables a → atom_depth a ≤ d → ConditionIs sheet tables row a v → IsPieceOfSome (IsKnownBy sheet tables row d) v
+  part_piece : (d : ℕ) (a : AtomTree) (v : List ℕ) → IsPart a → IsCondition settings sheet tables a → atom_depth a ≤ d → ConditionIs sheet tables row a v → IsPieceOfSome (IsKnownBy settings sheet tables row d) v
   part_piece d (constant t) v part is le value = absurd part
   part_piece d (whole s) v part is le value = (v, record { tree = s; source = is; shallow = le; value = value.0 }, whole_piece v value.1)
   part_piece d (sub s p q) v part is le (t, a, b, source, left, right, lt, same) = (
@@ -97,8 +98,8 @@ module _ (sheet : SheetData) (tables : List TableData) (row : ℕ) where
     (a, b, lt, value_within q t b right, same),
   )
 
-  parts_piece : (d : ℕ) (cs : Atoms) (texts : List (List ℕ)) → HasPart cs → AreConditions sheet tables cs → greatest_depth cs ≤ d → ConditionsAre sheet tables row cs texts
-      → (v : List ℕ) × Contains texts v × IsPieceOfSome (IsKnownBy sheet tables row d) v
+  parts_piece : (d : ℕ) (cs : Atoms) (texts : List (List ℕ)) → HasPart cs → AreConditions settings sheet tables cs → greatest_depth cs ≤ d → ConditionsAre sheet tables row cs texts
+      → (v : List ℕ) × Contains texts v × IsPieceOfSome (IsKnownBy settings sheet tables row d) v
   parts_piece d end texts part is le value = absurd part
   parts_piece d (more a rest) [] part is le value = absurd value
   parts_piece d (more a rest) (v ∷ vs) part is le value =
@@ -112,7 +113,7 @@ module _ (sheet : SheetData) (tables : List TableData) (row : ℕ) where
       ]
 
   -- what is reached has a key cell that is a piece of a known text
-  pub reached_touches : (d : ℕ) (s : Spot) → IsReachedBy sheet tables row (suc d) s → Touches (IsKnownBy sheet tables row d) tables s
+  pub reached_touches : (d : ℕ) (s : Spot) → IsReachedBy settings sheet tables row (suc d) s → Touches (IsKnownBy settings sheet tables row d) tables s
   reached_touches d s h =
       let deep : 1 + greatest_depth h.conditions ≤ suc d = h.shallow in
       let texts : List (List ℕ) = h.picks.0 in
@@ -121,7 +122,7 @@ module _ (sheet : SheetData) (tables : List TableData) (row : ℕ) where
       let at = read_back (nth keyed.1) keyed.0 texts found.0 keyed.4 found.1 in
       (found.0, (keyed.0, at.0, keyed.2, at.1, cell_of tables s.table s.row at.0 keyed.1 keyed.3 ∙ at.2), found.2)
 
-  pub reached_spot : (d : ℕ) (s : Spot) → IsReachedBy sheet tables row d s → IsSpot tables s
+  pub reached_spot : (d : ℕ) (s : Spot) → IsReachedBy settings sheet tables row d s → IsSpot tables s
   reached_spot d s h =
       let texts : List (List ℕ) = h.picks.0 in
       let keyed : IsKeyedRow tables s.table s.key texts s.row = h.picks.2 in
@@ -144,7 +145,7 @@ module _ (sheet : SheetData) (tables : List TableData) (row : ℕ) where
   constants [] = end
   constants (t ∷ ts) = more (constant t) (constants ts)
 
-  constants_are : (texts : List (List ℕ)) → All (All IsScalar) texts → AreConditions sheet tables (constants texts) × ConditionsAre sheet tables row (constants texts) texts
+  constants_are : (texts : List (List ℕ)) → All (All IsScalar) texts → AreConditions settings sheet tables (constants texts) × ConditionsAre sheet tables row (constants texts) texts
       × (number_of_atoms (constants texts) ≡ length texts) × (greatest_depth (constants texts) ≡ 0)
   constants_are [] all = (tt, refl, refl, refl)
   constants_are (t ∷ ts) all =
@@ -157,12 +158,12 @@ module _ (sheet : SheetData) (tables : List TableData) (row : ℕ) where
   record Conditions (d : ℕ) (texts : List (List ℕ)) : Type 0 where
     conditions : Atoms
     part : HasPart conditions
-    proper : AreConditions sheet tables conditions
+    proper : AreConditions settings sheet tables conditions
     values : ConditionsAre sheet tables row conditions texts
     number : number_of_atoms conditions ≡ length texts
     shallow : greatest_depth conditions ≤ d
 
-  conditions_by : (d : ℕ) (a : AtomTree) (v : List ℕ) (texts : List (List ℕ)) → IsPart a → IsCondition sheet tables a → atom_depth a ≤ d → ConditionIs sheet tables row a v
+  conditions_by : (d : ℕ) (a : AtomTree) (v : List ℕ) (texts : List (List ℕ)) → IsPart a → IsCondition settings sheet tables a → atom_depth a ≤ d → ConditionIs sheet tables row a v
       → All (All IsScalar) texts → Contains texts v → Conditions d texts
   conditions_by d a v [] part is le value all c = absurd (let lt = c.1 in omega arith)
   conditions_by d a v (t ∷ ts) part is le value all (zero, lt, e) =
@@ -191,12 +192,12 @@ module _ (sheet : SheetData) (tables : List TableData) (row : ℕ) where
       }
 
   -- the place of a position that has 32 bits
-  place_is : (a : ℕ) → a < 2 ^ 31 → IsPlace (CPos (pos a))
-  place_is a lt = grind arith
+  place_is : (a : ℕ) → a < 2 ^ 31 → IsPlaceOf settings.profile (CPos (pos a))
+  place_is a lt = (grind arith, tt)
 
   -- a lookup by these conditions picks the row that has their texts
   reached_from : (d : ℕ) (s : Spot) (columns : List ℕ) (cells texts : List (List ℕ)) → AreTables tables → IsSpot tables s → key_at tables s.table s.key ≡ Some columns
-      → table_row_at tables s.table s.row ≡ Some cells → map (nth cells) columns ≡ map Some texts → Conditions d texts → IsReachedBy sheet tables row (suc d) s
+      → table_row_at tables s.table s.row ≡ Some cells → map (nth cells) columns ≡ map Some texts → Conditions d texts → IsReachedBy settings sheet tables row (suc d) s
   reached_from d s columns cells texts are spot key_is row_is same made =
       let size : length columns ≡ number_of_atoms made.conditions = same_length (nth cells) columns texts same ∙ sym made.number in
       let free = spot.free in
@@ -211,7 +212,7 @@ module _ (sheet : SheetData) (tables : List TableData) (row : ℕ) where
 
   -- a row of the tables with a key cell that is a piece of a known short text is reached
   pub touches_reached : (d : ℕ) (s : Spot) (v u : List ℕ) → AreTables tables → IsSpot tables s → KeepScalars tables s → IsKeyCell tables s v
-      → IsKnownBy sheet tables row d u → IsShort u → IsPieceOf v u → IsReachedBy sheet tables row (suc d) s
+      → IsKnownBy settings sheet tables row d u → IsShort u → IsPieceOf v u → IsReachedBy settings sheet tables row (suc d) s
   touches_reached d s v u are spot scalars (columns, column, key_is, there, cell) known short (a, b, lt, le, piece) =
       let t = nth_at tables s.table spot.keyed.first spot.keyed.last in
       let rows = rows_of tables s.table t.0 t.1 in

@@ -4,36 +4,37 @@ use Rattle.fill_text.specs.Data.{SheetData, TableData}
 use Rattle.fill_tree.specs.Tree.{SourceTree, Atoms, select}
 use Rattle.fill_tree.specs.Grammar.{IsSource, source_depth}
 use Rattle.fill_tree.specs.Value.{SourceIs}
+use Rattle.fill_tree.specs.declared.user.Settings.{Settings}
 use Rattle.fill_text.specs.Lists.{Lists}
 use Rattle.fill_reach.specs.Reach.{Picks}
 use Rattle.fill_reach.specs.Spots.{Spot, IsFreeCell, IsInputCell, IsShort, IsSpot, KeepScalars, Touches, spot_of, spot_cmp}
 use Rattle.fill_reach.specs.declared.rows.ReachedRow.{ReachedRow}
 
--- some source, no deeper than this, has the value
-pub record IsKnownBy (sheet : SheetData) (tables : List TableData) (row depth : ℕ) (v : List ℕ) : Type 0 where
+-- some source under the settings' profile, no deeper than this, has the value
+pub record IsKnownBy (settings : Settings) (sheet : SheetData) (tables : List TableData) (row depth : ℕ) (v : List ℕ) : Type 0 where
   pub tree : SourceTree
-  pub source : IsSource sheet tables tree
+  pub source : IsSource settings sheet tables tree
   pub shallow : source_depth tree ≤ depth
   pub value : SourceIs sheet tables row tree v
 
 -- some lookup, no deeper than this, picks the row by the key
-pub record IsReachedBy (sheet : SheetData) (tables : List TableData) (row depth : ℕ) (s : Spot) : Type 0 where
+pub record IsReachedBy (settings : Settings) (sheet : SheetData) (tables : List TableData) (row depth : ℕ) (s : Spot) : Type 0 where
   pub column : ℕ
   pub conditions : Atoms
-  pub source : IsSource sheet tables (select column s.table s.key conditions)
+  pub source : IsSource settings sheet tables (select column s.table s.key conditions)
   pub shallow : source_depth (select column s.table s.key conditions) ≤ depth
   pub picks : Picks sheet tables row s.table s.key conditions s.row
 
 -- the row's mark is right at a depth: one that is reached by it has the least depth that reaches it, another one has 0
-pub record IsMark (sheet : SheetData) (tables : List TableData) (row depth : ℕ) (r : ReachedRow) : Type 0 where
-  pub unmarked : r.depth ≡ 0 → (before : ℕ) → depth ≡ suc before → ¬ (Touches (IsKnownBy sheet tables row before) tables (spot_of r))
-  pub marked : (before : ℕ) → r.depth ≡ suc before → (suc before ≤ depth) × IsReachedBy sheet tables row (suc before) (spot_of r)
-      × ¬ (IsReachedBy sheet tables row before (spot_of r))
+pub record IsMark (settings : Settings) (sheet : SheetData) (tables : List TableData) (row depth : ℕ) (r : ReachedRow) : Type 0 where
+  pub unmarked : r.depth ≡ 0 → (before : ℕ) → depth ≡ suc before → ¬ (Touches (IsKnownBy settings sheet tables row before) tables (spot_of r))
+  pub marked : (before : ℕ) → r.depth ≡ suc before → (suc before ≤ depth) × IsReachedBy settings sheet tables row (suc before) (spot_of r)
+      × ¬ (IsReachedBy settings sheet tables row before (spot_of r))
 
 -- all rows by all keys that leave a column free, with their marks at a depth
-pub record AreMarked (sheet : SheetData) (tables : List TableData) (row depth : ℕ) (rows : List ReachedRow) : Type 0 where
+pub record AreMarked (settings : Settings) (sheet : SheetData) (tables : List TableData) (row depth : ℕ) (rows : List ReachedRow) : Type 0 where
   pub spots : Lists spot_cmp (IsSpot tables) (map spot_of rows)
-  pub marks : All (IsMark sheet tables row depth) rows
+  pub marks : All (IsMark settings sheet tables row depth) rows
 
 -- the text stands in a cell of a row that has this mark
 abbrev pub IsNewCell : List TableData → List ReachedRow → ℕ → List ℕ → Type 0

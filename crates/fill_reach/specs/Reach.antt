@@ -1,5 +1,5 @@
 -- Which rows of tables the lookups of the grammar pick on a row of the sheet.
-use Rattle.std.specs.Prelude.{◌≡◌, ℕ, ◌≤◌, List}
+use Rattle.std.specs.Prelude.{◌≡◌, ℕ, ◌≤◌, List, Contains}
 use Rattle.std.specs.declared.cmp.Ordering.{Ordering}
 use Rattle.std.specs.Ordering.{nat_cmp, ordering_then}
 use Rattle.fill_text.specs.Data.{SheetData, TableData}
@@ -18,13 +18,18 @@ Picks sheet tables row table key conditions found =
 -- some lookup of the grammar, of this depth, picks the table's row by the key
 abbrev pub IsReachedAt : Settings → SheetData → List TableData → ℕ → ℕ → ℕ → ℕ → ℕ → Type 0
 IsReachedAt settings sheet tables row table key found depth = (column : ℕ) × (conditions : Atoms)
-    × IsSource sheet tables (select column table key conditions) × (source_depth (select column table key conditions) ≡ depth)
+    × IsSource settings sheet tables (select column table key conditions) × (source_depth (select column table key conditions) ≡ depth)
     × (depth ≤ settings.depth) × Picks sheet tables row table key conditions found
 
 -- some does, and the depth is the least of any that does
 pub record IsReached (settings : Settings) (sheet : SheetData) (tables : List TableData) (row : ℕ) (r : ReachedRow) : Type 0 where
   pub reached : IsReachedAt settings sheet tables row r.table r.key r.row r.depth
   pub least : (depth : ℕ) → IsReachedAt settings sheet tables row r.table r.key r.row depth → r.depth ≤ depth
+
+-- each row that some lookup of the grammar picks is listed, with no more than the lookup's depth
+abbrev pub FindsEach : Settings → SheetData → List TableData → ℕ → List ReachedRow → Type 0
+FindsEach settings sheet tables row rows = (table key found depth : ℕ) → IsReachedAt settings sheet tables row table key found depth →
+    (r : ReachedRow) × Contains rows r × (r.table ≡ table) × (r.key ≡ key) × (r.row ≡ found) × (r.depth ≤ depth)
 
 -- by the table, the key, the row and the depth
 abbrev pub reached_cmp : ReachedRow → ReachedRow → Ordering

@@ -7,7 +7,8 @@ ghost use Rattle.std.specs.Prelude.{◌≡◌, ◌≤◌, All, Contains, IfOk, l
 ghost use Rattle.fill_tables.specs.Tables.{AreTables};
 ghost use Rattle.fill_text.specs.Lists.{Lists};
 ghost use Rattle.fill_reach.specs.Marks.{AreMarkedAs, IsMarkedAs};
-ghost use Rattle.fill_reach.specs.Reach.{IsReached, reached_cmp};
+ghost use Rattle.fill_tree.specs.Grammar.{AreSettings};
+ghost use Rattle.fill_reach.specs.Reach.{FindsEach, IsReached, reached_cmp};
 ghost use Rattle.fill_reach.specs.Spots.{IsSpot, spot_of};
 
 use crate::rows::{ReachedRow, ReachedRows, all_rows, with_depth};
@@ -19,6 +20,8 @@ use fill_tree::Settings;
 use std::alloc::Global;
 
 /// The rows of tables that the lookups of the grammar pick on the row of the sheet, no deeper than the settings allow.
+///
+/// So each row that some lookup picks is there, with no more than that lookup's depth.
 pub fn reach(
     alloc: Global,
     row: u32,
@@ -28,7 +31,9 @@ pub fn reach(
 ) -> Result<ReachedRows, NoMemory>
     requires first { 1 ≤ row }
     requires last { row ≤ length sheet.now.rows }
-    ensures { IfOk result (λ reached. Lists reached_cmp (IsReached settings.now sheet.now tables.now row) reached.rows) }
+    requires settings { AreSettings settings.now }
+    ensures listed { IfOk result (λ reached. Lists reached_cmp (IsReached settings.now sheet.now tables.now row) reached.rows) }
+    ensures found { IfOk result (λ reached. FindsEach settings.now sheet.now tables.now row reached.rows) }
 {
     let mut all = all_rows(alloc, tables)?;
     let rows = all.as_mut_slice();

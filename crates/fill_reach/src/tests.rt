@@ -31,10 +31,13 @@ fn reaches(
     if sheet.rows() == 0 {
         return Ok(false);
     }
+    if depth > 3 {
+        return Ok(false);
+    }
     let settings = Settings {
         depth,
         constants: Constants::Any,
-        profile: 1,
+        profile: if depth > 2 { 2 } else { 1 },
     };
     let reached = reach(alloc, 1, &sheet, tables, &settings)?;
     Ok(reached.rows.as_slice() == expected)
@@ -67,7 +70,7 @@ fn a_month_by_the_number_that_an_item_has(rt: HostRuntime) -> Result<(), Fail> {
         reaches(
             alloc,
             "pen 12",
-            u8::MAX,
+            3,
             &tables,
             &[at(1, 3, 2), at(1, 12, 1), at(2, 1, 1)]
         )?
@@ -84,5 +87,19 @@ fn rows_without_a_free_column_or_a_filled_key_cell(rt: HostRuntime) -> Result<()
     tables.add_table("whole", b"a,b\n")?;
     tables.add_key("whole", &[1, 2])?;
     assert!(rt; reaches(alloc, "xb", 2, &tables, &[at(1, 1, 1), at(1, 2, 1)])?);
+    Ok(())
+}
+
+#[test]
+fn a_chain_of_three_tables(rt: HostRuntime) -> Result<(), Fail> {
+    let alloc = rt.alloc();
+    let mut tables = Tables::new(alloc);
+    for (name, bytes) in [("a", b"p,q\n"), ("b", b"q,r\n"), ("c", b"r,s\n")] {
+        tables.add_table(name, bytes)?;
+        tables.add_key(name, &[1])?;
+    }
+    assert!(rt; reaches(alloc, "p", 2, &tables, &[at(1, 1, 1), at(2, 1, 2)])?);
+    let all = [at(1, 1, 1), at(2, 1, 2), at(3, 1, 3)];
+    assert!(rt; reaches(alloc, "p", 3, &tables, &all)?);
     Ok(())
 }

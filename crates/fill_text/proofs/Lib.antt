@@ -1,2 +1,3 @@
+pub mod ListReads
 pub mod ListsLaws
 pub mod Scalars

@@ -11,7 +11,8 @@ use Rattle.fill_tree.specs.Tree.{AtomTree, Atoms, end, more}
 use Rattle.fill_tree.specs.Chosen.{IsLeast}
 use Rattle.fill_tree.specs.Cost.{atom_cost, program_cost}
 use Rattle.fill_tree.specs.Order.{atom_cmp, atoms_cmp, program_cmp, Before, OneIsBefore, NotAfter}
-use Rattle.fill_tree.proofs.Ranked.{AtMost, ranked, pair-less_first, pair-less_second}
+use Rattle.fill_text.specs.Orders.{AtMost}
+use Rattle.fill_tree.proofs.Ranked.{ranked, pair-less_first, pair-less_second}
 use Rattle.fill_tree.proofs.TreeOrder.{atoms_antisymm, atoms_trans, exact_atom_lists}
 
 pub program_antisymm : (p q : Atoms) → program_cmp p q ≡ ordering_reverse (program_cmp q p)

@@ -15,18 +15,19 @@ use Rattle.fill_tree.specs.declared.guard.Literal.{Literal}
 use Rattle.fill_tree.specs.declared.guard.Guard.{Guard}
 use Rattle.fill_tree.specs.declared.user.Settings.{Settings}
 
--- the sequences of literals: one or two tokens, the start of the text only first and its end only last
-pub record IsTested (r : List Token) : Type 0 where
+-- the sequences of literals under a profile: one or two of its tokens, the start of the text only first and its end
+-- only last
+pub record IsTested (profile : ℕ) (r : List Token) : Type 0 where
   pub some : 0 < length r
   pub few : length r ≤ 2
   pub start : OnlyFirst Start r
   pub last : OnlyLast End r
+  pub tokens : AreTokensOf profile r
 
--- the literal tests an input's cell for one, two or three matches of a sequence of the profile's tokens
+-- the literal tests an input's cell for one, two or three matches
 pub record IsLiteral (settings : Settings) (sheet : SheetData) (l : Literal) : Type 0 where
   pub input : Contains sheet.inputs l.column
-  pub tested : IsTested l.seq
-  pub tokens : AreTokensOf settings.profile l.seq
+  pub tested : IsTested settings.profile l.seq
   pub some : 1 ≤ l.least
   pub few : l.least ≤ 3
 

@@ -64,7 +64,6 @@ pub fn earlier_parts_make_earlier_programs()
 {}
 
 /// A program explains two lists of examples together exactly where it explains each of them.
-#[tactic(auto, using(crate::proofs::Explained::together))]
 pub fn lists_are_explained_together()
     ensures { (settings : Settings) → (sheet : SheetData) → (tables : List TableData) → (examples : List Example) →
         (others : List Example) → (p : Atoms) → Explains settings sheet tables (examples ++ others) p

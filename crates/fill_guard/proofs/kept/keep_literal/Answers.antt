@@ -1,7 +1,7 @@
 use Rattle.std.proofs.Common.{◌≡◌, ◌++◌, ◌∷◌, [], sym, subst}
 use Rattle.std.specs.Prelude.{Contains}
 use Rattle.std.proofs.lemmas.Bool.{iff_false}
-use Rattle.fill_places.proofs.HopLaws.{on_ok}
+use Rattle.fill_text.proofs.ListReads.{on_ok}
 use Rattle.fill_tree.specs.declared.guard.Literal.{Literal}
 use Rattle.fill_guard.specs.Kept.{IsSetOf, KeepsCounted, OnlyLiteral}
 use Rattle.fill_guard.specs.declared.kept.Kept.{Kept}

@@ -2,7 +2,7 @@ use Rattle.std.proofs.Common.{◌≡◌, arith, length, sym, subst, ap}
 use Rattle.std.specs.Prelude.{Contains}
 use Rattle.std.specs.List.{AllZip}
 use Rattle.std.proofs.lemmas.Slice.Zip.{AllZip-long}
-use Rattle.fill_places.proofs.HopLaws.{on_ok}
+use Rattle.fill_text.proofs.ListReads.{on_ok}
 use Rattle.fill_guard.specs.Read.{IsMatchCount}
 use Rattle.fill_guard.specs.declared.kept.Kept.{Kept}
 use Rattle.fill_guard.specs.Kept.{KeepsCounted, KeepsRead, OfLeast}

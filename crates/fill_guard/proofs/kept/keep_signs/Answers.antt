@@ -1,5 +1,5 @@
 use Rattle.std.proofs.Common.{true, false, refl}
-use Rattle.fill_places.proofs.HopLaws.{on_ok}
+use Rattle.fill_text.proofs.ListReads.{on_ok}
 use Rattle.fill_tree.specs.declared.guard.Literal.{Literal}
 use Rattle.fill_guard.specs.Kept.{KeepsCounted, OnlyLiteral, OfSigns}
 use Rattle.fill_guard.proofs.KeptLaws.{signs_both}

@@ -1,6 +1,6 @@
 use Rattle.std.proofs.Common.{◌≡◌, ◌∷◌, [], List, arith, subst}
 use Rattle.fill_tokens.specs.declared.token.Token.{Token}
-use Rattle.fill_places.proofs.SideLaws.{one_is, two_is}
+use Rattle.fill_tokens.proofs.SeqOrder.{one_is, two_is}
 use Rattle.fill_guard.specs.Read.{IsMatchCount}
 use Rattle.fill_guard.proofs.EndLaws.{ends_within, count_of_one, count_of_two}
 use Rattle.fill_guard.proofs.pieces.Pieces.count.Goals as goal

@@ -1,7 +1,7 @@
 use Rattle.std.proofs.Common.{◌≡◌, ◌-◌, List, Option, ℕ, arith, length, refl, sym, subst, slice_get, Some}
 use Rattle.std.proofs.lemmas.Option.{slice_get_read}
 use Rattle.fill_tokens.proofs.TokenLaws.{number_within}
-use Rattle.fill_places.proofs.OrderLaws.{number_some}
+use Rattle.fill_tokens.proofs.SeqOrder.{number_some}
 use Rattle.fill_guard.specs.Ends.{AreEnds}
 use Rattle.fill_guard.specs.declared.pieces.TokenEnds.{TokenEnds}
 use Rattle.fill_guard.proofs.EndLaws.{row_of}
