@@ -1,5 +1,5 @@
 -- Programs that explain the examples of two lists.
-use Rattle.std.proofs.Common.{◌≡◌, List, [], ◌∷◌, ◌++◌, All}
+use Rattle.std.proofs.Common.{List, [], ◌∷◌, ◌++◌, All}
 use Rattle.std.specs.Prelude.{◌↔◌}
 use Rattle.std.proofs.lemmas.List.Elements.{All-nil, All-cons, All-head, All-tail, All-append}
 use Rattle.fill_text.specs.Data.{SheetData, TableData}
