@@ -139,6 +139,10 @@ fn what_is_put_at_the_end(rt: HostRuntime) -> Result<(), Fail> {
     bytes.append(&[0x62, 0x63])?;
     assert_eq!(rt; bytes.as_slice(), [0x61, 0x62, 0x63].as_slice());
     assert_eq!(rt; bytes.len(), 3);
+    let mut roomy = List::with_capacity(rt.alloc(), 2)?;
+    roomy.push(7)?;
+    let items = roomy.into_vec();
+    assert_eq!(rt; List::from_vec(items).as_slice(), [7].as_slice());
     Ok(())
 }
 
