@@ -31,24 +31,6 @@ texts_from_no_bad columns number (fields ∷ more) none =
       | Some column ↦ λ is none. cc
     ] refl none
 
--- the columns from a place on where the one there is text
-pub bad_column-next : (columns : List ℕ) (fields : List (List ℕ)) (i : ℕ) → i < length columns → is_utf8 (field_of (get_or columns i 0) fields) ≡ true
-    → bad_column (drop i columns) fields ≡ bad_column (drop (i + 1) columns) fields
-bad_column-next columns fields i lt is = rw (drop-cons columns i 0, is, add-one) refl
-
-pub bad_column-here : (columns : List ℕ) (fields : List (List ℕ)) (i : ℕ) → i < length columns → is_utf8 (field_of (get_or columns i 0) fields) ≡ false
-    → bad_column (drop i columns) fields ≡ Some (get_or columns i 0)
-bad_column-here columns fields i lt is = rw (drop-cons columns i 0, is) refl
-
--- the records from a place on where the one there has no bad column
-pub first_bad-next : (columns : List ℕ) (number : ℕ) (records : List (List (List ℕ))) (i : ℕ) (d : List (List ℕ)) → i < length records → bad_column columns (get_or records i d) ≡ None
-    → first_bad columns number (drop i records) ≡ first_bad columns (number + 1) (drop (i + 1) records)
-first_bad-next columns number records i d lt is = rw (drop-cons records i d, is, add-one number, add-one i) refl
-
-pub first_bad-here : (columns : List ℕ) (number : ℕ) (records : List (List (List ℕ))) (i : ℕ) (d : List (List ℕ)) (column : ℕ) → i < length records → bad_column columns (get_or records i d) ≡ Some column
-    → first_bad columns number (drop i records) ≡ Some (number, column)
-first_bad-here columns number records i d column lt is = rw (drop-cons records i d, is) refl
-
 -- whether the fields from a place on are UTF-8, where the one there is not, or is, or none is there
 pub all_here : (fields : List (List ℕ)) (i : ℕ) (field : List ℕ) → slice_get fields i ≡ Some field → is_utf8 field ≡ false → list_all is_utf8 (drop i fields) ≡ false
 all_here [] i field there is = cc
