@@ -1,2 +1,4 @@
 pub mod Fields
+pub mod Few
 pub mod Runs
+pub mod Texts

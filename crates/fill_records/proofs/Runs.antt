@@ -4,12 +4,15 @@ use Rattle.std.proofs.Math.Seq.{take-append_seam}
 use Rattle.std.proofs.lemmas.List.{take_all}
 use Rattle.std.specs.Prelude.{if◌then◌else◌}
 use Rattle.csv.specs.Machine.{Read, next_record, step, is_end, fields_after, field_after, ends_at_end}
-use Rattle.csv.specs.Reading.{ReadRecord, Reached, source_of, records_from, default_config, strip_bom}
+use Rattle.csv.specs.declared.error.ErrorKind.{ErrorKind}
+use Rattle.csv.specs.declared.error.ErrorKind.TheVariants as kind
+use Rattle.csv.specs.Reading.{ExplainsRead, ReadRecord, Reached, source_of, records_from, default_config, strip_bom}
 use Rattle.csv.specs.declared.reader.Reader.{Reader}
 use Rattle.csv.specs.declared.parser.Config.{Config}
 use Rattle.csv.specs.declared.parser.State.{State}
 use Rattle.csv.specs.declared.parser.State.TheVariants as st
 use Rattle.csv.proofs.ReadFacts.{rows-more, rows-end}
+use Rattle.fill_records.specs.Errors.{IsOfMemory}
 use Rattle.fill_records.specs.Records.{records_of}
 
 -- a read that ends here, or else one that ends later, leaves no more than so many bytes
@@ -18,12 +21,12 @@ either_leaves true here p later most is short _ = let same : here ≡ p = cc in 
 either_leaves false here p later most is _ short = short is
 
 -- a read that ends with the text
-ends_here : (b : Bool) (here p : Read) → (if b then Some here else None) ≡ Some p → here ≡ p
+pub ends_here : (b : Bool) (here p : Read) → (if b then Some here else None) ≡ Some p → here ≡ p
 ends_here true here p is = cc
 ends_here false here p is = cc
 
 -- a read takes at least one byte, where there is one
-leaves_less : (cfg : Config) (s : State) (fields : List (List ℕ)) (field : List ℕ) (c : ℕ) (rest : List ℕ) (p : Read) → next_record cfg s fields field (c ∷ rest) ≡ Some p → length p.2 ≤ length rest
+pub leaves_less : (cfg : Config) (s : State) (fields : List (List ℕ)) (field : List ℕ) (c : ℕ) (rest : List ℕ) (p : Read) → next_record cfg s fields field (c ∷ rest) ≡ Some p → length p.2 ≤ length rest
 unfolding next_record
 leaves_less cfg s fields field c [] p is =
     let fields2 = fields_after (step cfg s c).1 fields field in
@@ -122,3 +125,12 @@ Reading-end rem a b fields bytes done n most config here few read =
 pub Reading-full : (bytes : List ℕ) (done : List (List (List ℕ))) (n : ℕ) (s : State) (source : Option (List ℕ)) → Reading bytes done n s source → done ≡ take n (records_of bytes)
 Reading-full bytes done n s source here =
     rw (here.all, ← here.count) (sym (take-append_seam done (records_from default_config here.reads s here.left)))
+
+-- where records may differ in length, a read of bytes fails for memory or its source alone
+pub memory_alone : {R : Type 0} (rem : R → Option (List ℕ)) (a b : Reader R) (k : ErrorKind) → a.flexible ≡ true → ExplainsRead rem a b false k → IsOfMemory k
+memory_alone rem a b (kind.Io e) flexible why = tt
+memory_alone rem a b kind.OutOfMemory flexible why = tt
+memory_alone rem a b (kind.UnequalLengths pos expected len) flexible why = let not : a.flexible ≡ false = why.0 in cc
+memory_alone rem a b (kind.Utf8 pos err) flexible why = let not : false ≡ true = why.0 in cc
+memory_alone rem a b (kind.Serialize text) flexible why = why
+memory_alone rem a b (kind.Deserialize pos err) flexible why = why

@@ -1,9 +1,11 @@
 //! Reading the records of a file.
 ghost use Rattle.std.specs.Prelude.{◌≡◌, IfOk, take};
+ghost use Rattle.csv.specs.Reading.{error_kind};
 ghost use Rattle.fill_records.specs.Records.{records_of};
+ghost use Rattle.fill_records.specs.Errors.{IsOfMemory};
 
 use crate::Record;
-use csv::{ByteRecord, ReaderBuilder};
+use csv::{ByteRecord, Error, ErrorKind, ReaderBuilder};
 use fill_text::{List, NoMemory};
 use std::alloc::Global;
 
@@ -24,9 +26,22 @@ pub fn read_records(alloc: Global, bytes: &[u8], most: usize) -> Result<List<Rec
         match reader.read_byte_record(&mut row) {
             Ok(true) => records.push(Record { row })?,
             Ok(false) => break,
-            // bytes in memory can always be read, and records of any lengths are taken
-            Err(_) => return Err(NoMemory),
+            Err(error) => return Err(want_of_memory(error)),
         }
     }
     Ok(records)
+}
+
+/// What an error of reading bytes in memory tells. They can always be read, so one of their source is memory's too.
+fn want_of_memory(error: Error) -> NoMemory
+    requires { IsOfMemory (error_kind error) }
+{
+    match error.into_kind() {
+        ErrorKind::Io(_) => NoMemory,
+        ErrorKind::OutOfMemory => NoMemory,
+        ErrorKind::UnequalLengths { .. } => unreachable!(),
+        ErrorKind::Utf8 { .. } => unreachable!(),
+        ErrorKind::Serialize(_) => unreachable!(),
+        ErrorKind::Deserialize { .. } => unreachable!(),
+    }
 }

@@ -49,3 +49,31 @@ fn fields_by_column(rt: HostRuntime) {
     assert!(rt; record.field(3) == b"".as_slice());
     assert!(rt; record.get(2).is_none());
 }
+
+#[test]
+fn fields_that_are_not_utf8(rt: HostRuntime) {
+    let alloc = rt.alloc();
+    let records = read_records(alloc, b"a,b\n\xff,b\na,b,\xc3\n", 3).expect(&rt, "memory");
+    let records = records.as_slice();
+    for (i, columns, bad, all) in [
+        (0, [1, 2, 4], None, true),
+        (1, [3, 2, 1], Some(1), false),
+        (1, [2, 3, 4], None, false),
+        (2, [1, 3, 2], Some(3), false),
+    ] {
+        let record = records.get(i).expect(&rt, "a record");
+        assert_eq!(rt; record.bad_column(&columns), bad, "{i}");
+        assert_eq!(rt; record.is_text(), all, "{i}");
+    }
+    assert_eq!(rt; first_bad(records, 5, &[2, 1]), Some((6, 1)));
+    assert_eq!(rt; first_bad(records, 5, &[2, 3]), Some((7, 3)));
+    assert_eq!(rt; first_bad(records, 5, &[2]), None);
+    assert!(rt; is_text(b"\xc3\xa9"));
+    assert!(rt; !is_text(b"\xc3"));
+    let record = records.first().expect(&rt, "a record");
+    if is_text(record.field(2)) {
+        let text = record.text(alloc, 2).expect(&rt, "memory");
+        assert_eq!(rt; text.as_slice(), ['b'].as_slice());
+    }
+    records_are_few(b"a");
+}

@@ -7,11 +7,12 @@ use Rattle.std.proofs.lemmas.List.Sorted.{All-permutation, IsPermutation-sym, Is
 use Rattle.std.specs.Str.{is_utf8}
 use Rattle.fill_records.specs.Records.{field_of}
 use Rattle.fill_sheet.specs.Columns.{IsColumn, AreInputs, IsOutput, rising, used}
-use Rattle.fill_sheet.specs.Sheet.{IsSheet, IsText, text_in, first_bad, headers, row_records, row_of, sheet_of}
+use Rattle.fill_records.specs.Texts.{IsText, first_bad, text_in}
+use Rattle.fill_sheet.specs.Sheet.{IsSheet, headers, row_records, row_of, sheet_of}
 use Rattle.fill_sheet.specs.declared.error.SheetError.TheVariants.{TooManyRows, NotUtf8}
 use Rattle.fill_sheet.proofs.Rising.{rising-permutation}
 use Rattle.fill_sheet.proofs.Strict.{rising-strict}
-use Rattle.fill_sheet.proofs.Texts.{texts_from_no_bad}
+use Rattle.fill_records.proofs.Texts.{texts_from_no_bad}
 
 -- the records of the rows in which a bad field is looked for
 abbrev pub bad_in : Bool → List ℕ → Option ℕ → List (List (List ℕ)) → Option (ℕ × ℕ)
@@ -49,11 +50,15 @@ pub row_records-few : (header : Bool) (records : List (List (List ℕ))) → len
 row_records-few header records = omega (arith, length-drop (headers header) (take 20000 records), length-take 20000 records)
 
 -- the columns that are read are columns
-pub used-columns : (inputs : List ℕ) (output : Option ℕ) → All IsColumn inputs → IsOutput inputs output → All IsColumn (used inputs output)
+used-columns : (inputs : List ℕ) (output : Option ℕ) → All IsColumn inputs → IsOutput inputs output → All IsColumn (used inputs output)
 used-columns inputs None columns is = All-permutation IsColumn (inputs ++ []) (rising (inputs ++ [])) (rising-permutation (inputs ++ [])) (All-append IsColumn inputs [] columns (All-nil IsColumn))
 used-columns inputs (Some output) columns is =
     All-permutation IsColumn (inputs ++ output ∷ []) (rising (inputs ++ output ∷ [])) (rising-permutation (inputs ++ output ∷ []))
     (All-append IsColumn inputs (output ∷ []) columns (All-cons IsColumn output [] is.0 (All-nil IsColumn)))
+
+-- and count from 1
+pub used-counted : (inputs : List ℕ) (output : Option ℕ) → All IsColumn inputs → IsOutput inputs output → All (λ column. 0 < column) (used inputs output)
+used-counted inputs output columns is = λ k d lt. let here = used-columns inputs output columns is k d lt in omega (arith, here.first)
 
 pub rising-columns : (inputs : List ℕ) → All IsColumn inputs → All IsColumn (rising inputs)
 rising-columns inputs columns = All-permutation IsColumn inputs (rising inputs) (rising-permutation inputs) columns

@@ -1,17 +1,12 @@
 -- What a sheet is of a CSV file's bytes: its rows, or the one refusal.
-use Rattle.std.specs.Prelude.{◌≡◌, ℕ, ◌+◌, ◌<◌, ◌≤◌, List, [], ◌∷◌, length, take, drop, map, All, IsTrue, Bool, true, false, not, if◌then◌else◌, nat_lt, Option, Some, None, Result, Ok, Err, option_and_then}
-use Rattle.std.specs.List.{find}
+use Rattle.std.specs.Prelude.{◌≡◌, ℕ, ◌+◌, ◌<◌, ◌≤◌, List, [], ◌∷◌, length, take, drop, map, All, Bool, true, false, if◌then◌else◌, nat_lt, Option, Some, None, Result, Ok, Err, option_and_then}
 use Rattle.std.specs.List.Sorted.{IsStrictlyIncreasing}
-use Rattle.std.specs.Str.{chars, is_utf8}
 use Rattle.fill_text.specs.Data.{RowData, SheetData, nth}
-use Rattle.fill_records.specs.Records.{records_of, field_of}
+use Rattle.fill_records.specs.Records.{records_of}
+use Rattle.fill_records.specs.Texts.{first_bad, text_in}
 use Rattle.fill_sheet.specs.Columns.{IsColumn, rising, used}
 use Rattle.fill_sheet.specs.declared.error.SheetError.{SheetError}
 use Rattle.fill_sheet.specs.declared.error.SheetError.TheVariants.{TooManyRows, NotUtf8}
-
--- the text of a record's field
-abbrev pub text_in : List (List ℕ) → ℕ → List ℕ
-text_in record_fields column = chars (field_of column record_fields)
 
 -- a text, where it isn't empty
 abbrev pub unless_empty : List ℕ → Option (List ℕ)
@@ -25,24 +20,6 @@ given_in output fields = option_and_then (λ column. unless_empty (text_in field
 -- the row of a record
 abbrev pub row_of : List ℕ → Option ℕ → List (List ℕ) → RowData
 row_of inputs output fields = record { cells = map (text_in fields) inputs; given = given_in output fields }
-
--- the first of these columns whose field is not UTF-8
-abbrev pub bad_column : List ℕ → List (List ℕ) → Option ℕ
-bad_column columns fields = find (λ column. not (is_utf8 (field_of column fields))) columns
-
--- each field in these columns is UTF-8
-abbrev pub IsText : List ℕ → List (List ℕ) → Type 0
-IsText columns fields = All (λ column. IsTrue (is_utf8 (field_of column fields))) columns
-
--- the number of a record and its bad column, where it has one, or else what a later record has
-abbrev pub or_later : ℕ → Option ℕ → Option (ℕ × ℕ) → Option (ℕ × ℕ)
-or_later number (Some column) later = Some (number, column)
-or_later number None later = later
-
--- the number and the column of the first bad field in records that count from a number
-abbrev pub first_bad : List ℕ → ℕ → List (List (List ℕ)) → Option (ℕ × ℕ)
-first_bad columns number [] = None
-first_bad columns number (fields ∷ more) = or_later number (bad_column columns fields) (first_bad columns (number + 1) more)
 
 -- how many records stand before the rows: the header, where there is one
 abbrev pub headers : Bool → ℕ

@@ -1,14 +1,13 @@
 //! What is read of a sheet's records.
-ghost use Rattle.std.specs.Prelude.{◌≡◌, ◌+◌, ◌<◌, ◌^◌, ◌++◌, length, map, take, All, IfOk, IsTrue, option_to_list};
+ghost use Rattle.std.specs.Prelude.{◌≡◌, ◌+◌, ◌++◌, map, All, IfOk, option_to_list};
 ghost use Rattle.std.specs.Option.{ForSome};
-ghost use Rattle.std.specs.Str.{is_utf8};
-ghost use Rattle.fill_records.specs.Records.{field_of};
 ghost use Rattle.fill_sheet.specs.Columns.{IsColumn};
-ghost use Rattle.fill_sheet.specs.Sheet.{IsText, bad_column, first_bad, given_in, headers, row_of, row_records, text_in};
+ghost use Rattle.fill_records.specs.Texts.{IsText, text_in};
+ghost use Rattle.fill_sheet.specs.Sheet.{given_in, headers, row_of, row_records};
 
 use crate::row::Row;
 use fill_records::Record;
-use fill_text::{NoMemory, Text, TextError};
+use fill_text::{NoMemory, Text};
 use std::alloc::Global;
 
 /// How many records a sheet's file may have, the header among them.
@@ -30,58 +29,6 @@ pub(crate) fn first_number(header: bool) -> u32
     if header { 2 } else { 1 }
 }
 
-/// Whether bytes are UTF-8.
-fn is_text(bytes: &[u8]) -> bool
-    ensures { result ≡ is_utf8 bytes.now }
-{
-    match str::from_utf8(bytes) {
-        Ok(_) => true,
-        Err(_) => false,
-    }
-}
-
-/// The first of these columns whose field is not UTF-8.
-fn bad_column(fields: &Record, columns: &[u32]) -> Option<u32>
-    requires { All IsColumn columns.now }
-    ensures { result ≡ bad_column columns.now fields.now }
-{
-    for column in columns {
-        if !is_text(fields.field(*column)) {
-            return Some(*column);
-        }
-    }
-    None
-}
-
-/// The number of the first record with a bad field, where they count from `first`, and the column of that field.
-pub(crate) fn first_bad(records: &[Record], first: u32, columns: &[u32]) -> Option<(u32, u32)>
-    requires fits { first + length records.now < 2 ^ 32 }
-    requires columns { All IsColumn columns.now }
-    ensures { result ≡ first_bad columns.now first records.now }
-{
-    let mut number = first;
-    for record in records {
-        if let Some(column) = bad_column(record, columns) {
-            return Some((number, column));
-        }
-        number += 1;
-    }
-    None
-}
-
-/// The text of a field.
-fn text_in(alloc: Global, fields: &Record, column: u32) -> Result<Text, NoMemory>
-    requires column { IsColumn column }
-    requires text { IsTrue (is_utf8 (field_of column fields.now)) }
-    ensures { IfOk result (λ text. text ≡ text_in fields.now column) }
-{
-    match Text::from_utf8(alloc, fields.field(column)) {
-        Ok(text) => Ok(text),
-        Err(TextError::NoMemory) => Err(NoMemory),
-        Err(TextError::NotUtf8 { .. }) => unreachable!(),
-    }
-}
-
 /// The texts of a record's fields in these columns.
 fn cells_in(alloc: Global, fields: &Record, inputs: &[u32]) -> Result<Vec<Text>, NoMemory>
     requires columns { All IsColumn inputs.now }
@@ -90,7 +37,7 @@ fn cells_in(alloc: Global, fields: &Record, inputs: &[u32]) -> Result<Vec<Text>,
 {
     let mut cells = Vec::with_capacity(alloc, inputs.len())?;
     for column in inputs {
-        cells.push(text_in(alloc, fields, *column)?)?;
+        cells.push(fields.text(alloc, *column)?)?;
     }
     Ok(cells)
 }
@@ -104,7 +51,7 @@ fn given_in(alloc: Global, fields: &Record, output: Option<u32>) -> Result<Optio
     let Some(column) = output else {
         return Ok(None);
     };
-    let text = text_in(alloc, fields, column)?;
+    let text = fields.text(alloc, column)?;
     if text.len() == 0 {
         return Ok(None);
     }

@@ -7,9 +7,9 @@ ghost use Rattle.fill_sheet.specs.Sheet.{IsSheet, given_at, read_sheet, sheet_of
 
 use crate::SheetError;
 use crate::columns::{rising, used};
-use crate::reading::{LIMIT, first_bad, first_number, row_records, rows_of};
+use crate::reading::{LIMIT, first_number, row_records, rows_of};
 use crate::row::Row;
-use fill_records::{Record, read_records};
+use fill_records::{Record, first_bad, read_records};
 use fill_text::Text;
 use std::alloc::Global;
 use std::marker::Model;

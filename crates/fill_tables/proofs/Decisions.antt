@@ -1,12 +1,12 @@
 -- What decides whether records are a table.
-use Rattle.std.proofs.Common.{◌≡◌, ℕ, ◌<◌, ◌≤◌, min, List, [], length, take, map, true, false, leb, Option, None, Some, Ok, Err, nat_lt, get_or, refl, ◌∙◌, arith}
+use Rattle.std.proofs.Common.{◌≡◌, ℕ, ◌<◌, ◌≤◌, min, List, [], length, take, true, false, leb, Option, None, Some, Ok, Err, nat_lt, get_or, refl, arith}
 use Rattle.std.proofs.lemmas.Bool.{leb-true, leb-false}
 use Rattle.std.proofs.lemmas.Bool.Decides.{nat_tests}
 use Rattle.std.proofs.lemmas.List.{take_all, take-take, length-take, length-map}
 use Rattle.std.proofs.lemmas.List.Elements.{All-map, All-nil}
 use Rattle.std.proofs.lemmas.List.FromFn.{length-map-range_with_len}
-use Rattle.fill_text.specs.Data.{TableData}
-use Rattle.fill_tables.specs.Reading.{first_bad, row_of, width_of, text_in, decided, table_of}
+use Rattle.fill_records.specs.Texts.{first_bad, text_in}
+use Rattle.fill_tables.specs.Reading.{columns_of, row_of, width_of, table_of, table_with}
 use Rattle.fill_tables.specs.Keys.{IsKey}
 use Rattle.fill_tables.specs.Tables.{IsTable}
 use Rattle.fill_tables.specs.declared.error.TableError.TheVariants.{TooManyRows, NotUtf8}
@@ -25,41 +25,37 @@ take-min xs most = elim (leb most (length xs)) as (λ b. leb most (length xs) �
       rw (take_all (min (length xs) most) xs same, take_all most xs le) refl
 ] refl
 
-pub table_of-bad : (name : List ℕ) (records : List (List (List ℕ))) (number column : ℕ) → first_bad 1 (take 2000 records) ≡ Some (number, column) → table_of name records ≡ Err (NotUtf8 number column)
+-- the bad field that is looked for
+abbrev pub bad_in : List (List (List ℕ)) → Option (ℕ × ℕ)
+bad_in records = first_bad (columns_of (take 2000 records)) 1 (take 2000 records)
+
+pub table_of-bad : (name : List ℕ) (records : List (List (List ℕ))) (number column : ℕ) → bad_in records ≡ Some (number, column) → table_of name records ≡ Err (NotUtf8 number column)
 table_of-bad name records number column bad = rw bad refl
 
-pub table_of-many : (name : List ℕ) (records : List (List (List ℕ))) → first_bad 1 (take 2000 records) ≡ None → 2000 < length records → table_of name records ≡ Err (TooManyRows 2000)
+pub table_of-many : (name : List ℕ) (records : List (List (List ℕ))) → bad_in records ≡ None → 2000 < length records → table_of name records ≡ Err (TooManyRows 2000)
 table_of-many name records none many = let more : nat_lt 2000 (length records) ≡ true = grind (arith, nat_tests) in rw (none, more) refl
 
-pub table_of-rows : (name : List ℕ) (records : List (List (List ℕ))) → first_bad 1 (take 2000 records) ≡ None → length records ≤ 2000
-    → table_of name records ≡ Ok (record { name = name; width = width_of records; rows = map (row_of (width_of records)) records; keys = [] })
+pub table_of-rows : (name : List ℕ) (records : List (List (List ℕ))) → bad_in records ≡ None → length records ≤ 2000 → table_of name records ≡ Ok (table_with name (take 2000 records))
 table_of-rows name records none few = let more : nat_lt 2000 (length records) ≡ false = grind (arith, nat_tests) in rw (none, more) refl
 
-decided-many : (bad : Option (ℕ × ℕ)) (table other : TableData) → decided bad true table ≡ decided bad true other
-decided-many None table other = refl
-decided-many (Some bad) table other = refl
+same_test : (a b n : ℕ) → (n < a → n < b) → (n < b → n < a) → nat_lt n a ≡ nat_lt n b
+same_test a b n there back = grind (arith, nat_tests)
 
 -- one record more than a table may have is enough to decide
 pub table_of-take : (name : List ℕ) (records : List (List (List ℕ))) → table_of name (take 2001 records) ≡ table_of name records
-table_of-take name records = elim (leb (length records) 2001) as (λ b. leb (length records) 2001 ≡ b → table_of name (take 2001 records) ≡ table_of name records) [
-  | true ↦ λ is. let few : length records ≤ 2001 = leb-true (length records) 2001 is in rw (take_all 2001 records few) refl
-  | false ↦ λ is.
-      let lt : 2001 < length records = leb-false (length records) 2001 is in
-      let front : take 2000 (take 2001 records) ≡ take 2000 records = take-take 2000 2001 records (omega arith) in
-      let size : length (take 2001 records) ≡ 2001 = length-take 2001 records ∙ omega arith in
-      let less : nat_lt 2000 (length (take 2001 records)) ≡ true = rw size refl in
-      let more : nat_lt 2000 (length records) ≡ true = grind (arith, nat_tests) in
-      rw (front, less, more) (decided-many (first_bad 1 (take 2000 records)) _ _)
-] refl
+table_of-take name records =
+    let front : take 2000 (take 2001 records) ≡ take 2000 records = take-take 2000 2001 records (omega arith) in
+    let size = length-take 2001 records in
+    let test : nat_lt 2000 (length (take 2001 records)) ≡ nat_lt 2000 (length records) = same_test (length (take 2001 records)) (length records) 2000 (λ lt. omega arith) (λ lt. omega arith) in
+    rw (front, test) refl
 
 -- the table that is made is one
-pub made-table : (name : List ℕ) (records : List (List (List ℕ))) → length records ≤ 2000
-    → IsTable (record { name = name; width = width_of records; rows = map (row_of (width_of records)) records; keys = [] })
+pub made-table : (name : List ℕ) (records : List (List (List ℕ))) → length records ≤ 2000 → IsTable (table_with name records)
 made-table name records few =
     record {
       narrow = width_of-narrow records;
-      limited = omega (arith, few, length-map records (row_of (width_of records)));
-      full = All-map (λ row. length row ≡ width_of records) (row_of (width_of records)) records (λ k d lt. length-map-range_with_len (text_in (get_or records k d)) 1 (width_of records));
+      limited = omega (arith, few, length-map records (row_of (columns_of records)));
+      full = All-map (λ row. length row ≡ width_of records) (row_of (columns_of records)) records (λ k d lt. length-map-range_with_len (text_in (get_or records k d)) 1 (width_of records));
       few = omega arith;
-      keyed = All-nil (IsKey (width_of records) (map (row_of (width_of records)) records));
+      keyed = All-nil (IsKey (width_of records) (table_with name records).rows);
     }

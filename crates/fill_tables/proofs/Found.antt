@@ -51,6 +51,17 @@ same_chars a b text other =
           ] refl
     ] refl
 
+pub bytes_eq-sym : (a b : List ℕ) → bytes_eq a b ≡ bytes_eq b a
+bytes_eq-sym a b =
+    elim (bytes_eq a b) as (λ r. bytes_eq a b ≡ r → r ≡ bytes_eq b a) [
+      | true ↦ λ is. sym ((bytes_eq-Decides b a).1 (sym ((bytes_eq-Decides a b).0 is)))
+      | false ↦ λ is.
+          elim (bytes_eq b a) as (λ s. bytes_eq b a ≡ s → false ≡ s) [
+            | false ↦ λ _. refl
+            | true ↦ λ back. let yes = (bytes_eq-Decides a b).1 (sym ((bytes_eq-Decides b a).0 back)) in cc
+          ] refl
+    ] refl
+
 pub OnOk-map : {T E : Type 0} (r : Result T E) (P Q : Type 0) → (P → Q) → OnOk r P → OnOk r Q
 OnOk-map (Ok x) P Q f p = f p
 OnOk-map (Err e) P Q f p = p

@@ -163,13 +163,6 @@ order-inserted columns rows end order place is le before after =
       ];
     }
 
-pub order-empty : (columns : List ℕ) (rows : List (List (List ℕ))) → IsOrder columns rows 0 []
-order-empty columns rows = record {
-  within = λ k d lt. absurd (omega arith);
-  whole = λ k lt. absurd (omega arith);
-  rises = λ i j d less lt. absurd (omega arith);
-}
-
 -- cells against texts, from a place on where there is no further text
 pub cells-longer : (row : List (List ℕ)) (columns : List ℕ) (texts : List (List ℕ)) (i : ℕ) → i < length columns → length texts ≤ i → cells_cmp (map (nth row) (drop i columns)) (map Some (drop i texts)) ≡ Greater
 cells-longer row columns texts i lt past = rw (drop-cons columns i 0, drop_all i texts past) refl

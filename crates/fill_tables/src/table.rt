@@ -1,15 +1,14 @@
 //! A table.
 ghost use Rattle.std.specs.Prelude.{◌≡◌, ◌≢◌, nat_lt, Ok, Err, IfOk, IfErr, OnOk, OnErr};
 ghost use Rattle.std.specs.List.{list_any};
-ghost use Rattle.std.specs.Str.{bytes_eq, chars};
 ghost use Rattle.fill_tables.specs.Keys.{AreKeyColumns};
 ghost use Rattle.fill_tables.specs.Reading.{read_table, table_of};
 ghost use Rattle.fill_tables.specs.Tables.{IsTable, with_key};
 
 use crate::TableError;
 use crate::order::order_by;
-use crate::reading::{LIMIT, first_bad, first_records, rows_of, width_of};
-use fill_records::{Record, read_records};
+use crate::reading::{LIMIT, columns_to, first_records, rows_of, width_of};
+use fill_records::{Record, first_bad, read_records};
 use fill_text::{List, Name, NoMemory, Text};
 use std::alloc::Global;
 use std::marker::Model;
@@ -67,7 +66,10 @@ impl Table {
         ensures name { IfOk result (λ table. table.name ≡ name) }
         ensures shape { IfOk result IsTable }
     {
-        if let Some((number, column)) = first_bad(first_records(records)) {
+        let kept = first_records(records);
+        let width = width_of(kept);
+        let columns = columns_to(alloc, width)?;
+        if let Some((number, column)) = first_bad(kept, 1, &columns) {
             return Err(TableError::NotUtf8 { number, column });
         }
         if records.len() > LIMIT {
@@ -75,21 +77,13 @@ impl Table {
                 limit: LIMIT as u32,
             });
         }
-        let width = width_of(records);
-        let rows = rows_of(alloc, records, width)?;
+        let rows = rows_of(alloc, kept, &columns)?;
         Ok(Table {
             name,
             width,
             rows,
             keys: Vec::new(alloc),
         })
-    }
-
-    /// Whether the table has this name.
-    pub(crate) fn is_named(&self, name: &str) -> bool
-        ensures { result ≡ bytes_eq self.now.name (chars name.now) }
-    {
-        self.name.as_str() == name
     }
 
     /// Adds a key.

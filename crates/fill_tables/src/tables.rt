@@ -10,6 +10,7 @@ use crate::order::{cell_in, order_by, row_with};
 use crate::table::Table;
 use arrayvec::ArrayVec;
 use fill_text::{List, Name, NoMemory, Text, TextError};
+use indexmap::IndexSet;
 use std::alloc::Global;
 use std::marker::Model;
 
@@ -22,19 +23,22 @@ const MOST_COLUMNS: usize = 3;
 /// Lookup tables, which programs find texts in by keys. All their numbers count from 1.
 #[derive(Debug, Drop)]
 pub struct Tables {
+    /// The tables' names, each at the place of its table.
+    names: IndexSet<String>,
     tables: Vec<Table>,
 }
 
 impl Model for Tables {
     ghost use Rattle.std.specs.Prelude.{List};
     ghost use Rattle.fill_text.specs.Data.{TableData};
+    ghost use Rattle.fill_tables.specs.Index.{IsIndex};
     ghost use Rattle.fill_tables.specs.Tables.{AreTables};
 
     ghost Value = { List TableData };
 
     ghost view = { λ tables. tables.tables.items };
 
-    ghost invariant = { λ tables. AreTables tables.tables.items };
+    ghost invariant = { λ tables. AreTables tables.tables.items × IsIndex tables.names.keys tables.tables.items };
 }
 
 impl Tables {
@@ -43,6 +47,7 @@ impl Tables {
         ensures { result ≡ [] }
     {
         Tables {
+            names: IndexSet::new(alloc),
             tables: Vec::new(alloc),
         }
     }
@@ -56,7 +61,8 @@ impl Tables {
         ensures err { IfErr result (λ e. e ≢ TableError.NoMemory → add_table_to self.old (chars name.now) bytes.now ≡ Err e) }
         ensures kept { OnErr result (self.new ≡ self.old) }
     {
-        if self.tables.len() == MOST_TABLES {
+        let count = self.tables.len();
+        if count == MOST_TABLES {
             return Err(TableError::TooManyTables {
                 limit: MOST_TABLES as u32,
             });
@@ -67,8 +73,15 @@ impl Tables {
             });
         }
         let alloc = *self.tables.allocator();
+        let Ok(key) = String::from_str(alloc, name) else {
+            return Err(TableError::NoMemory);
+        };
         let table = Table::read(alloc, name_of(alloc, name)?, bytes)?;
         if self.tables.push(table).is_err() {
+            return Err(TableError::NoMemory);
+        }
+        if let Err(_refused) = self.names.insert(key) {
+            self.tables.truncate(count);
             return Err(TableError::NoMemory);
         }
         Ok(())
@@ -91,7 +104,7 @@ impl Tables {
     fn place_of(&self, name: &str) -> Option<usize>
         ensures { result ≡ place_of self.now (chars name.now) }
     {
-        self.tables.iter().position(|table| table.is_named(name))
+        self.names.get_index_of(name)
     }
 
     /// The number of tables.

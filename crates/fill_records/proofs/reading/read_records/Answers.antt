@@ -1,6 +1,6 @@
 use Rattle.std.proofs.Common.{◌≡◌, ◌≤◌, ◌∙◌, inl, inr, arith, Bor, List, ℕ, Some}
 use Rattle.csv.specs.Records.{fields_of}
-use Rattle.fill_records.proofs.Runs.{Reading-start, Reading-more, Reading-end, Reading-full}
+use Rattle.fill_records.proofs.Runs.{memory_alone, Reading-start, Reading-more, Reading-end, Reading-full}
 use Rattle.fill_records.proofs.reading.read_records.Goals as goal
 use Rattle.fill_records.proofs.reading.read_records.Goals.{else-loop-test, then-loop-test+in-Ok-false}
 
@@ -12,6 +12,7 @@ loop-init c =
     record {
       trims = rw (any_length, headers) at made.trim ∙ c.new.ensures.trim;
       ready = inr (inr (rw (any_length, headers) at made.has_headers, made.headers));
+      flexible = rw any_length at made.flexible;
       config = rw (any_length, headers) at made.config ∙ c.new.ensures.config;
       reading = rw (made.source, made.state, c.new-records.ensures) (Reading-start c.args.bytes.now);
     }
@@ -23,6 +24,7 @@ loop-preserved c =
     record {
       trims = read.3 ∙ here.trims;
       ready = inl (c.in-Ok-true.ensures.ready here.trims);
+      flexible = c.in-Ok-true.ensures.flexible ∙ here.flexible;
       config = read.2 ∙ here.config;
       reading = rw c.in_ok-push-in-Ok-true.ensures.ok (Reading-more (λ (s : Bor (List ℕ)). Some s.now) c.loop.reader c.read_byte_record.new.self (fields_of c.read_byte_record.new.row) c.args.bytes.now c.loop.records c.loop.counter here.config here.reading read);
     }
@@ -39,3 +41,8 @@ returns c =
           let few : c.loop.counter ≤ c.args.most = omega arith in
           Reading-end (λ (s : Bor (List ℕ)). Some s.now) c.loop.reader w.read_byte_record.new.self (fields_of w.read_byte_record.new.row) c.args.bytes.now c.loop.records c.loop.counter c.args.most here.config here.reading few read
     ]
+
+pub want_of_memory-requires : goal.want_of_memory-requires
+want_of_memory-requires c =
+    let here = c.loop.invariant in
+    memory_alone (λ (s : Bor (List ℕ)). Some s.now) c.loop.reader c.read_byte_record.new.self c.in-Err.error.kind here.flexible (c.in-Err.ensures.why here.ready)

@@ -1,5 +1,5 @@
 use Rattle.std.proofs.Common.{◌≡◌, map, take}
-use Rattle.fill_sheet.specs.Sheet.{text_in}
+use Rattle.fill_records.specs.Texts.{text_in}
 use Rattle.fill_sheet.proofs.reading.cells_in.Given as goal
 
 abbrev pub invariant-loop-column : goal.invariant-loop-column

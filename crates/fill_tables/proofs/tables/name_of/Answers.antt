@@ -1,5 +1,5 @@
 use Rattle.std.proofs.lemmas.Str.{is_utf8-from_IsUtf8}
-use Rattle.fill_tables.proofs.Fields.{text_not_refused}
+use Rattle.fill_records.proofs.Texts.{text_not_refused}
 use Rattle.fill_tables.proofs.tables.name_of.Goals as goal
 
 pub unreachable-requires : goal.unreachable-requires

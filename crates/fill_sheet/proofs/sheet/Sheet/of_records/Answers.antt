@@ -1,6 +1,6 @@
 use Rattle.std.proofs.Common.{◌∙◌, sym, arith}
 use Rattle.fill_sheet.proofs.Rising.{rising-permutation}
-use Rattle.fill_sheet.proofs.Decisions.{sheet_of-bad, sheet_of-many, sheet_of-rows, row_records-few, headers-few, used-columns, rising-columns, texts-of-rows, made-sheet}
+use Rattle.fill_sheet.proofs.Decisions.{sheet_of-bad, sheet_of-many, sheet_of-rows, row_records-few, headers-few, used-counted, rising-columns, texts-of-rows, made-sheet}
 use Rattle.fill_sheet.proofs.sheet.Sheet.of_records.Goals as goal
 
 pub first_bad-requires-clause-fits : goal.first_bad-requires-clause-fits
@@ -10,7 +10,7 @@ first_bad-requires-clause-fits c =
     rw (c.row_records-rows.ensures, c.first_number.ensures) (omega (arith, first, few))
 
 pub first_bad-requires-clause-columns : goal.first_bad-requires-clause-columns
-first_bad-requires-clause-columns c = rw (c.deref.ensures.value, c.in_ok-columns.ensures) (used-columns c.args.inputs.now c.args.output c.requires.inputs.columns c.requires.output)
+first_bad-requires-clause-columns c = rw (c.deref.ensures.value, c.in_ok-columns.ensures) (used-counted c.args.inputs.now c.args.output c.requires.inputs.columns c.requires.output)
 
 pub returns-in-Some-clause-err : goal.returns-in-Some-clause-err
 returns-in-Some-clause-err c =

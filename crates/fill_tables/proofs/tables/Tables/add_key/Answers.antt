@@ -4,6 +4,7 @@ use Rattle.std.proofs.lemmas.Option.{slice_get_read}
 use Rattle.fill_text.specs.Data.{TableData}
 use Rattle.fill_tables.specs.declared.error.TableError.{TableError}
 use Rattle.fill_tables.proofs.Found.{add_key_to-at, add_key_to-missing, set-tables, replaced, place-within, OnOk-map, IfErr-map}
+use Rattle.fill_tables.proofs.Names.{index-set}
 use Rattle.fill_tables.proofs.tables.Tables.add_key.Goals as goal
 
 pub returns-in_default-clause-err : goal.returns-in_default-clause-err
@@ -14,7 +15,10 @@ invariant_of-self c =
     let found = rw (← c.self.view_is) at (sym c.place_of.ensures ∙ c.in-Some.is) in
     let lt = place-within c.self.inside.tables.items (chars c.args.name.now) c.in-Some.place found in
     let there = slice_get_read c.self.inside.tables.items (length c.self.inside.tables.items) c.in-Some.place c.index_mut.result.now refl lt c.index_mut.ensures.value in
-    set-tables c.self.inside.tables.items c.in-Some.place c.add_key.new.self c.index_mut.result.now c.self.invariant c.add_key.ensures.shape lt there c.add_key.ensures.name
+    (
+      set-tables c.self.inside.tables.items c.in-Some.place c.add_key.new.self c.index_mut.result.now c.self.invariant.0 c.add_key.ensures.shape lt there c.add_key.ensures.name,
+      index-set c.self.inside.names.keys c.self.inside.tables.items c.in-Some.place c.add_key.new.self c.index_mut.result.now c.self.invariant.1 there c.add_key.ensures.name
+    )
 
 pub returns-clause-ok : goal.returns-clause-ok
 returns-clause-ok c =

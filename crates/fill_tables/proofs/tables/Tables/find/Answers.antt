@@ -10,4 +10,4 @@ returns c =
 pub returns-in_err-slices : goal.returns-in_err-slices
 returns-in_err-slices c =
     let many : 3 < length c.args.cells.now = rw c.as_slice.ensures at c.in_err-slices.ensures in
-    rw c.from_residual.ensures (too-many c.args.self.now c.args.table c.args.key c.args.cells.now (rw c.self.view_is at c.self.invariant) many)
+    rw c.from_residual.ensures (too-many c.args.self.now c.args.table c.args.key c.args.cells.now (rw c.self.view_is at c.self.invariant.0) many)
