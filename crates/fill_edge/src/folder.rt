@@ -1,9 +1,11 @@
 //! The real files, of which nothing is told but counts.
-ghost use Rattle.std.specs.Prelude.{◌≡◌, ◌<◌, ◌≤◌, length, IfOk, OnErr, IsErrOf};
-ghost use Rattle.std.specs.Io.KnownBytes.{ReadConsumes};
-ghost use Rattle.fill_edge.specs.Outside.{counted};
-ghost use Rattle.fill_edge.specs.Real.{counts_after};
+ghost use Rattle.std.specs.Prelude.{◌≡◌, ◌≢◌, ◌<◌, ◌≤◌, length, IfOk, IfErr, OnErr, IsErrOf, Some};
+ghost use Rattle.std.specs.IoError.{error_kind};
+ghost use Rattle.std.specs.Io.Cursor.{cursor_inner};
+ghost use Rattle.fill_edge.specs.Outside.{counted, IsPieceOf};
+ghost use Rattle.fill_edge.specs.Real.{counts_after, IsPlaced, GivesFrom};
 
+use crate::interruption::is_interrupted;
 use crate::outside::LARGEST_FILE;
 use crate::{Cabinet, ReadRefusal};
 use std::io::{ErrorKind, Read, Seek, SeekFrom};
@@ -14,7 +16,8 @@ use std::{fs, io};
 /// The files of the system, a name being a path from the current folder on.
 ///
 /// Each read opens the file. Whatever the system refuses is a counted fault, also a file that is
-/// not there, so that no read answers `Missing`; only an interrupted call is made again.
+/// not there, so that no read answers `Missing`; only where it is interrupted is a read made again,
+/// from the opening on.
 #[derive(Drop)]
 pub struct FolderCabinet<R: Files + Drop> {
     rt: R,
@@ -42,8 +45,9 @@ impl<R: Files + Drop> FolderCabinet<R> {
         }
     }
 
-    /// Counts what the system answered.
+    /// Counts what the system answered, an interruption being no answer.
     fn count(&mut self, answer: io::Result<usize>) -> Result<usize, ReadRefusal>
+        requires { IfErr answer (λ e. error_kind e ≢ ErrorKind.Interrupted) }
         ensures given { IfOk answer (λ n. result ≡ Ok n) }
         ensures refused { OnErr answer (IsErrOf result ReadRefusal.Failed) }
         ensures after { self.new ≡ counts_after self.old result }
@@ -87,25 +91,62 @@ impl<R: Files + Drop> Cabinet for FolderCabinet<R> {
     }
 }
 
-/// The real read, from a place of the file on.
+/// The real read, from a place of the file on, made again as long as it is interrupted.
 fn read_at<R: Files>(rt: &R, name: &str, at: u64, buf: &mut [u8]) -> io::Result<usize>
-    ensures { IfOk result (λ n. n ≤ length buf.old) }
-{
-    let mut file = fs::open(rt, name)?;
-    file.seek(SeekFrom::Start(at))?;
-    read_uninterrupted(&mut file, buf)
-}
-
-/// One read, made again as long as it is interrupted.
-fn read_uninterrupted<F: Read>(file: &mut F, buf: &mut [u8]) -> io::Result<usize>
+    requires { 0 < length buf.old }
     ensures bound { IfOk result (λ n. n ≤ length buf.old) }
-    ensures bytes { ReadConsumes (F.remaining file.old) (F.remaining file.new) result buf.new }
+    ensures again { IfErr result (λ e. error_kind e ≢ ErrorKind.Interrupted) }
 {
     for _ in 0..u64::MAX {
-        match file.read(buf) {
-            Err(e) if e.kind() == ErrorKind::Interrupted => {}
+        match open_and_read(rt, name, at, buf) {
+            Err(e) if is_interrupted(&e) => {}
             answer => return answer,
         }
     }
-    Err(io::Error::from(ErrorKind::Interrupted))
+    Err(io::Error::from(ErrorKind::TimedOut))
+}
+
+fn open_and_read<R: Files>(rt: &R, name: &str, at: u64, buf: &mut [u8]) -> io::Result<usize>
+    requires { 0 < length buf.old }
+    ensures { IfOk result (λ n. n ≤ length buf.old) }
+{
+    let mut file = fs::open(rt, name)?;
+    read_from(&mut file, at, buf)
+}
+
+/// One read of an open file, from a place on.
+fn read_from<F: Read + Seek>(file: &mut F, at: u64, buf: &mut [u8]) -> io::Result<usize>
+    requires { 0 < length buf.old }
+    ensures bound { IfOk result (λ n. n ≤ length buf.old) }
+    ensures piece { IsPlaced F.remaining F.stream_position F.stream_bytes → IfOk result (λ n. GivesFrom (F.stream_position file.old) (F.stream_bytes file.old) at n buf.new) }
+{
+    file.seek(SeekFrom::Start(at))?;
+    file.read(buf)
+}
+
+#[cfg(test)]
+mod tests {
+    use super::read_from;
+    use std::io;
+    use std::test::Fail;
+
+    /// The bytes of a cursor from a place on, wherever it stood.
+    fn read_cursor(cursor: &mut io::Cursor<&[u8]>, at: u64, buf: &mut [u8]) -> io::Result<usize>
+        requires { 0 < length buf.old }
+        ensures { IfOk result (λ n. IsPieceOf (Some (cursor_inner cursor.old).now) at n buf.new) }
+    {
+        read_from(cursor, at, buf)
+    }
+
+    #[test]
+    fn a_read_begins_at_its_place(rt: HostRuntime) -> Result<(), Fail> {
+        let bytes: &[u8] = b"abcde";
+        let mut cursor = io::Cursor::new(bytes);
+        let mut buf = [0u8; 4];
+        for (at, count, wanted) in [(3, 2, *b"de\0\0"), (1, 4, *b"bcde"), (5, 0, *b"bcde")] {
+            assert_eq!(rt; read_cursor(&mut cursor, at, &mut buf)?, count);
+            assert_eq!(rt; buf, wanted);
+        }
+        Ok(())
+    }
 }

@@ -2,6 +2,7 @@
 #![tactic(auto)]
 
 mod folder;
+mod interruption;
 mod memory_cabinet;
 mod memory_sink;
 mod outside;

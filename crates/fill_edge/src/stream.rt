@@ -1,8 +1,11 @@
 //! The real streams.
-ghost use Rattle.std.specs.Prelude.{◌≡◌, ◌<◌, ◌≤◌, length, take, IfOk, OnOk, OnErr};
+ghost use Rattle.std.specs.Prelude.{◌≡◌, ◌≢◌, ◌<◌, ◌≤◌, length, take, IfOk, IfErr, OnOk, OnErr};
+ghost use Rattle.std.specs.IoError.{error_kind};
 ghost use Rattle.std.specs.Io.KnownBytes.{Appends, Keeps, WriteAppends};
 ghost use Rattle.fill_edge.specs.Outside.{counted};
+ghost use Rattle.fill_edge.specs.Real.{stream_after};
 
+use crate::interruption::is_interrupted;
 use crate::{Failed, Sink};
 use std::io;
 use std::io::{ErrorKind, Write};
@@ -33,6 +36,23 @@ impl<W: Write + Drop> StdSink<W> {
     {
         StdSink { writer, faults: 0 }
     }
+
+    /// Counts what the writer answered, an interruption being no answer.
+    fn count(&mut self, answer: io::Result<usize>) -> Result<usize, Failed>
+        requires { IfErr answer (λ e. error_kind e ≢ ErrorKind.Interrupted) }
+        ensures taken { IfOk result (λ n. (0 < n) × (answer ≡ Ok n)) }
+        ensures refused { OnErr result (IfOk answer (λ n. n ≡ 0)) }
+        ensures after { self.new ≡ stream_after self.old result }
+        ensures later { self.old.faults ≤ self.new.faults }
+    {
+        match answer {
+            Ok(count) if count > 0 => Ok(count),
+            _ => {
+                self.faults = self.faults.saturating_add(1);
+                Err(Failed)
+            }
+        }
+    }
 }
 
 impl<W: Write + Drop> Sink for StdSink<W> {
@@ -51,13 +71,8 @@ impl<W: Write + Drop> Sink for StdSink<W> {
         ensures refused { OnErr result (self.new.faults ≡ counted self.old.faults 1) }
         ensures later { self.old.faults ≤ self.new.faults }
     {
-        match write_uninterrupted(&mut self.writer, piece) {
-            Ok(count) if count > 0 => Ok(count),
-            _ => {
-                self.faults = self.faults.saturating_add(1);
-                Err(Failed)
-            }
-        }
+        let answer = write_uninterrupted(&mut self.writer, piece);
+        self.count(answer)
     }
 }
 
@@ -65,12 +80,13 @@ impl<W: Write + Drop> Sink for StdSink<W> {
 fn write_uninterrupted<W: Write>(writer: &mut W, piece: &[u8]) -> io::Result<usize>
     ensures bound { IfOk result (λ n. n ≤ length piece.now) }
     ensures bytes { WriteAppends (W.contents writer.old) (W.contents writer.new) result piece.now }
+    ensures again { IfErr result (λ e. error_kind e ≢ ErrorKind.Interrupted) }
 {
     for _ in 0..u64::MAX {
         match writer.write(piece) {
-            Err(e) if e.kind() == ErrorKind::Interrupted => {}
+            Err(e) if is_interrupted(&e) => {}
             answer => return answer,
         }
     }
-    Err(io::Error::from(ErrorKind::Interrupted))
+    Err(io::Error::from(ErrorKind::TimedOut))
 }

@@ -1,10 +1,14 @@
 //! Whole reads and writes over the fakes and over the system's own files and streams.
 ghost use Rattle.std.specs.Prelude.{◌≡◌, ◌<◌};
 
+mod fakes;
+
 use super::*;
+use fakes::{Call, Refusal, RefusingFiles, RefusingWriter};
 use fill_text::NoMemory;
 use std::alloc::Global;
 use std::fs;
+use std::io::ErrorKind;
 use std::marker::Brand;
 use std::sync::ledger::Blank;
 use std::test::Fail;
@@ -133,6 +137,61 @@ fn a_stream_is_written_or_fails(rt: HostRuntime) -> Result<(), Fail> {
     let mut small = StdSink::new(room.as_mut_slice());
     assert_eq!(rt; write_all(&mut small, b"abcde"), Err(WriteFault));
     assert_eq!(rt; room, *b"abc");
+    Ok(())
+}
+
+#[test]
+fn an_interrupted_write_is_made_again(rt: HostRuntime) -> Result<(), Fail> {
+    use ErrorKind::{BrokenPipe, Interrupted};
+    let rows: [(&[ErrorKind], Result<(), WriteFault>, &[u8]); 3] = [
+        (&[Interrupted, Interrupted], Ok(()), b"abc"),
+        (&[BrokenPipe], Err(WriteFault), b""),
+        (&[Interrupted, BrokenPipe], Err(WriteFault), b""),
+    ];
+    for (refusals, answer, taken) in rows {
+        let mut writer = RefusingWriter {
+            refusals,
+            taken: Vec::new(rt.alloc()),
+        };
+        assert_eq!(rt; write_all(&mut StdSink::new(&mut writer), b"abc"), answer);
+        assert_eq!(rt; writer.taken.as_slice(), taken);
+    }
+    Ok(())
+}
+
+/// A call of the system that fails is a fault of one read, and an interrupted one is made again.
+#[test]
+fn a_read_of_a_file_begins_at_its_place_or_fails(rt: HostRuntime) -> Result<(), Fail> {
+    use ErrorKind::{Interrupted, NotFound, NotSeekable, TimedOut};
+    let failed = Err(ReadRefusal::Failed);
+    let rows: [(&[Refusal], Result<usize, ReadRefusal>); 6] = [
+        (&[], Ok(2)),
+        (&[Refusal(Call::Open, NotFound)], failed),
+        (&[Refusal(Call::Seek, NotSeekable)], failed),
+        (&[Refusal(Call::Read, TimedOut)], failed),
+        (
+            &[
+                Refusal(Call::Open, Interrupted),
+                Refusal(Call::Seek, Interrupted),
+                Refusal(Call::Read, Interrupted),
+            ],
+            Ok(2),
+        ),
+        (
+            &[
+                Refusal(Call::Read, Interrupted),
+                Refusal(Call::Seek, NotSeekable),
+            ],
+            failed,
+        ),
+    ];
+    for (refusals, answer) in rows {
+        let mut cabinet = FolderCabinet::new(RefusingFiles::new(refusals));
+        let mut buf = [0u8; 4];
+        assert_eq!(rt; cabinet.read("five.csv", 3, &mut buf), answer);
+        assert_eq!(rt; cabinet.read("five.csv", 3, &mut buf), Ok(2));
+        assert_eq!(rt; buf, *b"de\0\0");
+    }
     Ok(())
 }
 
