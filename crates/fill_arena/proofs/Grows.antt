@@ -26,7 +26,7 @@ source_below : (c : List Entry) (n : ℕ) (x : SourceItem) → IsSourceItem c n 
 source_below c n (Col m) h = tt
 source_below c n (Select i) h = λ k x e. some_older c x.atoms n (h.older k x e)
 
-atom_below : (c : List Entry) (n : ℕ) (x : AtomItem) → IsAtomItem c n x → AtomBelow n x
+pub atom_below : (c : List Entry) (n : ℕ) (x : AtomItem) → IsAtomItem c n x → AtomBelow n x
 atom_below c n (Const t) h = tt
 atom_below c n (Whole s) h = h.1
 atom_below c n (Sub s p q) h = (h.0.1, h.1.1, h.2.1)
@@ -111,7 +111,7 @@ made_taken c m made n x h =
 
 -- numbers of the smaller arena stand for the same in the larger one
 module _ (c d : List Entry) (made : IsWellMade c) (extends : Extends c d) where
-  agree_below : (n : ℕ) → n ≤ length c → (s : ℕ) → s < n → slice_get d s ≡ slice_get c s
+  pub agree_below : (n : ℕ) → n ≤ length c → (s : ℕ) → s < n → slice_get d s ≡ slice_get c s
   agree_below n le s lt = extends_agree c d n extends le s lt
 
   older_here : (n : ℕ) (s : ℕ) (e : Entry) → s < n → slice_get c s ≡ Some e → EntryBelow s e
@@ -164,15 +164,3 @@ module _ (c d : List Entry) (made : IsWellMade c) (extends : Extends c d) where
             let here : slice_get c g ≡ Some (kind.Graph h.0 h.1) = live.2 ∙ sym there ∙ h.2 in
             (h.0, h.1, here, (walks_stay h.1 (h.0 - 1) (λ e is. ((made g (kind.Graph h.0 h.1) here).each is.0 e is.1).atoms.0) p 0).1 h.3)),
       )
-
--- one more entry, or none where there was no room
-module _ (c d : List Entry) (e : Entry) where
-  pub made_grown : (ok : Bool) → d ≡ cond ok (c ++ e ∷ []) c → IsWellMade c → IsEntry c (length c) e → IsWellMade d
-  made_grown true h made is = rw h (made_pushed c e made is)
-  made_grown false h made is = rw h made
-
-  pub last_grown : d ≡ c ++ e ∷ [] → slice_get d (length c) ≡ Some e
-  last_grown h = rw h (get_last c e)
-
-  pub extends_grown : d ≡ c ++ e ∷ [] → Extends c d
-  extends_grown h = rw h (extends_pushed c e)

@@ -1,8 +1,14 @@
 pub mod Agree
+pub mod Alike
+pub mod Costs
+pub mod Filled
+pub mod Folds
+pub mod Grown
 pub mod Grows
+pub mod Indexed
 pub mod Lists
 pub mod Orders
-mod Samples
+pub mod Samples
 pub mod Scan
 pub mod Sets
 pub mod Steps

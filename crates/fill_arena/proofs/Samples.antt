@@ -1,5 +1,5 @@
--- The sets and the graph of a small arena.
-use Rattle.std.proofs.Common.{◌≡◌, ℕ, zero, suc, ◌<◌, ◌≤◌, List, [], ◌∷◌, length, refl, sym, ap, subst, lit<, lit≤, arith}
+-- The sets and graphs of small arenas, for tests; the crates above use them too.
+use Rattle.std.proofs.Common.{◌≡◌, ℕ, zero, suc, ◌<◌, ◌≤◌, List, [], ◌∷◌, length, Some, slice_get, refl, sym, ap, subst, lit<, lit≤, arith}
 use Rattle.std.proofs.lemmas.Option.{slice_get_within}
 use Rattle.fill_arena.specs.Contents.{In, EachIn, IsPlaceSet, IsSourceSet, IsAtomSet, Extends}
 use Rattle.fill_arena.specs.WellMade.{AreAtoms, IsAtomItem, IsEdge, IsGraphOf, Path}
@@ -8,10 +8,10 @@ use Rattle.fill_arena.specs.declared.entry.Entry.TheVariants as kind
 use Rattle.fill_arena.specs.declared.entry.AtomItem.TheVariants.{Const, Whole, Sub}
 use Rattle.fill_arena.specs.declared.entry.Edge.{Edge}
 
-each_nil : {A : Type 0} (P : A → Type 0) → EachIn P []
+pub each_nil : {A : Type 0} (P : A → Type 0) → EachIn P []
 each_nil P k x e = absurd cc
 
-each_cons : {A : Type 0} (P : A → Type 0) (y : A) (ys : List A) → P y → EachIn P ys → EachIn P (y ∷ ys)
+pub each_cons : {A : Type 0} (P : A → Type 0) (y : A) (ys : List A) → P y → EachIn P ys → EachIn P (y ∷ ys)
 each_cons P y ys first rest zero x e = let same : y ≡ x = cc in subst P same first
 each_cons P y ys first rest (suc k) x e = rest k x e
 
@@ -29,44 +29,62 @@ sample_atoms c t whole left right few sources lefts rights =
           (each_cons P (Sub whole left right) [] ((sources, first), (lefts, second), (rights, third)) (each_nil P)));
     }
 
-abbrev step : ℕ → Edge
+-- edges from the first node to the second
+abbrev pub step : ℕ → Edge
 step atoms = record { from = 0; to = 1; atoms = atoms }
 
-only : (atoms : ℕ) (e : Edge) → In e (step atoms ∷ []) → step atoms ≡ e
-only atoms e (zero, at) = cc
-only atoms e (suc k, at) = absurd cc
+abbrev pub steps : List ℕ → List Edge
+steps [] = []
+steps (a ∷ as) = step a ∷ steps as
 
--- no path goes further than the one edge
-short : (atoms from to : ℕ) (path : List Edge) → Path (step atoms ∷ []) from path to → length path ≤ 1
-short atoms from to [] h = lit≤ tt
-short atoms from to (e ∷ []) h = lit≤ tt
-short atoms from to (e ∷ f ∷ rest) h =
-    let first : step atoms ≡ e = only atoms e h.0 in
-    let second : step atoms ≡ f = only atoms f h.2.0 in
+ends : (as : List ℕ) (k : ℕ) (e : Edge) → slice_get (steps as) k ≡ Some e → (e.from ≡ 0) × (e.to ≡ 1) × In e.atoms as
+ends [] k e h = absurd cc
+ends (a ∷ as) zero e h =
+    let same : step a ≡ e = cc in
+    (sym (ap (λ (f : Edge). f.from) same), sym (ap (λ (f : Edge). f.to) same), (0, ap (λ (f : Edge). Some f.atoms) same))
+ends (a ∷ as) (suc k) e h = let r = ends as k e h in (r.0, r.1, (suc r.2.0, r.2.1))
+
+-- no path goes further than one edge
+short : (as : List ℕ) (from to : ℕ) (path : List Edge) → Path (steps as) from path to → length path ≤ 1
+short as from to [] h = lit≤ tt
+short as from to (e ∷ []) h = lit≤ tt
+short as from to (e ∷ f ∷ rest) h =
+    let first = ends as h.0.0 e h.0.1 in
+    let second = ends as h.2.0.0 f h.2.0.1 in
     let onward : f.from ≡ e.to = h.2.1 in
-    absurd cc
+    absurd (omega (arith, first.1, second.0, onward))
 
-pub sample_graph : (c : List Entry) (atoms : ℕ) → IsAtomSet c atoms → IsGraphOf c (length c) 2 (step atoms ∷ [])
-sample_graph c atoms live =
-    let edges = step atoms ∷ [] in
-    let within = slice_get_within c atoms (kind.Atoms live.0) live.1 in
+pub sample_graph : (c : List Entry) (a : ℕ) (as : List ℕ) → EachIn (IsAtomSet c) (a ∷ as) → IsGraphOf c (length c) 2 (steps (a ∷ as))
+sample_graph c a as live =
     record {
       some = lit< tt;
-      each = each_cons (IsEdge c (length c) 2) (step atoms) [] (record { onward = lit< tt; within = lit< tt; atoms = (live, within) }) (each_nil (IsEdge c (length c) 2));
-      from_first = λ m lt. elim m as (λ n. n < 2 → (path : List Edge) × Path edges 0 path n) [
+      each = λ k e at.
+          let end = ends (a ∷ as) k e at in
+          let set = live end.2.0 e.atoms end.2.1 in
+          let from = end.0 in
+          let to = end.1 in
+          record { onward = omega arith; within = omega arith; atoms = (set, slice_get_within c e.atoms (kind.Atoms set.0) set.1) };
+      from_first = λ m lt. elim m as (λ n. n < 2 → (path : List Edge) × Path (steps (a ∷ as)) 0 path n) [
         | zero ↦ λ _. ([], refl)
-        | suc k ↦ λ less. let one : k ≡ 0 = omega arith in (step atoms ∷ [], ((0, refl), refl, ap suc (sym one)))
+        | suc k ↦ λ less. let one : k ≡ 0 = omega arith in (step a ∷ [], ((0, refl), refl, ap suc (sym one)))
       ] lt;
-      to_last = λ m lt. elim m as (λ n. n < 2 → (path : List Edge) × Path edges n path 1) [
-        | zero ↦ λ _. (step atoms ∷ [], ((0, refl), refl, refl))
+      to_last = λ m lt. elim m as (λ n. n < 2 → (path : List Edge) × Path (steps (a ∷ as)) n path 1) [
+        | zero ↦ λ _. (step a ∷ [], ((0, refl), refl, refl))
         | suc k ↦ λ less. let one : k ≡ 0 = omega arith in ([], ap suc one)
       ] lt;
-      short = λ from to path h. let few = short atoms from to path h in omega arith;
+      short = λ from to path h. let few = short (a ∷ as) from to path h in omega arith;
       ordered = λ j k e f at there same.
-          let first : step atoms ≡ e = only atoms e (j, at) in
-          let second : step atoms ≡ f = only atoms f (k, there) in
-          absurd cc;
+          let first = ends (a ∷ as) j e at in
+          let second = ends (a ∷ as) k f there in
+          absurd (omega (arith, first.1, second.0, same));
     }
+
+-- the one set of a graph with one edge
+pub one_set : (c : List Entry) (a : ℕ) → IsAtomSet c a → EachIn (IsAtomSet c) (a ∷ [])
+one_set c a live = each_cons (IsAtomSet c) a [] live (each_nil (IsAtomSet c))
+
+pub two_sets : (c : List Entry) (a b : ℕ) → IsAtomSet c a → IsAtomSet c b → EachIn (IsAtomSet c) (a ∷ b ∷ [])
+two_sets c a b first second = each_cons (IsAtomSet c) a (b ∷ []) first (one_set c b second)
 
 -- a set is there in what extends its arena
 pub places_later : (c d : List Entry) (s : ℕ) → Extends c d → IsPlaceSet c s → IsPlaceSet d s

@@ -1,5 +1,5 @@
 -- The numbers of an arena, and how arenas grow.
-use Rattle.std.specs.Prelude.{◌≡◌, ℕ, List, Some, slice_get}
+use Rattle.std.specs.Prelude.{◌≡◌, ◌≢◌, ◌⊎◌, ℕ, List, [], ◌∷◌, ◌++◌, length, Some, slice_get}
 use Rattle.fill_tokens.specs.declared.place.Place.{Place}
 use Rattle.fill_arena.specs.declared.entry.Entry.{Entry}
 use Rattle.fill_arena.specs.declared.entry.Entry.TheVariants.{Places, Sources, Atoms, Graph}
@@ -42,3 +42,15 @@ HasEdges c g edges = (nodes : ℕ) × (slice_get c g ≡ Some (Graph nodes edges
 -- each number of the first arena stands in the second one for the same
 abbrev pub Extends : List Entry → List Entry → Type 0
 Extends c d = (n : ℕ) (e : Entry) → slice_get c n ≡ Some e → slice_get d n ≡ Some e
+
+-- the entry stands under no number
+abbrev pub IsAbsent : List Entry → Entry → Type 0
+IsAbsent c e = (n : ℕ) → slice_get c n ≢ Some e
+
+-- no two numbers have equal contents
+abbrev pub AreDistinct : List Entry → Type 0
+AreDistinct c = (m n : ℕ) (e : Entry) → slice_get c m ≡ Some e → slice_get c n ≡ Some e → m ≡ n
+
+-- the number has the entry: it did already, and nothing changed; or none did, and it alone was added, as the last
+abbrev pub Interns : List Entry → List Entry → Entry → ℕ → Type 0
+Interns c d e n = ((slice_get c n ≡ Some e) × (d ≡ c)) ⊎ (IsAbsent c e × (n ≡ length c) × (d ≡ c ++ e ∷ []))

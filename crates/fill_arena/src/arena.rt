@@ -1,9 +1,11 @@
 //! The arena.
-ghost use Rattle.std.specs.Prelude.{◌≡◌, ℕ, ◌+◌, ◌<◌, ◌≤◌, List, [], Some, slice_get, length, take, IfOk, OnErr};
-ghost use Rattle.fill_arena.specs.Contents.{Extends, HasEdges, HasNodes, IsAtomSet, IsGraph, IsPlaceSet, IsSourceSet};
+ghost use Rattle.std.specs.Prelude.{◌≡◌, ℕ, ◌+◌, ◌<◌, ◌≤◌, List, [], ◌∷◌, ◌++◌, Some, slice_get, length, take, IfOk, OnOk, OnErr};
+ghost use Rattle.fill_arena.specs.Contents.{AreDistinct, Extends, HasEdges, HasNodes, Interns, IsAtomSet, IsGraph, IsPlaceSet, IsSourceSet};
+ghost use Rattle.fill_arena.specs.Index.{IsFree};
 ghost use Rattle.fill_arena.specs.WellMade.{AreAtoms, ArePlaces, AreSources, IsEntry, IsGraphOf, IsWellMade};
 
 use crate::entry::{AtomItem, Edge, Entry, SourceItem};
+use crate::index::{Found, Index, Slot};
 use crate::numbers::{AtomSet, GraphId, Mark, PlaceSet, SourceSet};
 use fill_edge::{Ledger, Steps};
 use fill_text::{List, NoMemory};
@@ -15,18 +17,21 @@ use std::marker::Model;
 #[derive(Debug, Drop)]
 pub struct Arena {
     entries: Vec<Entry>,
+    index: Index,
 }
 
 impl Model for Arena {
     ghost use Rattle.std.specs.Prelude.{List};
     ghost use Rattle.fill_arena.specs.declared.entry.Entry.{Entry};
+    ghost use Rattle.fill_arena.specs.Contents.{AreDistinct};
+    ghost use Rattle.fill_arena.specs.Index.{IsIndexed};
     ghost use Rattle.fill_arena.specs.WellMade.{IsWellMade};
 
     ghost Value = { List Entry };
 
     ghost view = { λ arena. arena.entries.items };
 
-    ghost invariant = { λ arena. IsWellMade arena.entries.items };
+    ghost invariant = { λ arena. IsWellMade arena.entries.items × AreDistinct arena.entries.items × IsIndexed arena.entries.items arena.index };
 }
 
 impl Arena {
@@ -36,6 +41,7 @@ impl Arena {
     {
         Arena {
             entries: Vec::new(alloc),
+            index: Index::new(alloc),
         }
     }
 
@@ -43,32 +49,35 @@ impl Arena {
     pub fn intern_places(&mut self, places: &[Place]) -> Result<PlaceSet, NoMemory>
         requires { ArePlaces places.now }
         ensures ok { IfOk result (λ s. slice_get self.new s ≡ Some (Entry.Places places.now)) }
+        ensures interned { IfOk result (Interns self.old self.new (Entry.Places places.now)) }
         ensures kept { Extends self.old self.new }
         ensures err { OnErr result (self.new ≡ self.old) }
     {
         let mut copied = List::new(*self.entries.allocator());
         copied.append(places)?;
-        Ok(PlaceSet::at(self.push(Entry::Places(copied))?))
+        Ok(PlaceSet::at(self.intern(Entry::Places(copied))?))
     }
 
     /// The number of a set of these sources.
     pub fn intern_sources(&mut self, items: List<SourceItem>) -> Result<SourceSet, NoMemory>
         requires { AreSources self.old (length self.old) items }
         ensures ok { IfOk result (λ s. slice_get self.new s ≡ Some (Entry.Sources items)) }
+        ensures interned { IfOk result (Interns self.old self.new (Entry.Sources items)) }
         ensures kept { Extends self.old self.new }
         ensures err { OnErr result (self.new ≡ self.old) }
     {
-        Ok(SourceSet::at(self.push(Entry::Sources(items))?))
+        Ok(SourceSet::at(self.intern(Entry::Sources(items))?))
     }
 
     /// The number of a set of these atoms.
     pub fn intern_atoms(&mut self, items: List<AtomItem>) -> Result<AtomSet, NoMemory>
         requires { AreAtoms self.old (length self.old) items }
         ensures ok { IfOk result (λ s. slice_get self.new s ≡ Some (Entry.Atoms items)) }
+        ensures interned { IfOk result (Interns self.old self.new (Entry.Atoms items)) }
         ensures kept { Extends self.old self.new }
         ensures err { OnErr result (self.new ≡ self.old) }
     {
-        Ok(AtomSet::at(self.push(Entry::Atoms(items))?))
+        Ok(AtomSet::at(self.intern(Entry::Atoms(items))?))
     }
 
     /// The number of a graph of nodes from 0 on and of these edges. It takes one step, whatever it answers.
@@ -80,26 +89,25 @@ impl Arena {
     ) -> Result<GraphId, NoMemory>
         requires { IsGraphOf self.old (length self.old) nodes edges }
         ensures ok { IfOk result (λ g. slice_get self.new g ≡ Some (Entry.Graph nodes edges)) }
+        ensures interned { IfOk result (Interns self.old self.new (Entry.Graph nodes edges)) }
         ensures kept { Extends self.old self.new }
         ensures err { OnErr result (self.new ≡ self.old) }
         ensures step { steps.new ≡ steps.old + 1 }
     {
         steps.tick();
-        Ok(GraphId::at(self.push(Entry::Graph(nodes, edges))?))
+        Ok(GraphId::at(self.intern(Entry::Graph(nodes, edges))?))
     }
 
-    /// Puts an entry at the end and gives its number.
-    fn push(&mut self, entry: Entry) -> Result<usize, NoMemory>
+    /// The number of the entry, which is put at the end if it has none.
+    fn intern(&mut self, entry: Entry) -> Result<usize, NoMemory>
         requires { IsEntry self.old (length self.old) entry }
-        ensures ok { IfOk result (λ n. slice_get self.new n ≡ Some entry) }
-        ensures kept { Extends self.old self.new }
+        ensures interned { IfOk result (Interns self.old self.new entry) }
         ensures err { OnErr result (self.new ≡ self.old) }
     {
-        let number = self.entries.as_slice().len();
-        if self.entries.push(entry).is_err() {
-            return Err(NoMemory);
+        match self.index.find(self.entries.as_slice(), &entry)? {
+            Found::Known(number) => Ok(number),
+            Found::Free(slot) => push(&mut self.entries, &mut self.index, entry, slot),
         }
-        Ok(number)
     }
 
     /// The places of a set, in order.
@@ -171,6 +179,7 @@ impl Arena {
         ensures kept { Extends self.new self.old }
     {
         self.entries.truncate(mark.count());
+        self.index.cut(mark.count());
     }
 
     /// What an arena keeps: each of its sets and graphs is well made. It does nothing.
@@ -179,4 +188,43 @@ impl Arena {
     {
         let _kept = &self.entries;
     }
+
+    /// What an arena keeps: no two numbers have equal contents. It does nothing.
+    pub fn keeps_distinct(&self)
+        ensures { AreDistinct self.now }
+    {
+        let _kept = &self.entries;
+    }
+
+    /// How many sets and graphs there are.
+    pub fn size(&self) -> u128
+        ensures { result ≡ length self.now }
+    {
+        self.entries.as_slice().len() as u128
+    }
+}
+
+/// Puts an entry at the end, with its slot, and gives its number.
+fn push(
+    entries: &mut Vec<Entry>,
+    index: &mut Index,
+    entry: Entry,
+    slot: Slot,
+) -> Result<usize, NoMemory>
+    requires { IsFree entries.old.items index.old entry slot }
+    ensures number { IfOk result (λ n. n ≡ length entries.old.items) }
+    ensures entries { OnOk result (entries.new.items ≡ entries.old.items ++ entry ∷ []) }
+    ensures slots { OnOk result (index.new ≡ index.old ++ slot ∷ []) }
+    ensures entries_err { OnErr result (entries.new.items ≡ entries.old.items) }
+    ensures slots_err { OnErr result (index.new ≡ index.old) }
+{
+    let number = entries.as_slice().len();
+    if entries.push(entry).is_err() {
+        return Err(NoMemory);
+    }
+    if let Err(e) = index.push(slot) {
+        entries.truncate(number);
+        return Err(e);
+    }
+    Ok(number)
 }

@@ -9,9 +9,12 @@
 
 mod arena;
 mod entry;
+mod hash;
 mod holds;
+mod index;
 pub mod laws;
 mod numbers;
+mod same;
 
 pub use arena::Arena;
 pub use entry::{AtomItem, ConditionItem, Edge, Entry, SelectItem, SourceItem};

@@ -119,6 +119,27 @@ fn programs(alloc: Global) -> Result<List<(Program, bool)>, Fail> {
     Ok(programs)
 }
 
+/// Whether equal contents get one number, and after a cut a new one.
+fn shares<L: Ledger>(alloc: Global, text: &Text, steps: &mut Steps<L>) -> Result<bool, Fail>
+    requires { length text.now ≤ 100 }
+{
+    let mut arena = Arena::new(alloc);
+    let start = arena.mark();
+    let first = fill(alloc, &mut arena, text.copy()?, steps)?;
+    let size = arena.size();
+    let again = fill(alloc, &mut arena, text.copy()?, steps)?;
+    if again.places != first.places || again.sources != first.sources {
+        return Ok(false);
+    }
+    if again.atoms != first.atoms || again.graph != first.graph || arena.size() != size {
+        return Ok(false);
+    }
+    arena.cut(start);
+    let ends = arena.intern_places(&[Place::CPos(-1)])?;
+    let is_new = ends == first.places && arena.size() == 1;
+    Ok(is_new && arena.places(ends) == [Place::CPos(-1)].as_slice() && size == 5)
+}
+
 /// What is read of the small arena: how many places, sources, atoms, nodes and edges its numbers have. None where a
 /// program stands that should not, or does not that should.
 fn read<L: Ledger>(alloc: Global, blank: Blank) -> Result<Option<[usize; 5]>, Fail>
@@ -132,6 +153,9 @@ fn read<L: Ledger>(alloc: Global, blank: Blank) -> Result<Option<[usize; 5]>, Fa
     let start = arena.mark();
     let text = Text::from_utf8(alloc, b"ab")?;
     if text.len() > 100 {
+        return Ok(None);
+    }
+    if !shares(alloc, &text, &mut steps)? {
         return Ok(None);
     }
     let made = fill(alloc, &mut arena, text, &mut steps)?;

@@ -1,5 +1,6 @@
 use Rattle.fill_arena.specs.Contents.{IsPlaceSet, IsSourceSet, IsAtomSet}
-use Rattle.fill_arena.proofs.Samples.{sample_atoms, sample_graph, places_later, sources_later, atoms_later}
+use Rattle.std.proofs.Common.{[]}
+use Rattle.fill_arena.proofs.Samples.{sample_atoms, sample_graph, one_set, places_later, sources_later, atoms_later}
 use Rattle.fill_arena.proofs.tests.fill.Goals as goal
 
 pub intern_atoms-requires : goal.intern_atoms-requires
@@ -16,7 +17,7 @@ pub intern_graph-requires : goal.intern_graph-requires
 intern_graph-requires g c =
     let now = c.intern_atoms.new.self in
     let atoms : IsAtomSet now c.in_ok-all.all = (_, c.in_ok-all.ensures.ok) in
-    rw c.in_ok-edges.ensures (sample_graph now c.in_ok-all.all atoms)
+    rw c.in_ok-edges.ensures (sample_graph now c.in_ok-all.all [] (one_set now c.in_ok-all.all atoms))
 
 pub returns : goal.returns
 returns g c =

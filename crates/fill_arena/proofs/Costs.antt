@@ -1,0 +1,221 @@
+-- What stands in an arena costs little: a text has at most 100 characters, a lookup three conditions, three lookups stand
+-- inside each other at most, and a program has at most 100 atoms.
+use Rattle.std.proofs.Common.{◌≡◌, ℕ, zero, suc, ◌+◌, ◌-◌, ◌*◌, ◌<◌, ◌≤◌, ◌^◌, ◌==◌, get_or, List, [], ◌∷◌, length, Bool, true, false, cond, Option, Some, None, slice_get, pos, negsuc, ℤ, refl, sym, ap, ◌∙◌, subst, arith, mul-le-mul, mul-le-mul_left, mul-le-mul_right, max, le_refl}
+use Rattle.std.specs.List.{sum_by, All}
+use Rattle.std.specs.Option.{IfSome}
+use Rattle.std.specs.Int.{w32}
+use Rattle.std.specs.Prelude.{FitsSigned}
+use Rattle.std.proofs.lemmas.List.Elements.{All-get_or}
+use Rattle.std.proofs.lemmas.List.Sums.{sum_by-le}
+use Rattle.std.proofs.lemmas.Option.{slice_get_within, get_or_from_slice_get}
+use Rattle.fill_text.specs.Classes.{is_separator}
+use Rattle.fill_tokens.specs.Place.{place_cost, fixed_cost, magnitude}
+use Rattle.fill_tokens.specs.PlaceGrammar.{IsPlace}
+use Rattle.fill_tokens.specs.declared.place.Place.{Place}
+use Rattle.fill_tokens.specs.declared.place.Place.TheVariants.{CPos, Pos}
+use Rattle.fill_tree.specs.Cost.{char_cost, text_cost, source_cost, atom_cost, condition_cost, conditions_cost, program_cost}
+use Rattle.fill_tree.specs.Grammar.{source_depth, atom_depth, greatest_depth, number_of_atoms}
+use Rattle.fill_tree.specs.Tree.{SourceTree, AtomTree, Atoms, col, select, constant, whole, sub, end, more}
+use Rattle.fill_arena.specs.Contents.{In, SomeIn, EachIn}
+use Rattle.fill_arena.specs.Stands.{AtomFits, AtomStands, ConditionFits, ConditionsFit, PlaceStands, ProgramStands, SomeAtom, SomeSource, SourceFits, SourceStands, Walks}
+use Rattle.fill_arena.specs.WellMade.{IsWellMade, IsConditionItem, IsSourceItem, IsAtomItem, IsEdge, IsGraphOf, OlderAtoms, Path}
+use Rattle.fill_arena.specs.declared.entry.AtomItem.{AtomItem}
+use Rattle.fill_arena.specs.declared.entry.AtomItem.TheVariants as atom
+use Rattle.fill_arena.specs.declared.entry.ConditionItem.{ConditionItem}
+use Rattle.fill_arena.specs.declared.entry.Edge.{Edge}
+use Rattle.fill_arena.specs.declared.entry.Entry.{Entry}
+use Rattle.fill_arena.specs.declared.entry.Entry.TheVariants as kind
+use Rattle.fill_arena.specs.declared.entry.SourceItem.{SourceItem}
+use Rattle.fill_arena.specs.declared.entry.SourceItem.TheVariants.{Col, Select}
+
+either : (b : Bool) (m n most : ℕ) → m ≤ most → n ≤ most → cond b m n ≤ most
+either true m n most h k = h
+either false m n most h k = k
+
+fixed_few : (k : ℤ) → fixed_cost k ≤ 10
+fixed_few (pos n) = either (n == 0) 1 10 10 (omega arith) (omega arith)
+fixed_few (negsuc n) = either (n == 0) 1 10 10 (omega arith) (omega arith)
+
+size_few : (k : ℤ) → FitsSigned w32 k → magnitude k ≤ 2147483648
+size_few (pos n) h = let lt = h.sfits in omega arith
+size_few (negsuc n) h = let lt = h.sfits in omega arith
+
+pub place_few : (p : Place) → IsPlace p → place_cost p ≤ 4294967310
+place_few (CPos k) h = let few = fixed_few k in omega arith
+place_few (Pos r s k) h =
+    let size = size_few k h.0 in
+    let left = h.2.short_left in
+    let right = h.2.short_right in
+    omega arith
+
+char_few : (c : ℕ) → char_cost c ≤ 12
+char_few c = either (is_separator c) 1 12 12 (omega arith) (omega arith)
+
+text_few : (t : List ℕ) → length t ≤ 100 → text_cost t ≤ 1210
+text_few t h = let few = sum_by-le char_cost 12 t (λ k d lt. char_few (get_or t k d)) in omega arith
+
+-- the most that a source costs in which so many lookups stand inside each other
+abbrev pub most : ℕ → ℕ
+most zero = 0
+most (suc d) = 3 * (most d + 8589934635) + 8
+
+deeper : (d : ℕ) → 3 * (most d + 8589934635) + 8 ≡ most (suc d)
+deeper d = refl
+
+module _ (c : List Entry) (made : IsWellMade c) where
+  pub place_in : (s : ℕ) (p : Place) → PlaceStands c s p → place_cost p ≤ 4294967310
+  place_in s p h =
+      let all = (made s (kind.Places h.0) h.1).grammar in
+      let there = h.2 in
+      let within = slice_get_within h.0 there.0 p there.1 in
+      let is = All-get_or IsPlace h.0 there.0 p within all in
+      place_few p (subst IsPlace (get_or_from_slice_get h.0 there.0 p p there.1) is)
+
+  -- a source of a set, where the items' sources cost little
+  source_in : (x : SourceTree) (most : ℕ) → ((n : ℕ) (i : SourceItem) → IsSourceItem c n i → SourceFits x c i → source_cost x ≤ most) → (s : ℕ) → SomeSource c s (SourceFits x c) → source_cost x ≤ most
+  source_in x most few s h =
+      let all = (made s (kind.Sources h.0) h.1).each in
+      let there = h.2.1 in
+      few s h.2.0 (all there.0 h.2.0 there.1) h.2.2
+
+  whole_in : (x : SourceTree) (most : ℕ) → ((n : ℕ) (i : SourceItem) → IsSourceItem c n i → SourceFits x c i → source_cost x ≤ most) → (i : AtomItem) → AtomFits (whole x) c i → source_cost x ≤ most
+  whole_in x most few (atom.Const t) h = absurd h
+  whole_in x most few (atom.Whole b) h = source_in x most few b h
+  whole_in x most few (atom.Sub b l r) h = absurd h
+
+  sub_in : (x : SourceTree) (p q : Place) (most : ℕ) → ((n : ℕ) (i : SourceItem) → IsSourceItem c n i → SourceFits x c i → source_cost x ≤ most) → (i : AtomItem) → AtomFits (sub x p q) c i →
+      (source_cost x ≤ most) × (place_cost p ≤ 4294967310) × (place_cost q ≤ 4294967310)
+  sub_in x p q most few (atom.Const t) h = absurd h
+  sub_in x p q most few (atom.Whole b) h = absurd h
+  sub_in x p q most few (atom.Sub b l r) h = (source_in x most few b h.0, place_in l p h.1, place_in r q h.2)
+
+  mutual
+    pub source_few : (x : SourceTree) (d : ℕ) → source_depth x ≤ d → (n : ℕ) (i : SourceItem) → IsSourceItem c n i → SourceFits x c i → source_cost x ≤ most d
+    source_few (col k) d deep n i is fits = omega arith
+    source_few (select column table key conditions) d deep n (Col m) is fits = absurd fits
+    source_few (select column table key conditions) zero deep n (Select i) is fits = absurd (omega arith)
+    source_few (select column table key conditions) (suc d) deep n (Select i) is fits =
+        let each = conditions_few conditions d (omega arith) n i.conditions is.older fits.4 in
+        let short = mul-le-mul_right (most d + 8589934635) is.few in
+        omega arith
+
+    pub conditions_few : (cs : Atoms) (d : ℕ) → greatest_depth cs ≤ d → (n : ℕ) (is : List ConditionItem) → EachIn (IsConditionItem c n) is → ConditionsFit cs c is → conditions_cost cs ≤ length is * (most d + 8589934635)
+    conditions_few end d deep n [] older fits = omega arith
+    conditions_few end d deep n (i ∷ is) older fits = absurd fits
+    conditions_few (more a rest) d deep n [] older fits = absurd fits
+    conditions_few (more a rest) d deep n (i ∷ is) older fits =
+        let first = condition_few a d (omega arith) i fits.0 in
+        let others = conditions_few rest d (omega arith) n is (λ k x there. older (suc k) x there) fits.1 in
+        omega arith
+
+    condition_few : (a : AtomTree) (d : ℕ) → atom_depth a ≤ d → (i : ConditionItem) → ConditionFits a c i (AtomFits a c) → condition_cost a ≤ most d + 8589934635
+    condition_few (constant t) d deep i fits = omega arith
+    condition_few (whole x) d deep i fits =
+        let few = whole_in x (most d) (λ n j is f. source_few x d deep n j is f) fits.2.2.0 fits.2.2.2 in
+        omega arith
+    condition_few (sub x p q) d deep i fits =
+        let few = sub_in x p q (most d) (λ n j is f. source_few x d deep n j is f) fits.2.2.0 fits.2.2.2 in
+        let first = few.0 in
+        let second = few.1 in
+        let third = few.2 in
+        omega arith
+
+  source_shallow : (x : SourceTree) (n : ℕ) (i : SourceItem) → IsSourceItem c n i → SourceFits x c i → source_depth x ≤ 3
+  source_shallow (col k) n i is fits = omega arith
+  source_shallow (select column table key conditions) n (Col m) is fits = absurd fits
+  source_shallow (select column table key conditions) n (Select i) is fits = is.shallow (select column table key conditions) fits
+
+  pub source_item_few : (x : SourceTree) (n : ℕ) (i : SourceItem) → IsSourceItem c n i → SourceFits x c i → source_cost x ≤ most 3
+  source_item_few x n i is fits = source_few x 3 (source_shallow x n i is fits) n i is fits
+
+  pub atom_item_few : (a : AtomTree) (n : ℕ) (i : AtomItem) → IsAtomItem c n i → AtomFits a c i → atom_cost a ≤ most 3 + 8589935840
+  atom_item_few (constant t) n (atom.Const u) is fits = let few = text_few t (subst (λ v. length v ≤ 100) fits is) in omega arith
+  atom_item_few (constant t) n (atom.Whole b) is fits = absurd fits
+  atom_item_few (constant t) n (atom.Sub b l r) is fits = absurd fits
+  atom_item_few (whole x) n i is fits = let few = whole_in x (most 3) (source_item_few x) i fits in omega arith
+  atom_item_few (sub x p q) n i is fits =
+      let few = sub_in x p q (most 3) (source_item_few x) i fits in
+      let first = few.0 in
+      let second = few.1 in
+      let third = few.2 in
+      omega arith
+
+  pub atom_few : (s : ℕ) (a : AtomTree) → AtomStands c s a → atom_cost a ≤ most 3 + 8589935840
+  atom_few s a h =
+      let all = (made s (kind.Atoms h.0) h.1).each in
+      let there = h.2.1 in
+      atom_item_few a s h.2.0 (all there.0 h.2.0 there.1) h.2.2
+
+  -- conditions of any row of sets
+  atom_shallow : (a : AtomTree) (i : ConditionItem) → ConditionFits a c i (AtomFits a c) → atom_depth a ≤ 3
+  atom_shallow (constant t) i fits = omega arith
+  atom_shallow (whole x) i fits = shallow fits.2.2.0 fits.2.2.2
+    where
+      shallow : (j : AtomItem) → AtomFits (whole x) c j → source_depth x ≤ 3
+      shallow (atom.Const t) h = absurd h
+      shallow (atom.Whole b) h = source_shallow x b h.2.0 ((made b (kind.Sources h.0) h.1).each h.2.1.0 h.2.0 h.2.1.1) h.2.2
+      shallow (atom.Sub b l r) h = absurd h
+  atom_shallow (sub x p q) i fits = shallow fits.2.2.0 fits.2.2.2
+    where
+      shallow : (j : AtomItem) → AtomFits (sub x p q) c j → source_depth x ≤ 3
+      shallow (atom.Const t) h = absurd h
+      shallow (atom.Whole b) h = absurd h
+      shallow (atom.Sub b l r) h = source_shallow x b h.0.2.0 ((made b (kind.Sources h.0.0) h.0.1).each h.0.2.1.0 h.0.2.0 h.0.2.1.1) h.0.2.2
+
+  row_shallow : (cs : Atoms) (is : List ConditionItem) → ConditionsFit cs c is → greatest_depth cs ≤ 3
+  row_shallow end is fits = omega arith
+  row_shallow (more a rest) [] fits = absurd fits
+  row_shallow (more a rest) (i ∷ is) fits =
+      let first = atom_shallow a i fits.0 in
+      let others = row_shallow rest is fits.1 in
+      omega arith
+
+  pub row_few : (cs : Atoms) (n : ℕ) (is : List ConditionItem) → EachIn (IsConditionItem c n) is → length is ≤ 3 → ConditionsFit cs c is → conditions_cost cs ≤ 3 * (most 3 + 8589934635)
+  row_few cs n is older short fits =
+      let few = conditions_few cs 3 (row_shallow cs is fits) n is older fits in
+      let whole = mul-le-mul_right (most 3 + 8589934635) short in
+      omega arith
+
+  -- a walk of so many atoms is a path of as many edges
+  walk_path : (p : Atoms) (edges : List Edge) (last at : ℕ) → Walks p c edges last at → (path : List Edge) × Path edges at path last × (length path ≡ number_of_atoms p)
+  walk_path end edges last at h = ([], h, refl)
+  walk_path (more a rest) edges last at h =
+      let path = walk_path rest edges last h.0.to h.2.2 in
+      (h.0 ∷ path.0, (h.1, h.2.0, path.1), ap suc path.2)
+
+  walk_few : (p : Atoms) (edges : List Edge) (last at : ℕ) → Walks p c edges last at → program_cost p ≤ number_of_atoms p * (most 3 + 8589935845)
+  walk_few end edges last at h = omega arith
+  walk_few (more a rest) edges last at h =
+      let first = atom_few h.0.atoms a h.2.1 in
+      let others = walk_few rest edges last h.0.to h.2.2 in
+      omega arith
+
+  pub rest_few : (p : Atoms) (g nodes : ℕ) (edges : List Edge) (last at : ℕ) → slice_get c g ≡ Some (kind.Graph nodes edges) → Walks p c edges last at → program_cost p ≤ 100 * (most 3 + 8589935845)
+  rest_few p g nodes edges last at is h =
+      let path = walk_path p edges last at h in
+      let short : number_of_atoms p ≤ 100 = subst (λ n. n ≤ 100) path.2 ((made g (kind.Graph nodes edges) is).short at last path.0 path.1) in
+      let whole = mul-le-mul_right (most 3 + 8589935845) short in
+      let few = walk_few p edges last at h in
+      omega arith
+
+  -- the bounds are below those of the machine's numbers
+  pub source_item_present : (x : SourceTree) (n : ℕ) (i : SourceItem) → IsSourceItem c n i → SourceFits x c i → source_cost x < 2 ^ 64
+  source_item_present x n i is fits = let few = source_item_few x n i is fits in omega arith
+
+  pub atom_item_present : (a : AtomTree) (n : ℕ) (i : AtomItem) → IsAtomItem c n i → AtomFits a c i → atom_cost a < 2 ^ 64
+  atom_item_present a n i is fits = let few = atom_item_few a n i is fits in omega arith
+
+  pub source_present : (s : ℕ) (x : SourceTree) → SourceStands c s x → source_cost x < 2 ^ 64
+  source_present s x h = let few = source_in x (most 3) (source_item_few x) s h in omega arith
+
+  pub atom_present : (s : ℕ) (a : AtomTree) → AtomStands c s a → atom_cost a < 2 ^ 64
+  atom_present s a h = let few = atom_few s a h in omega arith
+
+  pub row_present : (n : ℕ) (is : List ConditionItem) (cs : Atoms) → EachIn (IsConditionItem c n) is → length is ≤ 3 → ConditionsFit cs c is → conditions_cost cs < 2 ^ 64
+  row_present n is cs older short fits = let few = row_few cs n is older short fits in omega arith
+
+  pub rest_present : (g nodes : ℕ) (edges : List Edge) (last at : ℕ) (p : Atoms) → slice_get c g ≡ Some (kind.Graph nodes edges) → Walks p c edges last at → program_cost p < 2 ^ 64
+  rest_present g nodes edges last at p is h = let few = rest_few p g nodes edges last at is h in omega arith
+
+  pub program_present : (g : ℕ) (p : Atoms) → ProgramStands c g p → program_cost p < 2 ^ 64
+  program_present g p h = rest_present g h.0 h.1 (h.0 - 1) 0 p h.2 h.3
