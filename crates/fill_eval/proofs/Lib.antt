@@ -1,5 +1,6 @@
-mod Guards
-mod Lookups
-mod Pieces
-mod Trees
-mod Values
+mod Columns
+pub mod Guards
+pub mod Lookups
+pub mod Pieces
+pub mod Trees
+pub mod Values

@@ -8,16 +8,18 @@ use fill_tokens::{Place, place_value};
 use std::alloc::Global;
 
 /// The characters of a text from `from` to `to`, that at `to` left out. The text is lent.
+///
+/// [`Piece::whole`] and [`Piece::between`] make pieces that lie within their texts.
 #[derive(Clone, Copy)]
-pub(crate) struct Piece<'a> {
-    pub(crate) text: &'a Text,
-    pub(crate) from: usize,
-    pub(crate) to: usize,
+pub struct Piece<'a> {
+    pub text: &'a Text,
+    pub from: usize,
+    pub to: usize,
 }
 
 impl<'a> Piece<'a> {
     /// The whole text.
-    pub(crate) fn whole(text: &'a Text) -> Piece<'a>
+    pub fn whole(text: &'a Text) -> Piece<'a>
         ensures value { piece_text result ≡ text.now }
         ensures within { IsWithin result }
     {
@@ -29,7 +31,7 @@ impl<'a> Piece<'a> {
     }
 
     /// The piece between two places of a text, if both have a value and the left one's is less than the right one's.
-    pub(crate) fn between(text: &'a Text, left: &Place, right: &Place) -> Option<Piece<'a>>
+    pub fn between(text: &'a Text, left: &Place, right: &Place) -> Option<Piece<'a>>
         ensures value { IsValue (IsPieceBetween (λ t. t ≡ text.now) left.now right.now) (option_map piece_text result) }
         ensures within { IfSome result IsWithin }
     {
@@ -43,7 +45,7 @@ impl<'a> Piece<'a> {
     }
 
     /// The piece, if it has a character.
-    pub(crate) fn filled(&self) -> Option<Piece<'a>>
+    pub fn filled(&self) -> Option<Piece<'a>>
         requires within { IsWithin self.now }
         ensures value { IsValue (IsFilled (λ t. t ≡ piece_text self.now)) (option_map piece_text result) }
         ensures within { IfSome result IsWithin }
@@ -56,7 +58,7 @@ impl<'a> Piece<'a> {
     }
 
     /// The characters.
-    pub(crate) fn as_slice(&self) -> &'a [char]
+    pub fn as_slice(&self) -> &'a [char]
         requires within { IsWithin self.now }
         ensures { result.now ≡ piece_text self.now }
     {
@@ -64,7 +66,7 @@ impl<'a> Piece<'a> {
     }
 
     /// A text of its own.
-    pub(crate) fn copy(&self, alloc: Global) -> Result<Text, NoMemory>
+    pub fn copy(&self, alloc: Global) -> Result<Text, NoMemory>
         requires within { IsWithin self.now }
         ensures { IfOk result (λ text. text ≡ piece_text self.now) }
     {

@@ -276,6 +276,8 @@ fn values_of_a_switch_and_of_its_copy(rt: HostRuntime) -> Result<(), Fail> {
     }
     let other = Sheet::read(alloc, b"k,k\n", false, &[2], None)?;
     assert!(rt; !switch_reads_inputs(&switch, &other));
+    assert_eq!(rt; first_other_column(&switch, &sheet), None);
+    assert_eq!(rt; first_other_column(&switch, &other), Some(1));
     Ok(())
 }
 

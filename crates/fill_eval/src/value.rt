@@ -9,7 +9,7 @@ ghost use Rattle.fill_tree.specs.Meaning.{atom_tree, program_tree, select_tree, 
 ghost use Rattle.fill_tree.specs.Value.{AtomIs, ConditionIs, ConditionsAre, IsValue, ProgramIs, SourceIs};
 ghost use Rattle.fill_eval.specs.Piece.{IsWithin, piece_text};
 
-use crate::lookup::{has_key, input_cell, table_cell};
+use crate::lookup::{found_row, has_key, input_cell, table_cell};
 use crate::piece::Piece;
 use arrayvec::ArrayVec;
 use fill_sheet::Sheet;
@@ -44,9 +44,8 @@ fn select_text<'a>(s: &Select, row: u32, sheet: &'a Sheet, tables: &'a Tables) -
     if !has_key(s.table, s.key, tables) {
         return None;
     }
-    tables.keeps_keys();
     let cells = condition_texts(s.conditions.as_slice(), row, sheet, tables)?;
-    let found = tables.find_slices(s.table, s.key, cells.as_slice())?;
+    let found = found_row(s.table, s.key, cells.as_slice(), tables)?;
     table_cell(s.table, found, s.column, tables)
 }
 

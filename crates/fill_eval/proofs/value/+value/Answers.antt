@@ -48,7 +48,7 @@ select_text-returns-in_err-found n c =
     let Q = ConditionsAre c.args.sheet.now c.args.tables.now c.args.row (atoms_of (map atom_tree s.conditions)) in
     let texts = map (λ cell. cell.now) c.in_ok-cells.cells.items in
     let are : IsValue Q (Some texts) = rw c.as_slice.ensures at c.in_ok-cells.ensures.some in
-    let none : (row : ℕ) → ¬ (IsKeyedRow c.args.tables.now s.table s.key texts row) = rw c.as_slice-2.ensures.value at c.in_err-found.ensures in
+    let none : (row : ℕ) → ¬ (IsKeyedRow c.args.tables.now s.table s.key texts row) = rw c.as_slice-2.ensures.value at c.in_err-found.ensures.found in
     rw (c.from_residual-in_err-found.ensures, lookup_tree s) (no_row c.args.tables.now Q s.column s.table s.key texts are none)
 
 pub select_text-returns : goal.select_text-returns
@@ -57,8 +57,8 @@ select_text-returns n c =
     let Q = ConditionsAre c.args.sheet.now c.args.tables.now c.args.row (atoms_of (map atom_tree s.conditions)) in
     let texts = map (λ cell. cell.now) c.in_ok-cells.cells.items in
     let are : IsValue Q (Some texts) = rw c.as_slice.ensures at c.in_ok-cells.ensures.some in
-    let found : IsKeyedRow c.args.tables.now s.table s.key texts c.in_ok-found.found = rw c.as_slice-2.ensures.value at c.in_ok-found.ensures in
-    rw (c.table_cell.ensures, lookup_tree s) (looked_up c.args.sheet.now c.args.tables.now Q s.column s.table s.key c.in_ok-found.found texts c.keeps_keys.ensures are found)
+    let found : IsKeyedRow c.args.tables.now s.table s.key texts c.in_ok-found.found = rw c.as_slice-2.ensures.value at c.in_ok-found.ensures.found in
+    rw (c.table_cell.ensures, lookup_tree s) (looked_up c.args.sheet.now c.args.tables.now Q s.column s.table s.key c.in_ok-found.found texts c.in_ok-found.ensures.one are found)
 
 pub condition_texts-loop-condition-preserved : goal.condition_texts-loop-condition-preserved
 condition_texts-loop-condition-preserved n c =
