@@ -1,6 +1,5 @@
 //! Which trees stand in sets and graphs.
 ghost use Rattle.std.specs.Prelude.{◌≡◌, ℕ, ◌+◌, ◌<◌, ◌≤◌, ◌↔◌, length, drop, map, IsTrue, Some, slice_get};
-ghost use Rattle.fill_tree.specs.Grammar.{HasPart, IsPart};
 ghost use Rattle.fill_tree.specs.Meaning.{atom_tree, program_tree, select_tree, source_tree};
 ghost use Rattle.fill_tree.specs.Tree.{atoms_of};
 ghost use Rattle.fill_arena.specs.Contents.{EachIn, In, IsAtomSet, IsGraph, IsPlaceSet, IsSourceSet};
@@ -11,7 +10,7 @@ use crate::arena::Arena;
 use crate::entry::{AtomItem, ConditionItem, Edge, SelectItem, SourceItem};
 use crate::numbers::{AtomSet, GraphId, PlaceSet, SourceSet};
 use fill_tokens::Place;
-use fill_tree::{Atom, Program, Select, Source};
+use fill_tree::{Atom, Program, Select, Source, has_part};
 use std::cmp::Ordering;
 
 impl Arena {
@@ -211,22 +210,4 @@ fn condition_fits(arena: &Arena, item: &ConditionItem, atom: &Atom) -> bool
         Some(atoms) => atom_stands(arena, atoms, atom),
         None => false,
     }
-}
-
-/// Whether some condition is no constant.
-fn has_part(conditions: &[Atom]) -> bool
-    ensures { IsTrue result ↔ HasPart (atoms_of (map atom_tree conditions.now)) }
-{
-    for condition in conditions {
-        if is_part(condition) {
-            return true;
-        }
-    }
-    false
-}
-
-fn is_part(atom: &Atom) -> bool
-    ensures { IsTrue result ↔ IsPart (atom_tree atom.now) }
-{
-    !matches!(atom, Atom::Const(_))
 }

@@ -6,13 +6,12 @@ ghost use Rattle.fill_tree.specs.Switch.{switch_tree};
 ghost use Rattle.fill_tree.specs.Value.{IsValue};
 ghost use Rattle.fill_eval.specs.Columns.{IsFirstOther, case_columns, guard_columns};
 
-use crate::lookup::is_input;
 use crate::value::program_value;
 use fill_sheet::Sheet;
 use fill_tables::Tables;
 use fill_text::{NoMemory, Text};
 use fill_tokens::match_count;
-use fill_tree::{Guard, Literal, Program, Switch};
+use fill_tree::{Guard, Literal, Program, Switch, is_input};
 use std::alloc::Global;
 
 /// Whether the literal holds on the row, in time linear in the cell.

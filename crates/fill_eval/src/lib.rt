@@ -14,7 +14,7 @@ pub use guard::{
     first_other_column, guard_holds, guard_reads_inputs, literal_holds, switch_reads_inputs,
     switch_value,
 };
-pub use lookup::{found_row, input_cell, is_input, table_cell};
+pub use lookup::{found_row, input_cell, table_cell};
 pub use piece::Piece;
 pub use value::{atom_value, program_value, source_value};
 

@@ -7,6 +7,7 @@ ghost use Rattle.fill_tables.specs.Tables.{AreTables, key_count};
 use fill_sheet::Sheet;
 use fill_tables::Tables;
 use fill_text::Text;
+use fill_tree::is_input;
 
 /// The cell of a row in a column, if that is an input. The text is lent by the sheet.
 pub fn input_cell(row: u32, column: u32, sheet: &Sheet) -> Option<&Text>
@@ -19,13 +20,6 @@ pub fn input_cell(row: u32, column: u32, sheet: &Sheet) -> Option<&Text>
     } else {
         None
     }
-}
-
-/// Whether a column is an input.
-pub fn is_input(column: u32, sheet: &Sheet) -> bool
-    ensures { IsTrue result ↔ Contains sheet.now.inputs column }
-{
-    sheet.inputs().contains(&column)
 }
 
 /// The cell of a table, if the numbers are in range. The text is lent by the tables.

@@ -5,6 +5,7 @@ use Rattle.std.proofs.lemmas.Option.{same_Some, slice_get_read, slice_get_within
 use Rattle.std.proofs.lemmas.Bool.{cases_order}
 use Rattle.std.proofs.lemmas.List.{length_push}
 use Rattle.std.proofs.lemmas.List.Elements.{Contains-push, Contains-push_cases, Contains-append_left}
+use Rattle.fill_text.proofs.ListReads.{contains_read, read_contains}
 use Rattle.fill_tokens.specs.Token.{token_number}
 use Rattle.fill_tokens.specs.declared.token.Token.{Token}
 use Rattle.fill_places.specs.declared.hops.Hop.{Hop}
@@ -13,12 +14,6 @@ use Rattle.fill_places.specs.Hops.{AreHops, AreTables, AreHopsBelow, AreTurned, 
 
 none_in : {A : Type 0} (x : A) → Contains {X = A} [] x → ⊥
 none_in x h = let w = h.1 in omega arith
-
-pub contains_read : {A : Type 0} (xs : List A) (i : ℕ) (x : A) → slice_get xs i ≡ Some x → Contains xs x
-contains_read xs i x h = (i, slice_get_within xs i x h, get_or_from_slice_get xs i x x h)
-
-pub read_contains : {A : Type 0} (xs : List A) (x : A) → Contains xs x → (i : ℕ) × (i < length xs) × (slice_get xs i ≡ Some x)
-read_contains xs x c = (c.0, c.1, slice_get_read xs (length xs) c.0 x refl c.1 (sym c.2))
 
 -- hops from one position after the other
 module _ (S : ℕ → ℕ → Type 0) where
@@ -128,7 +123,3 @@ module _ (S : Token → ℕ → ℕ → Type 0) where
 
   pub rows_all : (m : ℕ) (table : List TokenHops) → AreRows S m table → m ≡ 26 → AreTables S table
   rows_all m table a e = record { all = a.many ∙ e; each = a.each }
-
-pub on_ok : {T E : Type 0} (r : Result T E) (P Q : Type 0) → (P → Q) → OnOk r P → OnOk r Q
-on_ok (Ok x) P Q f h = f h
-on_ok (Err e) P Q f h = tt

@@ -13,7 +13,7 @@ use Rattle.fill_places.specs.Marks.{AreMarks}
 use Rattle.fill_places.specs.Sides.{LeftAt, RightAt}
 use Rattle.fill_places.specs.Entries.{Entries, AddsEntries, HasLength, HasAtMost, IsOnly, EndsWithOne, EndsWithAny, BeginsWithIt, BeginsWithAny}
 use Rattle.fill_places.proofs.SideLaws.{left_front, right_rest}
-use Rattle.fill_places.proofs.OrderLaws.{snoc_less, base_less, behind_less, front_less, shorter_less, number_some}
+use Rattle.fill_tokens.proofs.SeqOrder.{snoc_less, base_less, behind_less, front_less, shorter_less, number_some}
 use Rattle.fill_places.proofs.EntryLaws.{entries_append, entries_same, entries_one, grows_none, grows_then}
 
 module _ (M : List Token → ℕ → Type 0) (n : ℕ) where

@@ -2,7 +2,6 @@ pub mod EntryLaws
 pub mod HopLaws
 pub mod LayerLaws
 pub mod MarkLaws
-pub mod OrderLaws
 pub mod PairLaws
 pub mod RowLaws
 pub mod SideLaws

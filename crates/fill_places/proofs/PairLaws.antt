@@ -16,7 +16,7 @@ use Rattle.fill_text.specs.Lists.{Adds}
 use Rattle.fill_places.specs.Marks.{AreMarks, Common}
 use Rattle.fill_places.specs.Sides.{IsLeft, IsRight, LeftAt, RightAt}
 use Rattle.fill_places.specs.Wanted.{FittingFixed, FittingPair, FixedOf, PairOf, Counts}
-use Rattle.fill_places.proofs.OrderLaws.{plus_first, minus_first, seq_same}
+use Rattle.fill_tokens.proofs.SeqOrder.{plus_first, minus_first, seq_same}
 use Rattle.fill_text.proofs.ListsLaws.{adds_then}
 
 -- the fixed places

@@ -16,7 +16,7 @@ use Rattle.fill_places.specs.Marks.{AreMarks}
 use Rattle.fill_places.specs.Sides.{LeftAt, RightAt}
 use Rattle.fill_places.specs.Entries.{AreInOrder, AreLefts, AreRights, IsMarkedAt}
 use Rattle.fill_places.specs.Wanted.{IsWanted, FixedOf, PairOf, RowOf, FromLeft, FromLefts}
-use Rattle.fill_places.proofs.OrderLaws.{seq_same, less_nat, nat_less}
+use Rattle.fill_tokens.proofs.SeqOrder.{seq_same, less_nat, nat_less}
 use Rattle.fill_text.proofs.ListsLaws.{adds_none, adds_one, adds_same, adds_then, adds_all}
 
 wanted_cut : (t : List ℕ) (k : ℕ) (a b : List Token) (c : ℤ) → IsWanted t k (Pos a b c) → IsCut a b t k

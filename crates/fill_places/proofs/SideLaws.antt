@@ -82,13 +82,3 @@ right_none = record { start = λ i h. none_at i Start h; end = λ i h. absurd (n
     none_at i y h = cc
 
 -- sequences of one and of two tokens
-pub one_is : (xs : List Token) (a : Token) → length xs ≡ 1 → slice_get xs 0 ≡ Some a → a ∷ [] ≡ xs
-one_is [] a h e = cc
-one_is (y ∷ []) a h e = let f : y ≡ a = same_Some y a e in cc
-one_is (y ∷ z ∷ zs) a h e = absurd (omega arith)
-
-pub two_is : (xs : List Token) (a b : Token) → length xs ≡ 2 → slice_get xs 0 ≡ Some a → slice_get xs 1 ≡ Some b → a ∷ b ∷ [] ≡ xs
-two_is [] a b h e g = cc
-two_is (y ∷ []) a b h e g = absurd (omega arith)
-two_is (y ∷ z ∷ []) a b h e g = let f : y ≡ a = same_Some y a e in let i : z ≡ b = same_Some z b g in cc
-two_is (y ∷ z ∷ u ∷ us) a b h e g = absurd (omega arith)

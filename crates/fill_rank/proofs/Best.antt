@@ -12,7 +12,8 @@ use Rattle.fill_tree.specs.Meaning.{program_tree}
 use Rattle.fill_tree.specs.Order.{source_cmp, atom_cmp, atoms_cmp}
 use Rattle.fill_tree.specs.Tree.{Atoms}
 use Rattle.fill_tree.proofs.TreeOrder.{source_total, exact_sources, atom_total, exact_atoms, atoms_total, exact_atom_lists}
-use Rattle.fill_rank.specs.Rank.{rank, source_rank, atom_rank, chain_rank, AtMost, IsBest, IsBestOf, IsLesser}
+use Rattle.fill_text.specs.Orders.{AtMost}
+use Rattle.fill_rank.specs.Rank.{rank, source_rank, atom_rank, chain_rank, IsBest, IsBestOf, IsLesser}
 use Rattle.fill_rank.specs.Sets.{IsBestChain}
 use Rattle.fill_rank.specs.declared.chain.Chain.{Chain}
 

@@ -15,7 +15,8 @@ use Rattle.fill_arena.specs.declared.entry.AtomItem.TheVariants.{Const, Whole, S
 use Rattle.fill_arena.specs.declared.entry.Entry.{Entry}
 use Rattle.fill_arena.specs.declared.entry.SelectItem.{SelectItem}
 use Rattle.fill_arena.specs.declared.entry.SourceItem.TheVariants.{Col, Select}
-use Rattle.fill_rank.specs.Rank.{AtMost, IsBest, place_rank, source_rank, atom_rank, row_rank}
+use Rattle.fill_text.specs.Orders.{AtMost}
+use Rattle.fill_rank.specs.Rank.{IsBest, place_rank, source_rank, atom_rank, row_rank}
 use Rattle.fill_rank.specs.Sets.{ConstantFits, PartFits}
 use Rattle.fill_rank.proofs.Best.{rank_total, rank_exact, at_most-itself}
 

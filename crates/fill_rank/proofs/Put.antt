@@ -12,7 +12,8 @@ use Rattle.fill_tree.proofs.TreeOrder.{atom_total, exact_atoms}
 use Rattle.fill_arena.specs.Stands.{AtomFits, ConditionFits, ConditionsFit}
 use Rattle.fill_arena.specs.declared.entry.ConditionItem.{ConditionItem}
 use Rattle.fill_arena.specs.declared.entry.Entry.{Entry}
-use Rattle.fill_rank.specs.Rank.{rank, atom_rank, AtMost, IsBest, IsBestOf, IsLesser, chain_rank}
+use Rattle.fill_text.specs.Orders.{AtMost}
+use Rattle.fill_rank.specs.Rank.{rank, atom_rank, IsBest, IsBestOf, IsLesser, chain_rank}
 use Rattle.fill_rank.specs.Sets.{IsBestPart, IsConstantOf, IsBestChain, AreBestRows, IsPut, link_cost}
 use Rattle.fill_rank.specs.declared.chain.Chain.{Chain}
 use Rattle.fill_rank.specs.declared.rows.Rows.{Rows}

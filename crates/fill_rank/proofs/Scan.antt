@@ -10,7 +10,8 @@ use Rattle.fill_tokens.specs.Place.{place_cost, place_cmp}
 use Rattle.fill_tokens.specs.declared.place.Place.{Place}
 use Rattle.fill_tokens.proofs.PlaceLaws.{place_total, exact_places}
 use Rattle.fill_arena.specs.Contents.{In, SomeIn}
-use Rattle.fill_rank.specs.Rank.{AtMost, IsBest, IsBestOf, IsLesser, place_rank}
+use Rattle.fill_text.specs.Orders.{AtMost}
+use Rattle.fill_rank.specs.Rank.{IsBest, IsBestOf, IsLesser, place_rank}
 use Rattle.fill_rank.specs.Sets.{SomeBelow}
 use Rattle.fill_rank.proofs.Best.{rank_total, rank_exact, at_most-itself, at_most-trans, at_most-not_less, best_lesser}
 

@@ -18,7 +18,8 @@ use Rattle.fill_arena.specs.declared.entry.Edge.{Edge}
 use Rattle.fill_arena.specs.declared.entry.Entry.{Entry}
 use Rattle.fill_arena.specs.declared.entry.Entry.TheVariants.{Graph}
 use Rattle.fill_arena.proofs.Lists.{get_pushed}
-use Rattle.fill_rank.specs.Rank.{AtMost, IsBest, IsLesser, atom_rank, chain_rank}
+use Rattle.fill_text.specs.Orders.{AtMost}
+use Rattle.fill_rank.specs.Rank.{IsBest, IsLesser, atom_rank, chain_rank}
 use Rattle.fill_rank.specs.Sets.{AreBestRests, IsBestChain, IsFirstEdge, IsPut, link_cost}
 use Rattle.fill_rank.specs.declared.chain.Chain.{Chain}
 use Rattle.fill_rank.proofs.Best.{chains_lesser}

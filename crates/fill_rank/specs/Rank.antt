@@ -10,6 +10,7 @@ use Rattle.fill_tree.specs.Meaning.{program_tree}
 use Rattle.fill_tree.specs.Order.{source_cmp, atom_cmp, atoms_cmp}
 use Rattle.fill_tree.specs.Tree.{SourceTree, AtomTree, Atoms}
 use Rattle.fill_rank.specs.declared.chain.Chain.{Chain}
+use Rattle.fill_text.specs.Orders.{AtMost}
 
 -- by the cost, and then by the order of what costs the same
 abbrev pub rank : {A : Type 0} → (A → ℕ) → (A → A → Ordering) → A → A → Ordering
@@ -32,10 +33,6 @@ row_rank = rank conditions_cost atoms_cmp
 -- chains of atoms by the costs that they carry
 abbrev pub chain_rank : Chain → Chain → Ordering
 chain_rank x y = ordering_then (nat_cmp x.cost y.cost) (atoms_cmp (program_tree x.atoms) (program_tree y.atoms))
-
--- the first is before the second, or they are alike
-abbrev pub AtMost : Ordering → Type 0
-AtMost o = (o ≡ Less) ⊎ (o ≡ Equal)
 
 -- it has the property, and is at most each that has it
 pub record IsBest {A : Type 0} (order : A → A → Ordering) (P : A → Type 0) (x : A) : Type 0 where

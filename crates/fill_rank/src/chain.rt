@@ -42,17 +42,6 @@ pub(crate) fn lesser(best: Option<Chain>, next: Option<Chain>) -> Option<Chain>
     })
 }
 
-/// The cost of an atom as a condition of a lookup: a constant costs the same whatever its text.
-fn cost_as_condition(atom: &Atom) -> Option<u64>
-    ensures some { IfSome result (λ n. n ≡ condition_cost (atom_tree atom.now)) }
-    ensures none { IfNone result (2 ^ 64 ≤ condition_cost (atom_tree atom.now)) }
-{
-    match atom {
-        Atom::Const(_) => Some(15),
-        _ => atom.cost()?.checked_add(2),
-    }
-}
-
 /// The atom and then the atoms of the rest.
 fn followed_by(alloc: Global, atom: &Atom, rest: &Program) -> Result<Program, NoMemory>
     ensures { IfOk result (λ made. program_tree made ≡ more (atom_tree atom.now) (program_tree rest.now)) }
@@ -76,7 +65,7 @@ pub(crate) fn put_condition(
     let (Some(atom), Some(row)) = (atom, row) else {
         return Ok(None);
     };
-    let Some(own) = cost_as_condition(atom) else {
+    let Some(own) = atom.condition_cost() else {
         return Err(NoMemory);
     };
     let Some(cost) = own.checked_add(row.cost) else {

@@ -22,7 +22,8 @@ use Rattle.fill_tree.specs.Tree.{AtomTree, col, sub}
 use Rattle.fill_tree.specs.declared.tree.Atom.TheVariants.{Sub}
 use Rattle.fill_tree.specs.declared.tree.Source.TheVariants.{Col}
 use Rattle.fill_tree.specs.declared.tree.Atom.TheFolds.{the_lemmas}
-use Rattle.flashfill.specs.Start.{AtMost, NoLater, PlaceNoLater, IsBestPlace, IsCopy, IsCopyStart, IsCopyOn, BeatsCopies, BeatsColumn, BeatsPlaces, LackPlaces, total}
+use Rattle.fill_text.specs.Orders.{AtMost}
+use Rattle.flashfill.specs.Start.{NoLater, PlaceNoLater, IsBestPlace, IsCopy, IsCopyStart, IsCopyOn, BeatsCopies, BeatsColumn, BeatsPlaces, LackPlaces, total}
 use Rattle.flashfill.proofs.Starts.{no_later-trans}
 use Rattle.flashfill.specs.declared.first_program.start.Start.{Start}
 

@@ -24,7 +24,8 @@ use Rattle.fill_tables.specs.Keys.{KeysDistinguish}
 use Rattle.fill_tree.specs.Value.{AtomIs, ProgramIs}
 use Rattle.fill_tree.specs.declared.user.Example.{Example}
 use Rattle.flashfill.specs.Report.{IsBuiltAtom, Represents, default_settings}
-use Rattle.flashfill.specs.Start.{AtMost, NoLater, IsChosenFor, last, Costs, AreCosts, AreSmall, MayBegin, IsStart, IsConstant, IsCopy, IsCopyOn, BeatsColumn, BeatsConstant, total}
+use Rattle.fill_text.specs.Orders.{AtMost}
+use Rattle.flashfill.specs.Start.{NoLater, IsChosenFor, last, Costs, AreCosts, AreSmall, MayBegin, IsStart, IsConstant, IsCopy, IsCopyOn, BeatsColumn, BeatsConstant, total}
 use Rattle.flashfill.proofs.Constants.{text_small}
 use Rattle.flashfill.proofs.Starts.{no_later-trans, no_later-cost}
 use Rattle.fill_tokens.specs.declared.place.Place.{Place}

@@ -10,7 +10,8 @@ use Rattle.fill_tree.proofs.TreeOrder.{atom_total}
 use Rattle.fill_tree.specs.Meaning.{atom_tree}
 use Rattle.fill_tree.specs.Order.{atom_cmp}
 use Rattle.fill_tree.specs.Tree.{AtomTree}
-use Rattle.flashfill.specs.Start.{AtMost, NoLater}
+use Rattle.fill_text.specs.Orders.{AtMost}
+use Rattle.flashfill.specs.Start.{NoLater}
 use Rattle.flashfill.specs.declared.first_program.start.Start.{Start}
 
 reversed : (a b : Ordering) → a ≡ ordering_reverse b → (b ≡ Less → ⊥) → AtMost a

@@ -17,10 +17,7 @@ use Rattle.fill_tree.specs.Tree.{AtomTree, Atoms, col, constant, sub, more}
 use Rattle.fill_tree.specs.Value.{AtomIs}
 use Rattle.flashfill.specs.Report.{IsBuiltAtom, IsChosen, default_settings}
 use Rattle.flashfill.specs.declared.first_program.start.Start.{Start}
-
--- less than, or alike
-abbrev pub AtMost : Ordering → Type 0
-AtMost o = (o ≡ Less) ⊎ (o ≡ Equal)
+use Rattle.fill_text.specs.Orders.{AtMost}
 
 -- the first place costs less than the second, or as much and is not after it
 abbrev pub PlaceNoLater : Place → Place → Type 0

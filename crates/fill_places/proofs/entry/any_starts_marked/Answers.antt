@@ -1,7 +1,7 @@
 use Rattle.std.proofs.Common.{arith, ◌≡◌, refl, get_or, slice_get, Some, true, false}
 use Rattle.std.proofs.lemmas.Option.{slice_get-get_or}
 use Rattle.fill_places.specs.declared.hops.Hop.{Hop}
-use Rattle.fill_places.proofs.HopLaws.{contains_read, read_contains}
+use Rattle.fill_text.proofs.ListReads.{contains_read, read_contains}
 use Rattle.fill_places.proofs.MarkLaws.{until_more}
 use Rattle.fill_places.proofs.entry.any_starts_marked.Goals as goal
 use Rattle.std.proofs.lemmas.Bool.{iff_false}

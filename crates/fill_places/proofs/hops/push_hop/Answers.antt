@@ -3,7 +3,8 @@ use Rattle.fill_tokens.specs.Span.{Spans}
 use Rattle.fill_tokens.proofs.SpanLaws.{one_end}
 use Rattle.fill_places.specs.declared.hops.Hop.{Hop}
 use Rattle.fill_places.specs.Hops.{AreHopsBelow}
-use Rattle.fill_places.proofs.HopLaws.{below_more, below_not, on_ok}
+use Rattle.fill_text.proofs.ListReads.{on_ok}
+use Rattle.fill_places.proofs.HopLaws.{below_more, below_not}
 use Rattle.fill_places.proofs.hops.push_hop.Goals as goal
 use Rattle.std.proofs.lemmas.Option.{MatchOption-at_none, MatchOption-at_some}
 

@@ -3,7 +3,8 @@ use Rattle.fill_tokens.specs.Span.{Spans}
 use Rattle.fill_tokens.specs.declared.token.Token.{Token}
 use Rattle.fill_places.specs.declared.hops.TokenHops.{TokenHops}
 use Rattle.fill_places.specs.Hops.{AreRows}
-use Rattle.fill_places.proofs.HopLaws.{rows_more, on_ok}
+use Rattle.fill_text.proofs.ListReads.{on_ok}
+use Rattle.fill_places.proofs.HopLaws.{rows_more}
 use Rattle.fill_places.proofs.hops.push_row.Goals as goal
 
 pub returns : goal.returns

@@ -6,7 +6,7 @@ use Rattle.fill_places.specs.Marks.{AreMarks, Reached, IsHopWithin}
 use Rattle.std.specs.List.{All}
 use Rattle.fill_places.specs.Sides.{LeftAt}
 use Rattle.fill_places.specs.Entries.{AddsEntries, IsOnly}
-use Rattle.fill_places.proofs.HopLaws.{on_ok}
+use Rattle.fill_text.proofs.ListReads.{on_ok}
 use Rattle.fill_places.proofs.EntryLaws.{grows_not, grows_one}
 use Rattle.fill_places.proofs.MarkLaws.{hops_within, spans_small, left_barred, left_never, left_marks}
 use Rattle.fill_places.proofs.lefts.push_left.Goals as goal

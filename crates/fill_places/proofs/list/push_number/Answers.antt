@@ -4,7 +4,7 @@ use Rattle.std.proofs.lemmas.Option.{slice_get_read}
 use Rattle.fill_places.specs.declared.entry.Entry.{Entry}
 use Rattle.fill_text.specs.Lists.{Adds}
 use Rattle.fill_places.specs.Entries.{IsMarkedAt}
-use Rattle.fill_places.proofs.HopLaws.{on_ok}
+use Rattle.fill_text.proofs.ListReads.{on_ok}
 use Rattle.fill_places.proofs.MarkLaws.{marked_read}
 use Rattle.fill_places.proofs.RowLaws.{marked_not, marked_more}
 use Rattle.fill_places.proofs.list.push_number.Goals as goal

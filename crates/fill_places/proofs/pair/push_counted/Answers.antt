@@ -2,7 +2,7 @@ use Rattle.std.proofs.Common.{arith, ◌-◌, pos, negsuc}
 use Rattle.fill_tokens.specs.Place.{place_cmp}
 use Rattle.fill_text.specs.Lists.{Adds}
 use Rattle.fill_places.specs.Wanted.{FittingPair, PairOf}
-use Rattle.fill_places.proofs.HopLaws.{on_ok}
+use Rattle.fill_text.proofs.ListReads.{on_ok}
 use Rattle.fill_places.proofs.PairLaws.{pair_two, pair_two_back}
 use Rattle.fill_places.proofs.pair.push_counted.Goals as goal
 

@@ -1,5 +1,5 @@
 use Rattle.std.proofs.Common.{◌≡◌, ◌∙◌, arith, length, ap, ◌∷◌}
-use Rattle.fill_places.proofs.SideLaws.{one_is, two_is}
+use Rattle.fill_tokens.proofs.SeqOrder.{one_is, two_is}
 use Rattle.fill_places.proofs.rights.preceded.Goals as goal
 
 pub returns-in-1 : goal.returns-in-1

@@ -6,7 +6,7 @@ use Rattle.fill_places.specs.Marks.{AreMarks, Reached, IsHopWithin}
 use Rattle.std.specs.List.{All}
 use Rattle.fill_places.specs.Sides.{RightAt}
 use Rattle.fill_places.specs.Entries.{AddsEntries, IsOnly}
-use Rattle.fill_places.proofs.HopLaws.{on_ok}
+use Rattle.fill_text.proofs.ListReads.{on_ok}
 use Rattle.fill_places.proofs.EntryLaws.{grows_not, grows_one}
 use Rattle.fill_places.proofs.MarkLaws.{hops_within, back_small, right_barred, right_never, right_marks}
 use Rattle.fill_places.proofs.rights.push_right.Goals as goal
