@@ -1,6 +1,7 @@
 pub mod Constants
 pub mod Copies
 pub mod Ends
+pub mod Lines
 pub mod Numbers
 pub mod Records
 pub mod Scripts

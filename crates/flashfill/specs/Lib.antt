@@ -1,4 +1,5 @@
 pub mod Answer
+pub mod Made
 pub mod Number
 pub mod Opened
 pub mod Present

@@ -52,9 +52,10 @@ pub fn run<C: Cabinet, O: Sink, E: Sink, L: Ledger>(
     ensures done { result ≡ 0 → Told (C.files cabinet.old) (λ held. WritesReport (opened (map string_bytes words.now) held) (O.written out.old) (O.written out.new)) }
     ensures silent { result ≡ 0 → Keeps (E.written err.old) (E.written err.new) }
 
-    // 2 exactly where the words are no command.
+    // 2 exactly where the words are no command; then nothing is read or written but the line.
     ensures usage { session_of (map string_bytes words.now) ≡ None → result ≡ 2 }
     ensures no_command { result ≡ 2 → session_of (map string_bytes words.now) ≡ None }
+    ensures untouched { session_of (map string_bytes words.now) ≡ None → (cabinet.new ≡ cabinet.old) × (out.new ≡ out.old) }
     ensures usage_said { result ≡ 2 → Says (E.written err.old) (E.written err.new) (E.faults err.old) (E.faults err.new) usage_line }
 
     // 3 only where a read of a file that the steps come to failed in this call, or the next file is not there.

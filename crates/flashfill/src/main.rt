@@ -5,6 +5,7 @@ ghost use Rattle.std.specs.Prelude.{◌≡◌};
 
 mod command;
 mod first_program;
+mod made;
 mod number;
 mod open;
 mod report;

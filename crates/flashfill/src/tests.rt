@@ -1,9 +1,12 @@
 //! Whole runs over files and output in memory.
 ghost use Rattle.std.specs.Prelude.{◌≡◌};
 
+mod noting;
+
 use crate::command::run;
-use fill_edge::{Ledger, MemoryCabinet, MemorySink, Steps};
+use fill_edge::{Cabinet, Ledger, MemoryCabinet, MemorySink, Steps};
 use fill_text::NoMemory;
+use noting::NotingCabinet;
 use std::alloc::{AllocError, Global};
 use std::marker::Brand;
 use std::sync::ledger::Blank;
@@ -16,10 +19,10 @@ const SESSION: &[u8] = b"sheet,sheet.csv\ninputs,1\nbegin\nadd,1,x\nprograms\n";
 
 const REPORT: &[u8] = b"ok,add,1\nbranch,1,else,Concat(Const('x'))\n";
 
-fn counting<L: Ledger>(
+fn counting<L: Ledger, C: Cabinet>(
     alloc: Global,
     words: &[String],
-    cabinet: &mut MemoryCabinet,
+    cabinet: &mut C,
     out: &mut MemorySink,
     err: &mut MemorySink,
     blank: Blank,
@@ -34,14 +37,14 @@ fn counting<L: Ledger>(
 }
 
 /// The status of a run.
-fn status(
+fn status<C: Cabinet>(
     alloc: Global,
     words: &[String],
-    cabinet: &mut MemoryCabinet,
+    cabinet: &mut C,
     out: &mut MemorySink,
     err: &mut MemorySink,
 ) -> u8 {
-    counting::<Brand>(alloc, words, cabinet, out, err, Blank::new(1))
+    counting::<Brand, C>(alloc, words, cabinet, out, err, Blank::new(1))
 }
 
 fn words(alloc: Global, texts: &[&str]) -> Result<Vec<String>, AllocError> {
@@ -165,6 +168,34 @@ fn other_words_are_no_command(rt: HostRuntime) -> Result<(), Fail> {
             err.written(),
             b"usage: flashfill replay SESSION or flashfill made N\n".as_slice()
         );
+    }
+    Ok(())
+}
+
+/// Each file is read in two calls, its bytes and its end, and nothing else is read.
+#[test]
+fn only_files_of_the_session_are_read(rt: HostRuntime) -> Result<(), Fail> {
+    let alloc = rt.alloc();
+    let rows: [(&[&str], u8, &str); 4] = [
+        (
+            &["replay", "s.csv"],
+            0,
+            "s.csv\ns.csv\nsheet.csv\nsheet.csv\n",
+        ),
+        (&["replay", "sheet.csv"], 5, "sheet.csv\nsheet.csv\n"),
+        (&["replay", "gone.csv"], 3, "gone.csv\n"),
+        (&["play", "s.csv"], 2, ""),
+    ];
+    for (texts, wanted, asked) in rows {
+        let words = words(alloc, texts)?;
+        let mut cabinet = NotingCabinet::new(alloc, files(alloc, SESSION, PLENTY)?);
+        let mut out = MemorySink::new(alloc, PLENTY, PLENTY)?;
+        let mut err = MemorySink::new(alloc, PLENTY, PLENTY)?;
+        assert_eq!(rt;
+            status(alloc, &words, &mut cabinet, &mut out, &mut err),
+            wanted
+        );
+        assert_eq!(rt; cabinet.asked()?, asked);
     }
     Ok(())
 }
