@@ -205,7 +205,7 @@ module _ (sheet : SheetData) (row : ℕ) where
       let copy = k.6.0 in
       record {
         built = subst IsBuiltAtom (sym copy.is) (tt, tt, tt);
-        in_grammar = subst (IsAtom default_settings sheet []) (sym copy.is) ((k.3, k.4), omega arith, copy.first_place, copy.second_place);
+        in_grammar = subst (IsAtom default_settings sheet []) (sym copy.is) ((k.3, k.4), omega arith, (copy.first_place, tt), (copy.second_place, tt));
         rest = copy.rest;
         value = subst (λ (a : AtomTree). AtomIs sheet [] row a (take (length t - s.left) t)) (sym copy.is)
             (k.1, k.2, copy.stop, k.5, copy.starts, copy.stops, copy.some, sym copy.same);
@@ -227,7 +227,7 @@ module _ (sheet : SheetData) (row : ℕ) where
           second = z;
           stop = v.2;
           is = refl;
-          first_place = may.in_grammar.2;
+          first_place = may.in_grammar.2.0;
           second_place = may.in_grammar.3;
           starts = v.4;
           stops = v.5;
