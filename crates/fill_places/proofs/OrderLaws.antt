@@ -10,7 +10,7 @@ use Rattle.fill_tokens.specs.Token.{token_number}
 use Rattle.fill_tokens.specs.Place.{seq_cmp, signed_cmp}
 use Rattle.fill_tokens.proofs.PlaceLaws.{seq_total}
 use Rattle.fill_tokens.specs.declared.token.Token.{Token}
-use Rattle.fill_tokens.specs.declared.token.Token.TheVariants.{Start, End, Digits, Upper, Lower, Alpha, Word, Space, Hyphen, Dot, Comma, Semicolon, Colon, Slash, Backslash, Underscore, At, Hash, Ampersand, LeftParen, RightParen, DoubleQuote, SingleQuote, Percent, Plus, Dollar}
+use Rattle.fill_tokens.specs.declared.token.Token.TheVariants.{Start}
 
 own_reverse : (o : Ordering) → o ≡ ordering_reverse o → o ≡ Equal
 own_reverse Less h = cc
@@ -95,28 +95,4 @@ front_less x y a b e h =
 
 pub number_some : (x : Token) → 0 < token_number x
 number_some Start = omega arith
-number_some End = omega arith
-number_some Digits = omega arith
-number_some Upper = omega arith
-number_some Lower = omega arith
-number_some Alpha = omega arith
-number_some Word = omega arith
-number_some Space = omega arith
-number_some Hyphen = omega arith
-number_some Dot = omega arith
-number_some Comma = omega arith
-number_some Semicolon = omega arith
-number_some Colon = omega arith
-number_some Slash = omega arith
-number_some Backslash = omega arith
-number_some Underscore = omega arith
-number_some At = omega arith
-number_some Hash = omega arith
-number_some Ampersand = omega arith
-number_some LeftParen = omega arith
-number_some RightParen = omega arith
-number_some DoubleQuote = omega arith
-number_some SingleQuote = omega arith
-number_some Percent = omega arith
-number_some Plus = omega arith
-number_some Dollar = omega arith
+number_some _ = omega arith
