@@ -5,6 +5,7 @@ use Rattle.std.proofs.lemmas.Option.{same_Some, slice_get_read, slice_get_within
 use Rattle.std.proofs.lemmas.Bool.{cases_order}
 use Rattle.std.proofs.lemmas.List.{length_push}
 use Rattle.std.proofs.lemmas.List.Elements.{Contains-push, Contains-push_cases, Contains-append_left}
+use Rattle.fill_tokens.specs.Profile.{token_count}
 use Rattle.fill_text.proofs.ListReads.{contains_read, read_contains}
 use Rattle.fill_tokens.specs.Token.{token_number}
 use Rattle.fill_tokens.specs.declared.token.Token.{Token}
@@ -121,5 +122,5 @@ module _ (S : Token → ℕ → ℕ → Type 0) where
           push_cases (y ∷ ys) zero x h = inl h
           push_cases (y ∷ ys) (suc i) x h = elim (push_cases ys i x h) [ inl q ↦ inl q | inr q ↦ inr (ap suc q.0, q.1) ]
 
-  pub rows_all : (m : ℕ) (table : List TokenHops) → AreRows S m table → m ≡ 26 → AreTables S table
-  rows_all m table a e = record { all = a.many ∙ e; each = a.each }
+  pub rows_all : (profile m : ℕ) (table : List TokenHops) → AreRows S m table → m ≡ token_count profile → AreTables profile S table
+  rows_all profile m table a e = record { all = a.many ∙ e; each = a.each }

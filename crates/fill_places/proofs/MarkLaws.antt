@@ -5,6 +5,7 @@ use Rattle.std.proofs.Math.ListN.{set}
 use Rattle.std.proofs.lemmas.Bool.{cases_order}
 use Rattle.std.proofs.lemmas.Option.{slice_get_read, slice_get_within}
 use Rattle.std.proofs.lemmas.List.Elements.{Contains-get_or}
+use Rattle.fill_tokens.specs.Profile.{IsTokenOf}
 use Rattle.fill_tokens.specs.Span.{Spans}
 use Rattle.fill_tokens.specs.declared.token.Token.{Token}
 use Rattle.fill_tokens.proofs.SpanLaws.{within, seq_snoc, seq_unsnoc}
@@ -48,67 +49,67 @@ pub back_small : (t : List ℕ) (x : Token) (a b : ℕ) → SpansBack t x a b �
 back_small t x a b s = let w = within x t b a s in (w.1, omega arith)
 
 -- the longer sequence ends where the hops over its last token lead
-module _ (t : List ℕ) (r : List Token) (x : Token) (flags : List Bool) (hops : List Hop) (m : AreMarks (LeftAt t r) (length t) flags) (are : AreHops (Spans x t) hops) where
-  left_reached : (k : ℕ) → LeftAt t (r ++ x ∷ []) k → Reached flags hops k
+module _ (profile : ℕ) (t : List ℕ) (r : List Token) (x : Token) (flags : List Bool) (hops : List Hop) (m : AreMarks (LeftAt profile t r) (length t) flags) (are : AreHops (Spans x t) hops) where
+  left_reached : (k : ℕ) → LeftAt profile t (r ++ x ∷ []) k → Reached flags hops k
   left_reached k h =
       let u = seq_unsnoc r x t h.1.0 k h.1.1 in
       let hop : Hop = record { from = u.0; to = k } in
-      (hop, (are hop).1 u.2, m.full u.0 (left_front r x h.0, (h.1.0, u.1)), refl)
+      (hop, (are hop).1 u.2, m.full u.0 (left_front profile r x h.0, (h.1.0, u.1)), refl)
 
-  pub left_marks : MayEnd r x → (at : List Bool) → AreMarks (Reached flags hops) (length t) at → AreMarks (LeftAt t (r ++ x ∷ [])) (length t) at
-  left_marks may at a = record {
+  pub left_marks : MayEnd r x → IsTokenOf profile x → (at : List Bool) → AreMarks (Reached flags hops) (length t) at → AreMarks (LeftAt profile t (r ++ x ∷ [])) (length t) at
+  left_marks may of at a = record {
     long = a.long;
     sound = λ k h.
         let g = a.sound k h in
         let l = m.sound g.0.from g.2 in
         let s = subst (λ z. Spans x t g.0.from z) g.3 ((are g.0).0 g.1) in
-        (left_snoc r x l.0 may, (l.1.0, seq_snoc r x t l.1.0 g.0.from k l.1.1 s));
+        (left_snoc profile r x l.0 may of, (l.1.0, seq_snoc r x t l.1.0 g.0.from k l.1.1 s));
     full = λ k h. a.full k (left_reached k h);
   }
 
-  pub left_never : ((k : ℕ) × Reached flags hops k → ⊥) → (k : ℕ) → LeftAt t (r ++ x ∷ []) k → ⊥
+  pub left_never : ((k : ℕ) × Reached flags hops k → ⊥) → (k : ℕ) → LeftAt profile t (r ++ x ∷ []) k → ⊥
   left_never none k h = none (k, left_reached k h)
 
-pub left_barred : (t : List ℕ) (r : List Token) (x : Token) → (MayEnd r x → ⊥) → (k : ℕ) → LeftAt t (r ++ x ∷ []) k → ⊥
-left_barred t r x not k h = not (left_last r x h.0)
+pub left_barred : (profile : ℕ) (t : List ℕ) (r : List Token) (x : Token) → (MayEnd r x → ⊥) → (k : ℕ) → LeftAt profile t (r ++ x ∷ []) k → ⊥
+left_barred profile t r x not k h = not (left_last profile r x h.0)
 
 -- the longer sequence begins where the hops over its first token come from
-module _ (t : List ℕ) (x : Token) (r : List Token) (flags : List Bool) (hops : List Hop) (m : AreMarks (RightAt t r) (length t) flags) (are : AreHops (SpansBack t x) hops) where
-  right_reached : (k : ℕ) → RightAt t (x ∷ r) k → Reached flags hops k
+module _ (profile : ℕ) (t : List ℕ) (x : Token) (r : List Token) (flags : List Bool) (hops : List Hop) (m : AreMarks (RightAt profile t r) (length t) flags) (are : AreHops (SpansBack t x) hops) where
+  right_reached : (k : ℕ) → RightAt profile t (x ∷ r) k → Reached flags hops k
   right_reached k h =
       let s = h.1.1 in
       let hop : Hop = record { from = s.0; to = k } in
-      (hop, (are hop).1 s.1, m.full s.0 (right_rest x r h.0, (h.1.0, s.2)), refl)
+      (hop, (are hop).1 s.1, m.full s.0 (right_rest profile x r h.0, (h.1.0, s.2)), refl)
 
-  pub right_marks : MayBegin x r → (at : List Bool) → AreMarks (Reached flags hops) (length t) at → AreMarks (RightAt t (x ∷ r)) (length t) at
-  right_marks may at a = record {
+  pub right_marks : MayBegin x r → IsTokenOf profile x → (at : List Bool) → AreMarks (Reached flags hops) (length t) at → AreMarks (RightAt profile t (x ∷ r)) (length t) at
+  right_marks may of at a = record {
     long = a.long;
     sound = λ k h.
         let g = a.sound k h in
         let l = m.sound g.0.from g.2 in
         let s = subst (λ z. Spans x t z g.0.from) g.3 ((are g.0).0 g.1) in
-        (right_cons x r l.0 may, (l.1.0, (g.0.from, s, l.1.1)));
+        (right_cons profile x r l.0 may of, (l.1.0, (g.0.from, s, l.1.1)));
     full = λ k h. a.full k (right_reached k h);
   }
 
-  pub right_never : ((k : ℕ) × Reached flags hops k → ⊥) → (k : ℕ) → RightAt t (x ∷ r) k → ⊥
+  pub right_never : ((k : ℕ) × Reached flags hops k → ⊥) → (k : ℕ) → RightAt profile t (x ∷ r) k → ⊥
   right_never none k h = none (k, right_reached k h)
 
-pub right_barred : (t : List ℕ) (x : Token) (r : List Token) → (MayBegin x r → ⊥) → (k : ℕ) → RightAt t (x ∷ r) k → ⊥
-right_barred t x r not k h = not (right_first x r h.0)
+pub right_barred : (profile : ℕ) (t : List ℕ) (x : Token) (r : List Token) → (MayBegin x r → ⊥) → (k : ℕ) → RightAt profile t (x ∷ r) k → ⊥
+right_barred profile t x r not k h = not (right_first profile x r h.0)
 
 -- the sequence of no token ends and begins everywhere
-pub left_everywhere : (t : List ℕ) (flags : List Bool) → AreAll true (length t + 1) flags → AreMarks (LeftAt t []) (length t) flags
-left_everywhere t flags a = record {
+pub left_everywhere : (profile : ℕ) (t : List ℕ) (flags : List Bool) → AreAll true (length t + 1) flags → AreMarks (LeftAt profile t []) (length t) flags
+left_everywhere profile t flags a = record {
   long = a.long;
-  sound = λ k h. (left_none, (k, (refl, (let w = slice_get_within flags k true h in omega (arith, a.long)))));
+  sound = λ k h. (left_none profile, (k, (refl, (let w = slice_get_within flags k true h in omega (arith, a.long)))));
   full = λ k h. a.same k (let s = h.1.1 in omega arith);
 }
 
-pub right_everywhere : (t : List ℕ) (flags : List Bool) → AreAll true (length t + 1) flags → AreMarks (RightAt t []) (length t) flags
-right_everywhere t flags a = record {
+pub right_everywhere : (profile : ℕ) (t : List ℕ) (flags : List Bool) → AreAll true (length t + 1) flags → AreMarks (RightAt profile t []) (length t) flags
+right_everywhere profile t flags a = record {
   long = a.long;
-  sound = λ k h. (right_none, (k, (refl, (let w = slice_get_within flags k true h in omega (arith, a.long)))));
+  sound = λ k h. (right_none profile, (k, (refl, (let w = slice_get_within flags k true h in omega (arith, a.long)))));
   full = λ k h. a.same k (let s = h.1.1 in omega arith);
 }
 

@@ -1,6 +1,8 @@
 -- Sequences that may stand before or after a position, a token longer.
 use Rattle.std.proofs.Common.{◌≡◌, ℕ, zero, suc, ◌+◌, ◌⊎◌, inl, inr, List, [], ◌∷◌, ◌++◌, length, refl, ap, ◌∙◌, arith, slice_get, Some}
+use Rattle.std.proofs.lemmas.List.Elements.{All-nil, All-cons, All-head, All-tail, All-append}
 use Rattle.std.proofs.lemmas.Option.{same_Some}
+use Rattle.fill_tokens.specs.Profile.{IsTokenOf, AreTokensOf}
 use Rattle.fill_tokens.specs.declared.token.Token.{Token}
 use Rattle.fill_tokens.specs.declared.token.Token.TheVariants.{Start, End}
 use Rattle.fill_places.specs.Sides.{IsLeft, IsRight, MayEnd, MayBegin}
@@ -25,32 +27,48 @@ no_items : (r : List Token) → length r ≡ 0 → r ≡ []
 no_items [] h = refl
 no_items (x ∷ xs) h = absurd (omega arith)
 
-pub left_snoc : (r : List Token) (x : Token) → IsLeft r → MayEnd r x → IsLeft (r ++ x ∷ [])
-left_snoc r x l m = record {
+-- tokens of a profile
+tokens_front : (profile : ℕ) (r : List Token) (x : Token) → AreTokensOf profile (r ++ x ∷ []) → AreTokensOf profile r
+tokens_front profile [] x h = All-nil (IsTokenOf profile)
+tokens_front profile (z ∷ zs) x h =
+    All-cons (IsTokenOf profile) z zs (All-head (IsTokenOf profile) z (zs ++ x ∷ []) h) (tokens_front profile zs x (All-tail (IsTokenOf profile) z (zs ++ x ∷ []) h))
+
+tokens_last : (profile : ℕ) (r : List Token) (x : Token) → AreTokensOf profile (r ++ x ∷ []) → IsTokenOf profile x
+tokens_last profile [] x h = All-head (IsTokenOf profile) x [] h
+tokens_last profile (z ∷ zs) x h = tokens_last profile zs x (All-tail (IsTokenOf profile) z (zs ++ x ∷ []) h)
+
+pub left_snoc : (profile : ℕ) (r : List Token) (x : Token) → IsLeft profile r → MayEnd r x → IsTokenOf profile x → IsLeft profile (r ++ x ∷ [])
+left_snoc profile r x l m of = record {
+  tokens = All-append (IsTokenOf profile) r (x ∷ []) l.tokens (All-cons (IsTokenOf profile) x [] of (All-nil (IsTokenOf profile)));
   start = λ i h. elim (snoc_cases r x Start i h) [ inl g ↦ l.start i g | inr e ↦ e.0 ∙ ap length (m.1 e.1) ];
   end = λ i h. elim (snoc_cases r x End i h) [ inl g ↦ l.end i g | inr e ↦ m.0 e.1 ];
 }
 
-pub left_front : (r : List Token) (x : Token) → IsLeft (r ++ x ∷ []) → IsLeft r
-left_front r x l = record {
+pub left_front : (profile : ℕ) (r : List Token) (x : Token) → IsLeft profile (r ++ x ∷ []) → IsLeft profile r
+left_front profile r x l = record {
+  tokens = tokens_front profile r x l.tokens;
   start = λ i h. l.start i (snoc_front r x Start i h);
   end = λ i h. l.end i (snoc_front r x End i h);
 }
 
-pub left_last : (r : List Token) (x : Token) → IsLeft (r ++ x ∷ []) → MayEnd r x
-left_last r x l = (
+pub left_token : (profile : ℕ) (r : List Token) (x : Token) → IsLeft profile (r ++ x ∷ []) → IsTokenOf profile x
+left_token profile r x l = tokens_last profile r x l.tokens
+
+pub left_last : (profile : ℕ) (r : List Token) (x : Token) → IsLeft profile (r ++ x ∷ []) → MayEnd r x
+left_last profile r x l = (
   λ e. l.end (length r) (snoc_back r x ∙ ap Some e),
   λ e. no_items r (l.start (length r) (snoc_back r x ∙ ap Some e)),
 )
 
-pub left_none : IsLeft []
-left_none = record { start = λ i h. absurd (none_at i Start h); end = λ i h. none_at i End h }
+pub left_none : (profile : ℕ) → IsLeft profile []
+left_none profile = record { tokens = All-nil (IsTokenOf profile); start = λ i h. absurd (none_at i Start h); end = λ i h. none_at i End h }
   where
     none_at : (i : ℕ) (y : Token) → slice_get {X = Token} [] i ≡ Some y → ⊥
     none_at i y h = cc
 
-pub right_cons : (x : Token) (r : List Token) → IsRight r → MayBegin x r → IsRight (x ∷ r)
-right_cons x r l m = record {
+pub right_cons : (profile : ℕ) (x : Token) (r : List Token) → IsRight profile r → MayBegin x r → IsTokenOf profile x → IsRight profile (x ∷ r)
+right_cons profile x r l m of = record {
+  tokens = All-cons (IsTokenOf profile) x r of l.tokens;
   start = λ i h. start_at i h;
   end = λ i h. end_at i h;
 }
@@ -63,20 +81,24 @@ right_cons x r l m = record {
     end_at zero h = let e = ap length (m.1 (same_Some x End h)) in omega arith
     end_at (suc i) h = let e = l.end i h in omega arith
 
-pub right_rest : (x : Token) (r : List Token) → IsRight (x ∷ r) → IsRight r
-right_rest x r l = record {
+pub right_rest : (profile : ℕ) (x : Token) (r : List Token) → IsRight profile (x ∷ r) → IsRight profile r
+right_rest profile x r l = record {
+  tokens = All-tail (IsTokenOf profile) x r l.tokens;
   start = λ i h. l.start (suc i) h;
   end = λ i h. let e = l.end (suc i) h in omega arith;
 }
 
-pub right_first : (x : Token) (r : List Token) → IsRight (x ∷ r) → MayBegin x r
-right_first x r l = (
+pub right_token : (profile : ℕ) (x : Token) (r : List Token) → IsRight profile (x ∷ r) → IsTokenOf profile x
+right_token profile x r l = All-head (IsTokenOf profile) x r l.tokens
+
+pub right_first : (profile : ℕ) (x : Token) (r : List Token) → IsRight profile (x ∷ r) → MayBegin x r
+right_first profile x r l = (
   λ e. l.start zero (ap Some e),
   λ e. no_items r (let f = l.end zero (ap Some e) in omega arith),
 )
 
-pub right_none : IsRight []
-right_none = record { start = λ i h. none_at i Start h; end = λ i h. absurd (none_at i End h) }
+pub right_none : (profile : ℕ) → IsRight profile []
+right_none profile = record { tokens = All-nil (IsTokenOf profile); start = λ i h. none_at i Start h; end = λ i h. absurd (none_at i End h) }
   where
     none_at : (i : ℕ) (y : Token) → slice_get {X = Token} [] i ≡ Some y → ⊥
     none_at i y h = cc

@@ -1,5 +1,6 @@
 pub mod Entries
 pub mod Hops
+pub mod Index
 pub mod Marks
 pub mod Sides
 pub mod Wanted

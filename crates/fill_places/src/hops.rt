@@ -6,7 +6,7 @@ ghost use Rattle.fill_places.specs.Hops.{AreHops, AreHopsBelow, AreRows, AreTabl
 ghost use Rattle.fill_places.specs.declared.hops.Hop.{Hop};
 
 use fill_text::{NoMemory, Text};
-use fill_tokens::{Token, span};
+use fill_tokens::{Token, span, token_count};
 use std::alloc::Global;
 
 /// From one side of a piece to the other.
@@ -25,7 +25,7 @@ pub struct TokenHops {
 
 /// The token of a place in the list of all tokens.
 fn token_at(i: usize) -> Token
-    requires { i < 26 }
+    requires { i < 29 }
     ensures { token_number result ≡ i + 1 }
 {
     Token::ALL[i]
@@ -90,7 +90,7 @@ fn put_row(table: &mut Vec<TokenHops>, row: TokenHops) -> Result<(), NoMemory>
 
 /// Puts the row of the token of this place to the table.
 fn push_row(alloc: Global, table: &mut Vec<TokenHops>, i: usize, t: &Text) -> Result<(), NoMemory>
-    requires { i < 26 }
+    requires { i < 29 }
     ensures { OnOk result (AreRows (λ token. Spans token t.now) i table.old.items →
         AreRows (λ token. Spans token t.now) (i + 1) table.new.items) }
 {
@@ -99,12 +99,12 @@ fn push_row(alloc: Global, table: &mut Vec<TokenHops>, i: usize, t: &Text) -> Re
     put_row(table, TokenHops { token, hops })
 }
 
-/// For each token in order the hops from the starts of its pieces to their ends.
-pub fn hops_forth(alloc: Global, t: &Text) -> Result<Vec<TokenHops>, NoMemory>
-    ensures { IfOk result (λ table. AreTables (λ token. Spans token t.now) table.items) }
+/// For each token of the profile in order the hops from the starts of its pieces to their ends.
+pub fn hops_forth(alloc: Global, t: &Text, profile: u8) -> Result<Vec<TokenHops>, NoMemory>
+    ensures { IfOk result (λ table. AreTables profile (λ token. Spans token t.now) table.items) }
 {
     let mut table = Vec::new(alloc);
-    for i in 0..26 {
+    for i in 0..token_count(profile) {
         push_row(alloc, &mut table, i, t)?;
     }
     Ok(table)
@@ -122,12 +122,18 @@ fn turned_row(alloc: Global, row: &TokenHops) -> Result<TokenHops, NoMemory>
     })
 }
 
-/// For each token in order the hops from the ends of its pieces to their starts.
-pub fn hops_back(alloc: Global, forth: &[TokenHops], t: &Text) -> Result<Vec<TokenHops>, NoMemory>
-    requires { AreTables (λ token. Spans token t.now) forth.now }
-    ensures { IfOk result (λ table. AreTables (SpansBack t.now) table.items) }
+/// For each token of the profile in order the hops from the ends of its pieces to their starts.
+pub fn hops_back(
+    alloc: Global,
+    forth: &[TokenHops],
+    t: &Text,
+    profile: u8,
+) -> Result<Vec<TokenHops>, NoMemory>
+    requires { AreTables profile (λ token. Spans token t.now) forth.now }
+    ensures { IfOk result (λ table. AreTables profile (SpansBack t.now) table.items) }
 {
     let _text = t;
+    let _profile = profile;
     let mut table = Vec::new(alloc);
     for row in forth {
         let back = turned_row(alloc, row)?;

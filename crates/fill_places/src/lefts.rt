@@ -1,5 +1,6 @@
 //! The sequences that end somewhere in a text.
 ghost use Rattle.std.specs.Prelude.{◌≡◌, ◌≢◌, ℕ, ◌<◌, ◌≤◌, ◌+◌, ◌++◌, ◌∷◌, [], ◌↔◌, length, IfOk, OnOk, IsTrue};
+ghost use Rattle.fill_tokens.specs.Profile.{token_count, IsTokenOf};
 ghost use Rattle.fill_tokens.specs.Span.{Spans};
 ghost use Rattle.fill_tokens.specs.declared.token.Token.TheVariants.{Start, End};
 ghost use Rattle.fill_places.specs.Hops.{AreHops, AreTables};
@@ -43,13 +44,16 @@ fn push_left(
     e: &Entry,
     row: &TokenHops,
     t: &Text,
+    profile: u8,
 ) -> Result<(), NoMemory>
-    requires entry { AreMarks (LeftAt t.now e.now.seq) (length t.now) e.now.at.items }
+    requires entry { AreMarks (LeftAt profile t.now e.now.seq) (length t.now) e.now.at.items }
     requires hops { AreHops (Spans row.now.token t.now) row.now.hops.items }
     requires short { length e.now.seq < 3 }
-    ensures { OnOk result (AddsEntries (LeftAt t.now) (length t.now) out.old.items out.new.items
+    requires token { IsTokenOf profile row.now.token }
+    ensures { OnOk result (AddsEntries (LeftAt profile t.now) (length t.now) out.old.items out.new.items
         (IsOnly (e.now.seq ++ row.now.token ∷ []))) }
 {
+    let _profile = profile;
     let n = t.len();
     if !may_end(&e.seq, row.token) {
         return Ok(());
@@ -62,30 +66,32 @@ fn push_left(
     push_entry(out, Entry { seq, at })
 }
 
-/// Puts the entries of the sequence with each token after it to the list.
+/// Puts the entries of the sequence with each token of the profile after it to the list.
 fn push_lefts_after(
     alloc: Global,
     out: &mut Vec<Entry>,
     e: &Entry,
     table: &[TokenHops],
     t: &Text,
+    profile: u8,
 ) -> Result<(), NoMemory>
-    requires entry { AreMarks (LeftAt t.now e.now.seq) (length t.now) e.now.at.items }
-    requires table { AreTables (λ token. Spans token t.now) table.now }
+    requires entry { AreMarks (LeftAt profile t.now e.now.seq) (length t.now) e.now.at.items }
+    requires table { AreTables profile (λ token. Spans token t.now) table.now }
     requires short { length e.now.seq < 3 }
-    ensures { OnOk result (AddsEntries (LeftAt t.now) (length t.now) out.old.items out.new.items
-        (EndsWithOne e.now.seq 27)) }
+    ensures { OnOk result (AddsEntries (LeftAt profile t.now) (length t.now) out.old.items out.new.items
+        (EndsWithOne e.now.seq (token_count profile + 1))) }
 {
     for row in table {
-        push_left(alloc, out, e, row, t)?;
+        push_left(alloc, out, e, row, t, profile)?;
     }
     Ok(())
 }
 
 /// The sequence of no token.
-fn first_lefts(alloc: Global, t: &Text) -> Result<Vec<Entry>, NoMemory>
-    ensures { IfOk result (λ v. Entries (LeftAt t.now) (length t.now) (HasLength 0) v.items) }
+fn first_lefts(alloc: Global, t: &Text, profile: u8) -> Result<Vec<Entry>, NoMemory>
+    ensures { IfOk result (λ v. Entries (LeftAt profile t.now) (length t.now) (HasLength 0) v.items) }
 {
+    let _profile = profile;
     let e = empty_entry(alloc, t.len())?;
     let mut out = Vec::new(alloc);
     push_entry(&mut out, e)?;
@@ -99,29 +105,30 @@ fn longer_lefts(
     j: usize,
     table: &[TokenHops],
     t: &Text,
+    profile: u8,
 ) -> Result<Vec<Entry>, NoMemory>
     requires short { j < 3 }
-    requires layer { Entries (LeftAt t.now) (length t.now) (HasLength j) layer.now }
-    requires table { AreTables (λ token. Spans token t.now) table.now }
-    ensures { IfOk result (λ v. Entries (LeftAt t.now) (length t.now) (HasLength (j + 1)) v.items) }
+    requires layer { Entries (LeftAt profile t.now) (length t.now) (HasLength j) layer.now }
+    requires table { AreTables profile (λ token. Spans token t.now) table.now }
+    ensures { IfOk result (λ v. Entries (LeftAt profile t.now) (length t.now) (HasLength (j + 1)) v.items) }
 {
     let _tokens = j;
     let mut out = Vec::new(alloc);
     for e in layer {
-        push_lefts_after(alloc, &mut out, e, table, t)?;
+        push_lefts_after(alloc, &mut out, e, table, t, profile)?;
     }
     Ok(out)
 }
 
-/// The sequences that end somewhere in the text, in order.
-pub fn lefts(alloc: Global, table: &[TokenHops], t: &Text) -> Result<Vec<Entry>, NoMemory>
-    requires table { AreTables (λ token. Spans token t.now) table.now }
-    ensures { IfOk result (λ v. AreLefts t.now v.items) }
+/// The sequences of tokens of the profile that end somewhere in the text, in order.
+pub fn lefts(alloc: Global, table: &[TokenHops], t: &Text, profile: u8) -> Result<Vec<Entry>, NoMemory>
+    requires table { AreTables profile (λ token. Spans token t.now) table.now }
+    ensures { IfOk result (λ v. AreLefts profile t.now v.items) }
 {
-    let mut all = first_lefts(alloc, t)?;
-    let one = longer_lefts(alloc, &all, 0, table, t)?;
-    let two = longer_lefts(alloc, &one, 1, table, t)?;
-    let three = longer_lefts(alloc, &two, 2, table, t)?;
+    let mut all = first_lefts(alloc, t, profile)?;
+    let one = longer_lefts(alloc, &all, 0, table, t, profile)?;
+    let two = longer_lefts(alloc, &one, 1, table, t, profile)?;
+    let three = longer_lefts(alloc, &two, 2, table, t, profile)?;
     join(&mut all, one)?;
     join(&mut all, two)?;
     join(&mut all, three)?;

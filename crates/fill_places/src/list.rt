@@ -2,8 +2,6 @@
 ghost use Rattle.std.specs.Prelude.{◌≡◌, ℕ, List, ◌≤◌, ◌<◌, ◌+◌, length, slice_get, Some, true, OnOk, IfOk};
 ghost use Rattle.std.specs.Ordering.{nat_cmp};
 ghost use Rattle.fill_tokens.specs.Place.{place_cmp};
-ghost use Rattle.fill_tokens.specs.Value.{HasValue};
-ghost use Rattle.fill_tokens.specs.PlaceGrammar.{IsPlace};
 ghost use Rattle.fill_text.specs.Lists.{Lists, Adds};
 ghost use Rattle.fill_places.specs.Marks.{AreMarks};
 ghost use Rattle.fill_places.specs.Sides.{LeftAt};
@@ -24,14 +22,16 @@ fn push_number(
     i: usize,
     t: &Text,
     k: usize,
+    profile: u8,
 ) -> Result<(), NoMemory>
     requires within { k ≤ length t.now }
-    requires entries { AreRights t.now entries.now }
+    requires entries { AreRights profile t.now entries.now }
     requires number { i < length entries.now }
     ensures { OnOk result ((old : List ℕ) → Adds nat_cmp old numbers.old (λ j. (j < i) × IsMarkedAt entries.now k j) →
         Adds nat_cmp old numbers.new (λ j. (j < i + 1) × IsMarkedAt entries.now k j)) }
 {
     let _text = t;
+    let _profile = profile;
     let e = &entries[i];
     if !e.at[k] {
         return Ok(());
@@ -40,15 +40,21 @@ fn push_number(
 }
 
 /// The numbers of the entries that are marked at the position.
-fn marked_at(alloc: Global, entries: &[Entry], t: &Text, k: usize) -> Result<List<usize>, NoMemory>
+fn marked_at(
+    alloc: Global,
+    entries: &[Entry],
+    t: &Text,
+    k: usize,
+    profile: u8,
+) -> Result<List<usize>, NoMemory>
     requires within { k ≤ length t.now }
-    requires entries { AreRights t.now entries.now }
+    requires entries { AreRights profile t.now entries.now }
     ensures { IfOk result (Lists nat_cmp (IsMarkedAt entries.now k)) }
 {
     let _text = t;
     let mut numbers = List::new(alloc);
     for i in 0..entries.len() {
-        push_number(&mut numbers, entries, i, t, k)?;
+        push_number(&mut numbers, entries, i, t, k, profile)?;
     }
     Ok(numbers)
 }
@@ -61,17 +67,18 @@ fn push_numbered(
     number: usize,
     t: &Text,
     k: usize,
+    profile: u8,
 ) -> Result<(), NoMemory>
     requires within { k ≤ length t.now }
-    requires left { AreMarks (LeftAt t.now l.now.seq) (length t.now) l.now.at.items }
+    requires left { AreMarks (LeftAt profile t.now l.now.seq) (length t.now) l.now.at.items }
     requires few { length l.now.seq ≤ 3 }
     requires ends { slice_get l.now.at.items k ≡ Some true }
-    requires rights { AreRights t.now rights.now }
+    requires rights { AreRights profile t.now rights.now }
     requires number { IsMarkedAt rights.now k number }
     ensures { (r : Entry) → slice_get rights.now number ≡ Some r →
-        OnOk result (Adds place_cmp out.old out.new (PairOf t.now k l.now.seq r.seq)) }
+        OnOk result (Adds place_cmp out.old out.new (PairOf profile t.now k l.now.seq r.seq)) }
 {
-    push_pair(out, l, &rights[number], t, k)
+    push_pair(out, l, &rights[number], t, k, profile)
 }
 
 /// Puts the places between the left sequence and all right ones to the list.
@@ -82,18 +89,19 @@ fn push_row(
     numbers: &[usize],
     t: &Text,
     k: usize,
+    profile: u8,
 ) -> Result<(), NoMemory>
     requires within { k ≤ length t.now }
-    requires left { AreMarks (LeftAt t.now l.now.seq) (length t.now) l.now.at.items }
+    requires left { AreMarks (LeftAt profile t.now l.now.seq) (length t.now) l.now.at.items }
     requires few { length l.now.seq ≤ 3 }
     requires ends { slice_get l.now.at.items k ≡ Some true }
-    requires rights { AreRights t.now rights.now }
+    requires rights { AreRights profile t.now rights.now }
     requires numbers { Lists nat_cmp (IsMarkedAt rights.now k) numbers.now }
-    ensures { OnOk result (Adds place_cmp out.old out.new (FromLeft t.now k l.now.seq)) }
+    ensures { OnOk result (Adds place_cmp out.old out.new (FromLeft profile t.now k l.now.seq)) }
 {
     for j in 0..numbers.len() {
         let number = numbers[j];
-        push_numbered(out, l, rights, number, t, k)?;
+        push_numbered(out, l, rights, number, t, k, profile)?;
     }
     Ok(())
 }
@@ -106,18 +114,19 @@ fn push_left(
     numbers: &[usize],
     t: &Text,
     k: usize,
+    profile: u8,
 ) -> Result<(), NoMemory>
     requires within { k ≤ length t.now }
-    requires left { AreMarks (LeftAt t.now l.now.seq) (length t.now) l.now.at.items }
+    requires left { AreMarks (LeftAt profile t.now l.now.seq) (length t.now) l.now.at.items }
     requires few { length l.now.seq ≤ 3 }
-    requires rights { AreRights t.now rights.now }
+    requires rights { AreRights profile t.now rights.now }
     requires numbers { Lists nat_cmp (IsMarkedAt rights.now k) numbers.now }
-    ensures { OnOk result (Adds place_cmp out.old out.new (FromLeft t.now k l.now.seq)) }
+    ensures { OnOk result (Adds place_cmp out.old out.new (FromLeft profile t.now k l.now.seq)) }
 {
     if !l.at[k] {
         return Ok(());
     }
-    push_row(out, l, rights, numbers, t, k)
+    push_row(out, l, rights, numbers, t, k, profile)
 }
 
 /// Puts the places between sequences to the list.
@@ -128,35 +137,37 @@ fn push_between(
     numbers: &[usize],
     t: &Text,
     k: usize,
+    profile: u8,
 ) -> Result<(), NoMemory>
     requires within { k ≤ length t.now }
-    requires lefts { AreLefts t.now lefts.now }
-    requires rights { AreRights t.now rights.now }
+    requires lefts { AreLefts profile t.now lefts.now }
+    requires rights { AreRights profile t.now rights.now }
     requires numbers { Lists nat_cmp (IsMarkedAt rights.now k) numbers.now }
-    ensures { OnOk result (Adds place_cmp out.old out.new (FromLefts t.now k lefts.now (length lefts.now))) }
+    ensures { OnOk result (Adds place_cmp out.old out.new (FromLefts profile t.now k lefts.now (length lefts.now))) }
 {
     for l in lefts {
-        push_left(out, l, rights, numbers, t, k)?;
+        push_left(out, l, rights, numbers, t, k, profile)?;
     }
     Ok(())
 }
 
-/// All places of the grammar whose value in the text is `k`.
+/// All places of the grammar under the profile whose value in the text is `k`.
 pub fn list_places(
     alloc: Global,
     lefts: &[Entry],
     rights: &[Entry],
     t: &Text,
     k: usize,
+    profile: u8,
 ) -> Result<List<Place>, NoMemory>
     requires within { k ≤ length t.now }
-    requires lefts { AreLefts t.now lefts.now }
-    requires rights { AreRights t.now rights.now }
-    ensures { IfOk result (Lists place_cmp (IsWanted t.now k)) }
+    requires lefts { AreLefts profile t.now lefts.now }
+    requires rights { AreRights profile t.now rights.now }
+    ensures { IfOk result (Lists place_cmp (IsWanted profile t.now k)) }
 {
-    let numbers = marked_at(alloc, rights, t, k)?;
+    let numbers = marked_at(alloc, rights, t, k, profile)?;
     let mut out = List::new(alloc);
-    push_fixed(&mut out, t, k)?;
-    push_between(&mut out, lefts, rights, numbers.as_slice(), t, k)?;
+    push_fixed(&mut out, t, k, profile)?;
+    push_between(&mut out, lefts, rights, numbers.as_slice(), t, k, profile)?;
     Ok(out)
 }

@@ -10,6 +10,7 @@ ghost use Rattle.fill_places.specs.Marks.{AreMarks, Common};
 ghost use Rattle.fill_places.specs.Sides.{LeftAt, RightAt};
 ghost use Rattle.fill_places.specs.Wanted.{PairOf, FixedOf, FittingFixed, FittingPair, Counts};
 ghost use Rattle.fill_tokens.specs.PlaceGrammar.{AreAround};
+ghost use Rattle.fill_tokens.specs.Profile.{AreTokensOf};
 
 use crate::entry::Entry;
 use fill_text::{List, NoMemory, Text};
@@ -79,10 +80,16 @@ fn push_fixed_right(out: &mut List<Place>, number: usize) -> Result<(), NoMemory
 }
 
 /// Puts the two fixed places of the position to the list.
-pub fn push_fixed(out: &mut List<Place>, t: &Text, k: usize) -> Result<(), NoMemory>
+pub fn push_fixed(
+    out: &mut List<Place>,
+    t: &Text,
+    k: usize,
+    profile: u8,
+) -> Result<(), NoMemory>
     requires { k ≤ length t.now }
-    ensures { OnOk result (Adds place_cmp out.old out.new (FixedOf t.now k)) }
+    ensures { OnOk result (Adds place_cmp out.old out.new (FixedOf profile t.now k)) }
 {
+    let _profile = profile;
     let back = t.len() - k + 1;
     if k <= back {
         push_fixed_left(out, k)?;
@@ -123,13 +130,16 @@ fn push_counted(
     b: usize,
     t: &Text,
     k: usize,
+    profile: u8,
 ) -> Result<(), NoMemory>
     requires around { AreAround l.now r.now }
+    requires tokens { AreTokensOf profile l.now × AreTokensOf profile r.now }
     requires counts { Counts t.now k l.now r.now a b }
-    ensures { OnOk result (Adds place_cmp out.old out.new (PairOf t.now k l.now r.now)) }
+    ensures { OnOk result (Adds place_cmp out.old out.new (PairOf profile t.now k l.now r.now)) }
 {
     let _text = t;
     let _position = k;
+    let _profile = profile;
     if a <= b {
         push_from_left(out, l, r, a)?;
         push_from_right(out, l, r, b)
@@ -146,14 +156,15 @@ pub fn push_pair(
     r: &Entry,
     t: &Text,
     k: usize,
+    profile: u8,
 ) -> Result<(), NoMemory>
     requires within { k ≤ length t.now }
-    requires left { AreMarks (LeftAt t.now l.now.seq) (length t.now) l.now.at.items }
-    requires right { AreMarks (RightAt t.now r.now.seq) (length t.now) r.now.at.items }
+    requires left { AreMarks (LeftAt profile t.now l.now.seq) (length t.now) l.now.at.items }
+    requires right { AreMarks (RightAt profile t.now r.now.seq) (length t.now) r.now.at.items }
     requires few { (length l.now.seq ≤ 3) × (length r.now.seq ≤ 3) }
     requires ends { slice_get l.now.at.items k ≡ Some true }
     requires begins { slice_get r.now.at.items k ≡ Some true }
-    ensures { OnOk result (Adds place_cmp out.old out.new (PairOf t.now k l.now.seq r.now.seq)) }
+    ensures { OnOk result (Adds place_cmp out.old out.new (PairOf profile t.now k l.now.seq r.now.seq)) }
 {
     if l.seq.len() + r.seq.len() == 0 {
         return Ok(());
@@ -161,5 +172,5 @@ pub fn push_pair(
     let n = t.len();
     let a = count_to(l, r, k);
     let b = count_from(l, r, k, n);
-    push_counted(out, &l.seq, &r.seq, a, b, t, k)
+    push_counted(out, &l.seq, &r.seq, a, b, t, k, profile)
 }

@@ -1,5 +1,6 @@
 //! The sequences that begin somewhere in a text.
 ghost use Rattle.std.specs.Prelude.{◌≡◌, ◌≢◌, ℕ, ◌<◌, ◌≤◌, ◌+◌, ◌++◌, ◌∷◌, [], ◌↔◌, length, IfOk, OnOk, IsTrue};
+ghost use Rattle.fill_tokens.specs.Profile.{IsTokenOf};
 ghost use Rattle.fill_tokens.specs.declared.token.Token.TheVariants.{Start, End};
 ghost use Rattle.fill_places.specs.Hops.{AreHops, AreTables, SpansBack};
 ghost use Rattle.fill_places.specs.Marks.{AreMarks};
@@ -42,13 +43,16 @@ fn push_right(
     row: &TokenHops,
     e: &Entry,
     t: &Text,
+    profile: u8,
 ) -> Result<(), NoMemory>
-    requires entry { AreMarks (RightAt t.now e.now.seq) (length t.now) e.now.at.items }
+    requires entry { AreMarks (RightAt profile t.now e.now.seq) (length t.now) e.now.at.items }
     requires hops { AreHops (SpansBack t.now row.now.token) row.now.hops.items }
     requires short { length e.now.seq < 3 }
-    ensures { OnOk result (AddsEntries (RightAt t.now) (length t.now) out.old.items out.new.items
+    requires token { IsTokenOf profile row.now.token }
+    ensures { OnOk result (AddsEntries (RightAt profile t.now) (length t.now) out.old.items out.new.items
         (IsOnly (row.now.token ∷ e.now.seq))) }
 {
+    let _profile = profile;
     let n = t.len();
     if !may_begin(row.token, &e.seq) {
         return Ok(());
@@ -69,24 +73,27 @@ fn push_rights_behind(
     layer: &[Entry],
     j: usize,
     t: &Text,
+    profile: u8,
 ) -> Result<(), NoMemory>
     requires hops { AreHops (SpansBack t.now row.now.token) row.now.hops.items }
     requires short { j < 3 }
-    requires layer { Entries (RightAt t.now) (length t.now) (HasLength j) layer.now }
-    ensures { OnOk result (AddsEntries (RightAt t.now) (length t.now) out.old.items out.new.items
+    requires token { IsTokenOf profile row.now.token }
+    requires layer { Entries (RightAt profile t.now) (length t.now) (HasLength j) layer.now }
+    ensures { OnOk result (AddsEntries (RightAt profile t.now) (length t.now) out.old.items out.new.items
         (BeginsWithIt row.now.token layer.now (length layer.now))) }
 {
     let _tokens = j;
     for e in layer {
-        push_right(alloc, out, row, e, t)?;
+        push_right(alloc, out, row, e, t, profile)?;
     }
     Ok(())
 }
 
 /// The sequence of no token.
-fn first_rights(alloc: Global, t: &Text) -> Result<Vec<Entry>, NoMemory>
-    ensures { IfOk result (λ v. Entries (RightAt t.now) (length t.now) (HasLength 0) v.items) }
+fn first_rights(alloc: Global, t: &Text, profile: u8) -> Result<Vec<Entry>, NoMemory>
+    ensures { IfOk result (λ v. Entries (RightAt profile t.now) (length t.now) (HasLength 0) v.items) }
 {
+    let _profile = profile;
     let e = empty_entry(alloc, t.len())?;
     let mut out = Vec::new(alloc);
     push_entry(&mut out, e)?;
@@ -100,28 +107,29 @@ fn longer_rights(
     j: usize,
     table: &[TokenHops],
     t: &Text,
+    profile: u8,
 ) -> Result<Vec<Entry>, NoMemory>
     requires short { j < 3 }
-    requires layer { Entries (RightAt t.now) (length t.now) (HasLength j) layer.now }
-    requires table { AreTables (SpansBack t.now) table.now }
-    ensures { IfOk result (λ v. Entries (RightAt t.now) (length t.now) (HasLength (j + 1)) v.items) }
+    requires layer { Entries (RightAt profile t.now) (length t.now) (HasLength j) layer.now }
+    requires table { AreTables profile (SpansBack t.now) table.now }
+    ensures { IfOk result (λ v. Entries (RightAt profile t.now) (length t.now) (HasLength (j + 1)) v.items) }
 {
     let mut out = Vec::new(alloc);
     for row in table {
-        push_rights_behind(alloc, &mut out, row, layer, j, t)?;
+        push_rights_behind(alloc, &mut out, row, layer, j, t, profile)?;
     }
     Ok(out)
 }
 
-/// The sequences that begin somewhere in the text, in order.
-pub fn rights(alloc: Global, table: &[TokenHops], t: &Text) -> Result<Vec<Entry>, NoMemory>
-    requires table { AreTables (SpansBack t.now) table.now }
-    ensures { IfOk result (λ v. AreRights t.now v.items) }
+/// The sequences of tokens of the profile that begin somewhere in the text, in order.
+pub fn rights(alloc: Global, table: &[TokenHops], t: &Text, profile: u8) -> Result<Vec<Entry>, NoMemory>
+    requires table { AreTables profile (SpansBack t.now) table.now }
+    ensures { IfOk result (λ v. AreRights profile t.now v.items) }
 {
-    let mut all = first_rights(alloc, t)?;
-    let one = longer_rights(alloc, &all, 0, table, t)?;
-    let two = longer_rights(alloc, &one, 1, table, t)?;
-    let three = longer_rights(alloc, &two, 2, table, t)?;
+    let mut all = first_rights(alloc, t, profile)?;
+    let one = longer_rights(alloc, &all, 0, table, t, profile)?;
+    let two = longer_rights(alloc, &one, 1, table, t, profile)?;
+    let three = longer_rights(alloc, &two, 2, table, t, profile)?;
     join(&mut all, one)?;
     join(&mut all, two)?;
     join(&mut all, three)?;

@@ -1,5 +1,9 @@
+ghost use Rattle.fill_tokens.specs.Profile.{IsProfile};
+
 use crate::*;
-use Token::{Alpha, Digits, End, Hyphen, Lower, Start, Upper, Word};
+use Token::{
+    Alpha, Digits, End, Hyphen, Lower, NonAlpha, NonDigit, NonSpace, Start, Upper, Word,
+};
 use fill_text::Text;
 use fill_tokens::{Place, Seq, Token, is_place, place_value};
 use std::alloc::Global;
@@ -10,7 +14,7 @@ fn places_of_the_empty_text(rt: HostRuntime) -> Result<(), Fail> {
     let none = Seq::empty();
     let start = Seq::one(Start);
     let end = Seq::one(End);
-    let places = places_of(rt.alloc(), &Text::new(rt.alloc()), 0)?;
+    let places = places_of(rt.alloc(), &Text::new(rt.alloc()), 0, 1)?;
     assert_eq!(rt;
         places.as_slice(),
         [
@@ -31,7 +35,7 @@ fn places_of_the_empty_text(rt: HostRuntime) -> Result<(), Fail> {
 #[test]
 fn places_before_one_letter(rt: HostRuntime) -> Result<(), Fail> {
     let text = Text::from_utf8(rt.alloc(), b"a")?;
-    let places = places_of(rt.alloc(), &text, 0)?;
+    let places = places_of(rt.alloc(), &text, 0, 1)?;
     let places = places.as_slice();
     assert_eq!(rt; places.len(), 28);
     assert_eq!(rt; places[0], Place::CPos(0));
@@ -41,6 +45,40 @@ fn places_before_one_letter(rt: HostRuntime) -> Result<(), Fail> {
         places[27],
         Place::Pos(Seq::one(Start), Seq::two(Word, End), -1)
     );
+    Ok(())
+}
+
+/// Whether the place is listed for the position of the text.
+fn is_listed(
+    alloc: Global,
+    place: Place,
+    text: &str,
+    k: usize,
+    profile: u8,
+) -> Result<bool, Fail>
+    requires { IsProfile profile }
+{
+    let text = Text::from_utf8(alloc, text.as_bytes())?;
+    if k > text.len() {
+        return Ok(false);
+    }
+    let places = places_of(alloc, &text, k, profile)?;
+    Ok(places.as_slice().contains(&place))
+}
+
+#[test]
+fn negated_runs_are_listed_under_the_second_profile(rt: HostRuntime) -> Result<(), Fail> {
+    let none = Seq::empty();
+    let digits = Seq::one(Digits);
+    for (text, k, place) in [
+        ("+a b", 0, Place::Pos(none, Seq::one(NonSpace), 1)),
+        (" #cc d", 1, Place::Pos(none, Seq::one(NonSpace), 1)),
+        ("ab1c", 2, Place::Pos(Seq::one(NonDigit), digits, 1)),
+        ("a1-b", 3, Place::Pos(Seq::one(NonAlpha), none, -1)),
+    ] {
+        assert!(rt; is_listed(rt.alloc(), place, text, k, 2)?, "{place:?}");
+        assert!(rt; !is_listed(rt.alloc(), place, text, k, 1)?, "{place:?}");
+    }
     Ok(())
 }
 
@@ -100,7 +138,7 @@ fn places_are_those_of_a_slow_listing(rt: HostRuntime) -> Result<(), Fail> {
     let seqs = sequences(alloc, &tokens)?;
     for text in ["a1", "Ab-", "--", "a-a"] {
         let text = Text::from_utf8(alloc, text.as_bytes())?;
-        let index = PlaceIndex::new(alloc, &text)?;
+        let index = PlaceIndex::new(alloc, &text, 1)?;
         assert!(rt; text.len() < 4);
         for k in 0..4 {
             if k <= text.len() {

@@ -19,4 +19,4 @@ loop-row-preserved c =
     (subst (λ (x : Token). AreHops (S x) back.hops.items) (sym same.0) (turned_hops (Spans row.token c.args.t.now) row.hops.items back.hops.items given.1 same.1)))
 
 pub returns : goal.returns
-returns c = rows_all (SpansBack c.args.t.now) c.loop-row.row-index c.loop-row.table.items c.loop-row.invariant (omega (arith, c.requires.all))
+returns c = rows_all (SpansBack c.args.t.now) c.args.profile c.loop-row.row-index c.loop-row.table.items c.loop-row.invariant (omega (arith, c.requires.all))

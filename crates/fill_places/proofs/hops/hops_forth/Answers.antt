@@ -7,4 +7,4 @@ pub loop-i-preserved : goal.loop-i-preserved
 loop-i-preserved c = c.in_ok-push_row.ensures c.loop-i.invariant
 
 pub returns : goal.returns
-returns c = rows_all (λ token. Spans token c.args.t.now) c.loop-i.i c.loop-i.table.items c.loop-i.invariant (omega arith)
+returns c = rows_all (λ token. Spans token c.args.t.now) c.args.profile c.loop-i.i c.loop-i.table.items c.loop-i.invariant (omega (arith, c.token_count-i-end.ensures.value))

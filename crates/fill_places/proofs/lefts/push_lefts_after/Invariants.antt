@@ -4,4 +4,4 @@ use Rattle.fill_places.specs.Entries.{AddsEntries, EndsWithOne}
 use Rattle.fill_places.proofs.lefts.push_lefts_after.Given as goal
 
 abbrev pub invariant-loop-row : goal.invariant-loop-row
-invariant-loop-row l = AddsEntries (LeftAt l.t) (length l.t) l.initial.out.items l.out.items (EndsWithOne l.e.seq (l.row-index + 1))
+invariant-loop-row l = AddsEntries (LeftAt l.profile l.t) (length l.t) l.initial.out.items l.out.items (EndsWithOne l.e.seq (l.row-index + 1))

@@ -4,4 +4,4 @@ use Rattle.fill_places.specs.Entries.{AddsEntries, BeginsWithAny}
 use Rattle.fill_places.proofs.rights.longer_rights.Given as goal
 
 abbrev pub invariant-loop-row : goal.invariant-loop-row
-invariant-loop-row l = AddsEntries (RightAt l.t) (length l.t) l.initial.out.items l.out.items (BeginsWithAny l.layer (l.row-index + 1))
+invariant-loop-row l = AddsEntries (RightAt l.profile l.t) (length l.t) l.initial.out.items l.out.items (BeginsWithAny l.layer (l.row-index + 1))

@@ -13,8 +13,8 @@ use Rattle.fill_places.proofs.rights.push_right.Goals as goal
 
 pub returns-then-not-may_begin : goal.returns-then-not-may_begin
 returns-then-not-may_begin c =
-    grows_not (RightAt c.args.t.now) (length c.args.t.now) (c.args.row.now.token ∷ c.args.e.now.seq) c.args.out.now.items
-    (right_barred c.args.t.now c.args.row.now.token c.args.e.now.seq (iff_false c.may_begin.ensures c.if-not-may_begin.true))
+    grows_not (RightAt c.args.profile c.args.t.now) (length c.args.t.now) (c.args.row.now.token ∷ c.args.e.now.seq) c.args.out.now.items
+    (right_barred c.args.profile c.args.t.now c.args.row.now.token c.args.e.now.seq (iff_false c.may_begin.ensures c.if-not-may_begin.true))
 
 pub reaches-requires-clause-within : goal.reaches-requires-clause-within
 reaches-requires-clause-within c =
@@ -23,8 +23,8 @@ reaches-requires-clause-within c =
 
 pub returns-then-not-reaches : goal.returns-then-not-reaches
 returns-then-not-reaches c =
-    grows_not (RightAt c.args.t.now) (length c.args.t.now) (c.args.row.now.token ∷ c.args.e.now.seq) c.args.out.now.items
-    (right_never c.args.t.now c.args.row.now.token c.args.e.now.seq c.args.e.now.at.items c.args.row.now.hops.items c.requires.entry c.requires.hops (iff_false c.reaches.ensures c.if-not-reaches.true))
+    grows_not (RightAt c.args.profile c.args.t.now) (length c.args.t.now) (c.args.row.now.token ∷ c.args.e.now.seq) c.args.out.now.items
+    (right_never c.args.profile c.args.t.now c.args.row.now.token c.args.e.now.seq c.args.e.now.at.items c.args.row.now.hops.items c.requires.entry c.requires.hops (iff_false c.reaches.ensures c.if-not-reaches.true))
 
 pub reached-requires-clause-within : goal.reached-requires-clause-within
 reached-requires-clause-within c =
@@ -37,7 +37,7 @@ returns c =
     let e : Entry = record { seq = c.preceded-seq.result; at = c.in_ok-at.at } in
     let may = c.may_begin.ensures.0 c.if-not-may_begin.false in
     let there = subst (λ (m : ℕ). AreMarks (Reached c.args.e.now.at.items c.args.row.now.hops.items) m c.in_ok-at.at.items) c.len-n.ensures.value c.in_ok-at.ensures in
-    let marks = right_marks t c.args.row.now.token c.args.e.now.seq c.args.e.now.at.items c.args.row.now.hops.items c.requires.entry c.requires.hops may c.in_ok-at.at.items there in
-    on_ok c.push_entry.result (c.push_entry.new.out.items ≡ c.args.out.now.items ++ e ∷ []) (AddsEntries (RightAt t) (length t) c.args.out.now.items c.push_entry.new.out.items (IsOnly (c.args.row.now.token ∷ c.args.e.now.seq)))
-    (λ h. grows_one (RightAt t) (length t) (c.args.row.now.token ∷ c.args.e.now.seq) e c.args.out.now.items c.push_entry.new.out.items h c.preceded-seq.ensures marks)
+    let marks = right_marks c.args.profile t c.args.row.now.token c.args.e.now.seq c.args.e.now.at.items c.args.row.now.hops.items c.requires.entry c.requires.hops may c.requires.token c.in_ok-at.at.items there in
+    on_ok c.push_entry.result (c.push_entry.new.out.items ≡ c.args.out.now.items ++ e ∷ []) (AddsEntries (RightAt c.args.profile t) (length t) c.args.out.now.items c.push_entry.new.out.items (IsOnly (c.args.row.now.token ∷ c.args.e.now.seq)))
+    (λ h. grows_one (RightAt c.args.profile t) (length t) (c.args.row.now.token ∷ c.args.e.now.seq) e c.args.out.now.items c.push_entry.new.out.items h c.preceded-seq.ensures marks)
     c.push_entry.ensures
