@@ -1,0 +1,5 @@
+pub mod Number
+pub mod Line
+pub mod Opening
+pub mod Entries
+pub mod Script

@@ -1,0 +1,17 @@
+//! Session files: which files a session reads, its settings, and what it is asked for.
+#![tactic(auto)]
+
+mod entries;
+mod error;
+mod line;
+mod number;
+mod opening;
+mod script;
+mod statement;
+
+pub use error::ScriptError;
+pub use number::number_in;
+pub use script::{Entry, Script, TableLine};
+
+#[cfg(test)]
+mod tests;
