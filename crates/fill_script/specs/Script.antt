@@ -1,8 +1,9 @@
 -- The session file: the script that its records spell, or the one refusal.
-use Rattle.std.specs.Prelude.{◌≡◌, ◌==◌, ℕ, ◌+◌, ◌≤◌, ◌⊎◌, List, [], ◌∷◌, length, take, drop, position, All, Option, Some, None, Result, Ok, Err, Bool, true, false, if◌then◌else◌, nat_lt, cond, unwrap_or, ⊤}
+use Rattle.std.specs.Prelude.{◌≡◌, ℕ, ◌+◌, List, [], ◌∷◌, length, take, drop, position, All, Option, Some, None, Result, Ok, Err, Bool, true, false, if◌then◌else◌, nat_lt, unwrap_or, ⊤}
 use Rattle.fill_records.specs.Records.{records_of}
 use Rattle.fill_sheet.specs.Columns.{AreInputs, IsOutput}
 use Rattle.fill_tables.specs.Keys.{AreKeyColumns}
+use Rattle.fill_tree.specs.Grammar.{AreSettings}
 use Rattle.fill_tree.specs.declared.user.Constants.TheVariants.{Any}
 use Rattle.fill_tree.specs.declared.user.Settings.{Settings}
 use Rattle.fill_script.specs.Line.{is_begin}
@@ -53,10 +54,6 @@ script_of records = script_in (take 1000 records) (nat_lt 1000 (length records))
 -- the script of a session file's bytes
 unfoldable pub read_script : List ℕ → Result Script ScriptError
 read_script bytes = script_of (records_of bytes)
-
--- settings that a session may have: the second profile allows one depth more
-abbrev pub AreSettings : Settings → Type 0
-AreSettings settings = ((settings.profile ≡ 1) ⊎ (settings.profile ≡ 2)) × (settings.depth ≤ cond (settings.profile == 1) 2 3)
 
 -- the columns of a key line can be a key's
 abbrev pub IsTableLine : TableLine → Type 0
