@@ -228,7 +228,7 @@ module _ (sheet : SheetData) (row : ℕ) where
           stop = v.2;
           is = refl;
           first_place = may.in_grammar.2.0;
-          second_place = may.in_grammar.3;
+          second_place = may.in_grammar.3.0;
           starts = v.4;
           stops = v.5;
           some = v.6;
