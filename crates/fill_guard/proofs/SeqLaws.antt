@@ -5,7 +5,7 @@ use Rattle.std.specs.declared.cmp.Ordering.TheVariants.{Less}
 use Rattle.std.proofs.lemmas.Bool.{cases_order}
 use Rattle.std.proofs.lemmas.List.Elements.{All-nil, All-cons, All-head, All-tail}
 use Rattle.std.proofs.lemmas.Option.{same_Some}
-use Rattle.fill_tokens.specs.Profile.{IsTokenOf, AreTokensOf, token_count}
+use Rattle.fill_tokens.specs.Profile.{IsTokenOf, token_count}
 use Rattle.fill_tokens.specs.Token.{token_number}
 use Rattle.fill_tokens.specs.Place.{seq_cmp}
 use Rattle.fill_tokens.specs.declared.token.Token.{Token}

@@ -1,8 +1,8 @@
 -- Constants of a text: what they stand for and what they cost.
-use Rattle.std.proofs.Common.{◌≡◌, ℕ, ◌+◌, ◌-◌, ◌*◌, ◌<◌, ◌≤◌, ◌⊎◌, inl, inr, refl, subst, ◌^◌, Option, None, Some, IsSome, IfNone, IfSome, drop, slice_range, Bool, true, false, List, [], ◌∷◌, length, take, sum_by, get_or, if◌then◌else◌, sym, ap, ◌∙◌, arith, rules, length-take}
+use Rattle.std.proofs.Common.{◌≡◌, ℕ, ◌+◌, ◌-◌, ◌*◌, ◌<◌, ◌≤◌, ◌⊎◌, inl, inr, subst, ◌^◌, Option, None, Some, IsSome, IfNone, IfSome, drop, slice_range, Bool, true, false, List, [], ◌∷◌, length, take, sum_by, if◌then◌else◌, sym, ap, ◌∙◌, arith, rules, length-take}
 use Rattle.std.proofs.lemmas.List.Sums.{sum_by-append}
 use Rattle.fill_text.specs.Classes.{is_separator}
-use Rattle.fill_tree.specs.Cost.{char_cost, text_cost, atom_cost}
+use Rattle.fill_tree.specs.Cost.{char_cost, atom_cost}
 use Rattle.fill_tree.specs.Meaning.{atom_tree}
 use Rattle.fill_tree.specs.Tree.{AtomTree, constant}
 use Rattle.fill_tree.specs.declared.tree.Atom.TheVariants.{Const}

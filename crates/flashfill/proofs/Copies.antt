@@ -1,5 +1,5 @@
 -- Copies between the best places of two positions.
-use Rattle.std.proofs.Common.{◌≡◌, ◌≢◌, ◌⊎◌, ◌^◌, ℕ, ℤ, ◌+◌, ◌-◌, ◌<◌, ◌≤◌, List, length, take, drop, slice_range, get_or, Option, None, Some, IfSome, IfNone, inl, inr, sym, ap, ◌∙◌, subst, arith, rules, length-take, length-drop, get_or-take, get_or-drop}
+use Rattle.std.proofs.Common.{◌≡◌, ◌≢◌, ◌⊎◌, ◌^◌, ℕ, ◌+◌, ◌-◌, ◌<◌, ◌≤◌, List, length, take, drop, slice_range, get_or, Option, None, Some, IfSome, IfNone, inl, inr, sym, ap, ◌∙◌, subst, arith, rules, length-take, length-drop, get_or-take, get_or-drop}
 use Rattle.std.specs.declared.cmp.Ordering.{Ordering}
 use Rattle.std.specs.Ordering.{nat_cmp, ordering_then}
 use Rattle.std.proofs.lemmas.Bool.Decides.{nat_tests}
@@ -15,7 +15,6 @@ use Rattle.fill_tokens.specs.Value.{HasValue}
 use Rattle.fill_tokens.specs.declared.place.Place.{Place}
 use Rattle.fill_tokens.specs.declared.place.Place.TheVariants.{CPos}
 use Rattle.fill_tree.proofs.Ranked.{pair-at_most, nat_cmp-same}
-use Rattle.fill_tree.specs.Cost.{atom_cost}
 use Rattle.fill_tree.specs.Meaning.{atom_tree}
 use Rattle.fill_tree.specs.Order.{atom_cmp}
 use Rattle.fill_tree.specs.Tree.{AtomTree, col, sub}

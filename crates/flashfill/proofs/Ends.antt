@@ -1,16 +1,15 @@
 -- The start of a text's chosen program is the best of all starts, where the costs of the rests are known.
-use Rattle.std.proofs.Common.{◌≡◌, ◌≢◌, ◌⊎◌, ℕ, zero, suc, ◌+◌, ◌-◌, ◌*◌, ◌<◌, ◌≤◌, List, [], ◌∷◌, ◌++◌, length, take, drop, get_or, slice_get, slice_range, Option, None, Some, inl, inr, refl, sym, ap, ◌∙◌, subst, arith, length-take, length-drop, length-append, take-append-drop}
+use Rattle.std.proofs.Common.{◌≡◌, ◌≢◌, ◌⊎◌, ℕ, zero, suc, ◌+◌, ◌-◌, ◌*◌, ◌<◌, ◌≤◌, List, [], ◌∷◌, ◌++◌, length, take, drop, get_or, slice_get, Option, None, Some, inl, inr, refl, sym, ap, ◌∙◌, subst, arith, length-take, length-drop, length-append, take-append-drop}
 use Rattle.std.specs.Prelude.{All, Contains, position, option_and_then, ◌==◌}
 use Rattle.std.specs.declared.cmp.Ordering.{Ordering}
 use Rattle.std.specs.declared.cmp.Ordering.TheVariants.{Less, Equal, Greater}
 use Rattle.std.specs.Ordering.{nat_cmp, ordering_then}
-use Rattle.std.proofs.lemmas.Map.Lookups.{exact_unsigned}
 use Rattle.std.proofs.Math.Seq.{take-append_seam, drop-append_seam}
 use Rattle.std.proofs.lemmas.List.Elements.{All-take}
 use Rattle.std.proofs.lemmas.Option.{slice_get_past}
 use Rattle.std.specs.Char.{IsScalar}
 use Rattle.fill_text.specs.Data.{SheetData, RowData, nth, cell_at}
-use Rattle.fill_tokens.proofs.OrderingLemmas.{then_first, then_second}
+use Rattle.fill_tokens.proofs.OrderingLemmas.{then_second}
 use Rattle.fill_tokens.proofs.ValueLaws.{value_within}
 use Rattle.fill_tree.proofs.ProgramOrder.{before_not_after, not_before_itself, not_after_trans, not_after-more, least_is_one}
 use Rattle.fill_tree.proofs.TreeOrder.{exact_atoms}
@@ -24,11 +23,9 @@ use Rattle.fill_tables.specs.Keys.{KeysDistinguish}
 use Rattle.fill_tree.specs.Value.{AtomIs, ProgramIs}
 use Rattle.fill_tree.specs.declared.user.Example.{Example}
 use Rattle.flashfill.specs.Report.{IsBuiltAtom, Represents, default_settings}
-use Rattle.fill_text.specs.Orders.{AtMost}
-use Rattle.flashfill.specs.Start.{NoLater, IsChosenFor, last, Costs, AreCosts, AreSmall, MayBegin, IsStart, IsConstant, IsCopy, IsCopyOn, BeatsColumn, BeatsConstant, total}
+use Rattle.flashfill.specs.Start.{NoLater, IsChosenFor, last, Costs, AreCosts, AreSmall, MayBegin, IsStart, IsConstant, IsCopyOn, BeatsColumn, BeatsConstant, total}
 use Rattle.flashfill.proofs.Constants.{text_small}
 use Rattle.flashfill.proofs.Starts.{no_later-trans, no_later-cost}
-use Rattle.fill_tokens.specs.declared.place.Place.{Place}
 use Rattle.fill_tokens.specs.declared.place.Place.TheVariants.{CPos, Pos}
 use Rattle.flashfill.specs.declared.first_program.start.Start.{Start}
 

@@ -1,5 +1,5 @@
 -- Which of two starts is before the other.
-use Rattle.std.proofs.Common.{◌≡◌, ◌⊎◌, ℕ, ◌≤◌, arith, inl, inr, refl, sym, ap, ◌∙◌, subst, Option, None, Some, MatchOption, IfSome}
+use Rattle.std.proofs.Common.{◌≡◌, ◌⊎◌, ℕ, ◌≤◌, arith, inl, inr, refl, sym, ◌∙◌, subst, Option, None, Some, MatchOption, IfSome}
 use Rattle.std.specs.declared.cmp.Ordering.{Ordering}
 use Rattle.std.specs.declared.cmp.Ordering.TheVariants.{Less, Equal, Greater}
 use Rattle.std.specs.Ordering.{nat_cmp, ordering_then, ordering_reverse, on, then_cmp}

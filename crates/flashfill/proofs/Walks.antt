@@ -1,7 +1,7 @@
 -- Programs that are built atom by atom from the left.
 use Rattle.std.proofs.Common.{◌≡◌, List, [], ◌∷◌, ◌++◌, map, refl, ap}
 use Rattle.fill_tree.specs.Meaning.{atom_tree}
-use Rattle.fill_tree.specs.Tree.{AtomTree, Atoms, end, more, atoms_of}
+use Rattle.fill_tree.specs.Tree.{Atoms, end, more, atoms_of}
 use Rattle.fill_tree.specs.declared.tree.Atom.{Atom}
 
 -- the atoms before a program

@@ -1,7 +1,5 @@
 -- The first atoms of the programs of a text, and which of them begins the chosen one.
-use Rattle.std.specs.Prelude.{◌≡◌, ◌⊎◌, ℕ, ◌+◌, ◌-◌, ◌*◌, ◌^◌, ◌<◌, ◌≤◌, List, [], ◌∷◌, ℤ, length, take, drop, slice_get, slice_index, slice_range, Some, Contains}
-use Rattle.std.specs.declared.cmp.Ordering.{Ordering}
-use Rattle.std.specs.declared.cmp.Ordering.TheVariants.{Less, Equal}
+use Rattle.std.specs.Prelude.{◌≡◌, ℕ, ◌+◌, ◌-◌, ◌*◌, ◌^◌, ◌<◌, ◌≤◌, List, [], ◌∷◌, ℤ, length, take, drop, slice_get, slice_index, slice_range, Some, Contains}
 use Rattle.std.specs.Ordering.{nat_cmp, ordering_then}
 use Rattle.fill_text.specs.Data.{SheetData, cell_at}
 use Rattle.fill_tokens.specs.Place.{place_cost, place_cmp}

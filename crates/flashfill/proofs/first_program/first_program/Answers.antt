@@ -1,7 +1,7 @@
-use Rattle.std.proofs.Common.{◌≡◌, ◌≤◌, ◌<◌, ◌+◌, ◌-◌, ℕ, List, [], ◌∷◌, ◌++◌, length, get_or, slice_get, Some, refl, sym, ap, ◌∙◌, subst, arith}
+use Rattle.std.proofs.Common.{◌≡◌, ◌≤◌, ◌+◌, ◌-◌, ℕ, List, length, slice_get, Some, refl, sym, ap, ◌∙◌, subst, arith}
 use Rattle.std.proofs.lemmas.Option.{slice_get_read}
 use Rattle.fill_tree.specs.Meaning.{atom_tree}
-use Rattle.fill_tree.specs.Tree.{AtomTree, Atoms, end, more}
+use Rattle.fill_tree.specs.Tree.{AtomTree, end, more}
 use Rattle.fill_tree.specs.declared.tree.Atom.{Atom}
 use Rattle.flashfill.proofs.Tables.{length_last, none_chosen, walk_on}
 use Rattle.flashfill.proofs.Walks.{before, before-more, before-end}

@@ -1,4 +1,3 @@
-use Rattle.std.proofs.Common.{◌≡◌, ℕ, ◌<◌}
 use Rattle.flashfill.proofs.Constants.{BeatsLonger}
 use Rattle.flashfill.specs.Start.{IsConstant}
 use Rattle.flashfill.proofs.first_program.constants.best_constant.Given as goal

@@ -1,4 +1,4 @@
-use Rattle.std.proofs.Common.{◌≤◌, ◌+◌, ◌*◌, ◌-◌, ◌≡◌, length, arith}
+use Rattle.std.proofs.Common.{◌-◌, arith}
 use Rattle.fill_tree.specs.Cost.{atom_cost}
 use Rattle.fill_tree.specs.Meaning.{atom_tree}
 use Rattle.fill_tree.specs.declared.tree.Atom.TheVariants.{Const}

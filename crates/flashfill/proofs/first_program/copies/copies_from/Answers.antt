@@ -1,4 +1,4 @@
-use Rattle.std.proofs.Common.{arith, inl, refl, ◌+◌}
+use Rattle.std.proofs.Common.{arith, inl, refl}
 use Rattle.fill_tree.specs.Meaning.{atom_tree}
 use Rattle.flashfill.proofs.Copies.{beats_none, beats_more, beats_all, common_piece}
 use Rattle.flashfill.proofs.Starts.{no_later-itself, no_later-trans, one_or_some}

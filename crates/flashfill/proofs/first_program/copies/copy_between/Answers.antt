@@ -1,5 +1,4 @@
-use Rattle.std.proofs.Common.{◌≡◌, ◌-◌, ◌+◌, ◌≤◌, length, get_or, arith}
-use Rattle.fill_tokens.specs.Place.{place_cost}
+use Rattle.std.proofs.Common.{◌-◌, ◌+◌, get_or, arith}
 use Rattle.flashfill.proofs.Copies.{copy_start, copy_best}
 use Rattle.flashfill.proofs.first_program.copies.copy_between.Goals as goal
 

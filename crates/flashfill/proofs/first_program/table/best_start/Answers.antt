@@ -1,4 +1,4 @@
-use Rattle.std.proofs.Common.{◌≡◌, ◌⊎◌, ◌<◌, ◌≤◌, inl, inr, length, arith}
+use Rattle.std.proofs.Common.{◌≡◌, ◌⊎◌, ◌<◌, inl, inr, length, arith}
 use Rattle.flashfill.proofs.Ends.{IsBest, best_of_constants, best_of_copies, best_start, best_cost, best_small}
 use Rattle.flashfill.proofs.first_program.table.best_start.Goals as goal
 use Rattle.flashfill.proofs.first_program.table.best_start.Goals.{then-row-eq0-via-then-row-eq0, then-row-eq0-via-else-row-eq0+then-row-rows}

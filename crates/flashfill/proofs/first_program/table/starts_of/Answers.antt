@@ -1,4 +1,4 @@
-use Rattle.std.proofs.Common.{◌≡◌, ◌≤◌, List, ℕ, [], ◌∷◌, ◌++◌, ◌+◌, ◌-◌, ◌*◌, length, slice_range, sym, ap, ◌∙◌, subst, arith, length-append}
+use Rattle.std.proofs.Common.{◌≡◌, List, ℕ, [], ◌∷◌, ◌++◌, ◌+◌, ◌-◌, length, slice_range, sym, ap, ◌∙◌, subst, arith, length-append}
 use Rattle.flashfill.proofs.Tables.{first_costs, first_small, no_starts, end_is, length_last, small_more, costs_more, starts_more}
 use Rattle.flashfill.specs.Start.{AreCosts, AreSmall, AreStarts, Costs, IsStart, last}
 use Rattle.flashfill.proofs.first_program.table.starts_of.Goals as goal

@@ -1,4 +1,3 @@
-use Rattle.std.proofs.Common.{◌≡◌, true, false, sym, ◌∙◌}
 use Rattle.flashfill.proofs.Starts.{no_later-itself, no_later-from}
 use Rattle.flashfill.proofs.first_program.start.Start.or.Goals as goal
 
