@@ -1,7 +1,11 @@
+pub mod Alike
 pub mod Changing
-pub mod Finding
-pub mod Placing
+pub mod Choosing
+pub mod Coming
+pub mod Marks
+pub mod Pairs
 pub mod Prefixes
+pub mod Renewing
 pub mod Resting
 pub mod Unique
 pub mod Zips

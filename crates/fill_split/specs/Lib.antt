@@ -1,5 +1,8 @@
-pub mod Branches
+pub mod Choices
 pub mod Changes
-pub mod FirstFit
 pub mod Keeping
+pub mod LawsOfFolds
+pub mod Placement
 pub mod Refusals
+pub mod Renewal
+pub mod Standing

@@ -1,20 +1,26 @@
-//! Branches of items by first fit, kept by a maker of joined values, and rebuilt from the first changed item on.
+//! Branches of items under a rule, kept by a maker of joined values, and rebuilt from the first changed item on.
 //!
-//! Each item goes to the first branch that fits together with it, and else opens a branch: the grouping of Gulwani,
-//! "Automating String Processing in Spreadsheets using Input-Output Examples" (POPL 2011), section 4.4, with the items in
-//! their own order and without its score.
+//! Each item goes to a branch that fits together with it, the first or the lightest, and else opens a branch: the grouping
+//! of Gulwani, "Automating String Processing in Spreadsheets using Input-Output Examples" (POPL 2011), section 4.4, with
+//! the items in their own order.
 #![tactic(auto)]
 
 mod change;
 mod find;
 mod folds;
+mod laws;
 mod maker;
 mod place;
 mod prefix;
 mod regroup;
+mod renew;
+mod rule;
+mod singles;
 #[cfg(test)]
 mod tests;
 
 pub use change::{Change, FoldError};
 pub use folds::{Fold, Folds};
+pub use laws::{folds_stay, placed_once, renewed_folds_stand};
 pub use maker::Maker;
+pub use rule::Placing;

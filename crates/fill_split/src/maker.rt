@@ -1,5 +1,5 @@
 //! What a maker of joined values promises.
-ghost use Rattle.std.specs.Prelude.{◌≡◌, ◌+◌, List, [], ◌∷◌, ◌++◌, IfOk, OnErr, MatchOption};
+ghost use Rattle.std.specs.Prelude.{◌≡◌, ℕ, ◌+◌, List, [], ◌∷◌, ◌++◌, IfOk, OnErr, MatchOption};
 ghost use Rattle.fill_split.specs.Keeping.{Keeps, KeepsMarks};
 
 use fill_edge::{Ledger, Steps};
@@ -23,6 +23,9 @@ pub trait Maker {
 
     // a list of items that one value can stand for
     ghost fits: { Self.Base → List Self.Item → Type 0 };
+
+    // a list of items and what it weighs
+    ghost weight: { Self.Base → List Self.Item → ℕ → Type 0 };
 
     // an item that may be asked for
     ghost allowed: { Self.Base → Self.Item → Type 0 };
@@ -91,6 +94,14 @@ pub trait Maker {
         ensures marked { (m : Self.Mark) → no_later m mark → valid self.old m → Keeps (marked self.old m) (marked self.new m) }
         ensures only_marked { (m : Self.Mark) → no_later m mark → valid self.old m → Keeps (marked self.new m) (marked self.old m) };
 
+    /// The weight of the items that the value stands for. It takes no step.
+    fn weight(&self, kept: Self::Kept) -> Result<u64, NoMemory>
+        requires { (l : List Self.Item) × stands self.now kept l }
+        ensures { IfOk result (λ w. (l : List Self.Item) → stands self.now kept l → weight (base self.now) l w) };
+
     // what a value stands for fits
     ghost stands_fit: { (m : Self) (k : Self.Kept) (l : List Self.Item) → stands m k l → fits (base m) l };
+
+    // a list has at most one weight
+    ghost one_weight: { (b : Self.Base) (l : List Self.Item) (v w : ℕ) → weight b l v → weight b l w → v ≡ w };
 }

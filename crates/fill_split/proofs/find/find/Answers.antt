@@ -1,7 +1,9 @@
-use Rattle.std.proofs.Common.{◌∙◌, arith, subst, ◌++◌}
+use Rattle.std.proofs.Common.{◌∙◌, arith, subst, refl, ◌++◌}
 use Rattle.std.proofs.lemmas.Option.{slice_get-get_or}
+use Rattle.fill_split.specs.Placement.{Loads}
 use Rattle.fill_split.proofs.Zips.{zip_some}
-use Rattle.fill_split.proofs.Finding.{marks_trans, none_more, none_end, found}
+use Rattle.fill_split.proofs.Marks.{marks_trans}
+use Rattle.fill_split.proofs.Choosing.{yet_skip, yet_more, yet_settled, yet_end, within_more, within_still}
 use Rattle.fill_split.proofs.find.find.Goals as goal
 
 pub join-requires-clause-kept : goal.join-requires-clause-kept
@@ -15,31 +17,64 @@ join-requires-clause-kept g c =
 pub join-requires-clause-one : goal.join-requires-clause-one
 join-requires-clause-one g c = let r = c.requires.single in (r.0, c.loop-i.invariant.older _ r.0 r.1)
 
-pub returns-in-Some-clause-found : goal.returns-in-Some-clause-found
-returns-in-Some-clause-found g c =
+pub load-requires : goal.load-requires
+load-requires g c =
     let m = g.M.Maker in
     let at = slice_get-get_or c.args.branches.now c.loop-i.i c.index-branches-i.result c.loop-i-test.true in
-    let base = c.in_ok-joined.ensures.base ∙ c.loop-i.invariant.base in
-    let both = rw c.in-Some.is at c.in_ok-joined.ensures.both in
-    found (m.stands c.args.maker.now) (m.stands c.loop-i.maker) _ _ _ _ _ at c.loop-i.invariant.older c.loop-i.invariant.none
-    (m.stands c.join.new.self) (λ k l s. subst (λ b. m.fits b l) base (g.met.M.Maker.stands_fit c.join.new.self k l s)) c.in-Some.joined both
+    let r = c.requires.live in
+    let q = zip_some (λ f b. m.stands c.args.maker.now f.kept b) c.args.branches.now r.0 c.loop-i.i _ r.1 at in
+    let s = c.requires.single in
+    let both = rw c.in-Ok-Some.field-0-is at c.in-Ok-Some.ensures.both in
+    (q.0 ++ s.0, both q.0 s.0 (c.loop-i.invariant.older _ q.0 q.2) (c.loop-i.invariant.older _ s.0 s.1))
+
+pub loop-i-preserved-in-Ok-None : goal.loop-i-preserved-in-Ok-None
+loop-i-preserved-in-Ok-None g c =
+    let m = g.M.Maker in
+    let b = m.base c.args.maker.now in
+    let at = slice_get-get_or c.args.branches.now c.loop-i.i c.index-branches-i.result c.loop-i-test.true in
+    let e = c.in-Ok-None.ensures in
+    let both = rw c.in-Ok-None.field-0-is at e.both in
+    record {
+      base = e.base ∙ c.loop-i.invariant.base;
+      older = λ k l s. e.older k l (c.loop-i.invariant.older k l s);
+      marks = marks_trans c.loop-i.invariant.marks e.marks;
+      cost = let a = e.step in let d = c.loop-i.invariant.cost in omega arith;
+      within = within_still c.loop-i.i c.loop-i.best c.loop-i.invariant.within;
+      yet = yet_skip (m.stands c.args.maker.now) c.args.rule (m.fits b) (m.weight b) c.args.branches.now c.args.single (m.stands c.loop-i.maker) c.loop-i.i (m.stands c.join.new.self) e.older c.loop-i.invariant.older _ at
+          (λ l v w. g.met.M.Maker.one_weight b l v w) c.loop-i.best c.loop-i.invariant.yet
+          (λ k l s t. subst (λ b. m.fits b (k ++ l) → ⊥) c.loop-i.invariant.base (both k l s t));
+    }
 
 pub loop-i-preserved : goal.loop-i-preserved
 loop-i-preserved g c =
     let m = g.M.Maker in
+    let b = m.base c.args.maker.now in
     let at = slice_get-get_or c.args.branches.now c.loop-i.i c.index-branches-i.result c.loop-i-test.true in
-    let base = c.in_ok-joined.ensures.base ∙ c.loop-i.invariant.base in
-    let both = rw c.in_default.is at c.in_ok-joined.ensures.both in
+    let e = c.in-Ok-Some.ensures in
+    let base = e.base ∙ c.loop-i.invariant.base in
+    let both = rw c.in-Ok-Some.field-0-is at e.both in
     record {
       base = base;
-      older = λ k l s. c.in_ok-joined.ensures.older k l (c.loop-i.invariant.older k l s);
-      marks = marks_trans c.loop-i.invariant.marks c.in_ok-joined.ensures.marks;
-      cost = let a = c.in_ok-joined.ensures.step in let b = c.loop-i.invariant.cost in omega arith;
-      none = none_more (m.stands c.args.maker.now) (m.stands c.loop-i.maker) _ _ _ _ _ at c.loop-i.invariant.older c.loop-i.invariant.none
-          (λ k l s t. subst (λ b. m.fits b (k ++ l) → ⊥) c.loop-i.invariant.base (both k l s t));
+      older = λ k l s. e.older k l (c.loop-i.invariant.older k l s);
+      marks = marks_trans c.loop-i.invariant.marks e.marks;
+      cost = let a = e.step in let d = c.loop-i.invariant.cost in omega arith;
+      within = within_more c.loop-i.i c.loop-i.best _ c.lighter.result refl c.loop-i.invariant.within c.lighter.ensures;
+      yet = yet_more (m.stands c.args.maker.now) c.args.rule (m.fits b) (m.weight b) c.args.branches.now c.args.single (m.stands c.loop-i.maker) c.loop-i.i (m.stands c.join.new.self) e.older c.loop-i.invariant.older _ at
+          (λ l v w. g.met.M.Maker.one_weight b l v w) c.loop-i.best _ c.lighter.result refl
+          (λ l s. subst (λ b. m.fits b l) base (g.met.M.Maker.stands_fit c.join.new.self c.in-Ok-Some.joined l s))
+          (λ l s. subst (λ b. Loads c.args.rule (m.weight b) l c.in-Ok.load) base (c.in-Ok.ensures l s))
+          both c.lighter.ensures c.loop-i.invariant.yet;
     }
+
+pub returns-then-is_settled-clause-found : goal.returns-then-is_settled-clause-found
+returns-then-is_settled-clause-found g c =
+    let m = g.M.Maker in
+    let b = m.base c.args.maker.now in
+    let h = c.is_settled.ensures c.if-is_settled.true in
+    yet_settled (m.stands c.args.maker.now) c.args.rule (m.fits b) (m.weight b) c.args.branches.now c.args.single (m.stands c.loop-i.maker) c.loop-i.i c.loop-i.best h.0 h.1 h.2 c.loop-i.invariant.yet
 
 pub returns-clause-found : goal.returns-clause-found
 returns-clause-found g c =
     let m = g.M.Maker in
-    none_end (m.stands c.args.maker.now) _ _ _ _ c.loop-i-test.false c.loop-i.invariant.none
+    let b = m.base c.args.maker.now in
+    yet_end (m.stands c.args.maker.now) c.args.rule (m.fits b) (m.weight b) c.args.branches.now c.args.single (m.stands c.loop-i.maker) c.loop-i.i c.loop-i.best c.loop-i-test.false c.loop-i.invariant.yet

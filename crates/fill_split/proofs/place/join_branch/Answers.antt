@@ -11,4 +11,5 @@ returns g c = (
   refl,
   refl,
   c.in_ok-push.ensures.ok ∙ ap (λ (f : Fold _). f.items ++ c.args.item ∷ []) c.index_mut-fold.ensures.value,
+  refl,
 )

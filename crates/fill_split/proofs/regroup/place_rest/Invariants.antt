@@ -11,5 +11,5 @@ invariant-loop-i g l =
       older : Keeps (m.stands l.initial.maker) (m.stands l.maker);
       marks : KeepsMarks (m.valid l.initial.maker) (m.valid l.maker) (m.marked l.initial.maker) (m.marked l.maker);
       cost : l.steps ≤ l.initial.steps + 8 * (l.i - l.at);
-      grows : Grows (m.stands l.initial.maker) (m.stands l.maker) (m.fits (m.base l.initial.maker)) l.singles l.at l.initial.folds.spots l.initial.folds.branches.items l.i l.folds.spots l.folds.branches.items;
+      grows : Grows (m.stands l.initial.maker) (m.stands l.maker) (m.fits (m.base l.initial.maker)) (m.weight (m.base l.initial.maker)) l.singles l.at l.initial.folds l.i l.folds;
     }

@@ -1,7 +1,7 @@
-use Rattle.fill_split.proofs.Placing.{stand_start}
+use Rattle.fill_split.proofs.Coming.{stand_start}
 use Rattle.fill_split.proofs.folds.Folds.clear.Goals as goal
 
-pub returns : goal.returns
-returns g c =
+pub returns-clause-stands : goal.returns-clause-stands
+returns-clause-stands g c =
     let m = g.M.Maker in
-    λ maker. stand_start (m.stands maker) (m.fits (m.base maker)) _ _ c.new.ensures c.clear.ensures.items
+    λ maker. stand_start (m.stands maker) c.args.self.now.rule (m.fits (m.base maker)) (m.weight (m.base maker)) _ _ _ c.clear.ensures.items c.new.ensures c.clear-2.ensures.items
