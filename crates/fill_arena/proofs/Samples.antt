@@ -35,47 +35,47 @@ step atoms = record { from = 0; to = 1; atoms = atoms }
 
 abbrev pub steps : List ℕ → List Edge
 steps [] = []
-steps (a ∷ as) = step a ∷ steps as
+steps (a ∷ sets) = step a ∷ steps sets
 
-ends : (as : List ℕ) (k : ℕ) (e : Edge) → slice_get (steps as) k ≡ Some e → (e.from ≡ 0) × (e.to ≡ 1) × In e.atoms as
+ends : (sets : List ℕ) (k : ℕ) (e : Edge) → slice_get (steps sets) k ≡ Some e → (e.from ≡ 0) × (e.to ≡ 1) × In e.atoms sets
 ends [] k e h = absurd cc
-ends (a ∷ as) zero e h =
+ends (a ∷ sets) zero e h =
     let same : step a ≡ e = cc in
     (sym (ap (λ (f : Edge). f.from) same), sym (ap (λ (f : Edge). f.to) same), (0, ap (λ (f : Edge). Some f.atoms) same))
-ends (a ∷ as) (suc k) e h = let r = ends as k e h in (r.0, r.1, (suc r.2.0, r.2.1))
+ends (a ∷ sets) (suc k) e h = let r = ends sets k e h in (r.0, r.1, (suc r.2.0, r.2.1))
 
 -- no path goes further than one edge
-short : (as : List ℕ) (from to : ℕ) (path : List Edge) → Path (steps as) from path to → length path ≤ 1
-short as from to [] h = lit≤ tt
-short as from to (e ∷ []) h = lit≤ tt
-short as from to (e ∷ f ∷ rest) h =
-    let first = ends as h.0.0 e h.0.1 in
-    let second = ends as h.2.0.0 f h.2.0.1 in
+short : (sets : List ℕ) (from to : ℕ) (path : List Edge) → Path (steps sets) from path to → length path ≤ 1
+short sets from to [] h = lit≤ tt
+short sets from to (e ∷ []) h = lit≤ tt
+short sets from to (e ∷ f ∷ rest) h =
+    let first = ends sets h.0.0 e h.0.1 in
+    let second = ends sets h.2.0.0 f h.2.0.1 in
     let onward : f.from ≡ e.to = h.2.1 in
     absurd (omega (arith, first.1, second.0, onward))
 
-pub sample_graph : (c : List Entry) (a : ℕ) (as : List ℕ) → EachIn (IsAtomSet c) (a ∷ as) → IsGraphOf c (length c) 2 (steps (a ∷ as))
-sample_graph c a as live =
+pub sample_graph : (c : List Entry) (a : ℕ) (sets : List ℕ) → EachIn (IsAtomSet c) (a ∷ sets) → IsGraphOf c (length c) 2 (steps (a ∷ sets))
+sample_graph c a sets live =
     record {
       some = lit< tt;
       each = λ k e at.
-          let end = ends (a ∷ as) k e at in
+          let end = ends (a ∷ sets) k e at in
           let set = live end.2.0 e.atoms end.2.1 in
           let from = end.0 in
           let to = end.1 in
           record { onward = omega arith; within = omega arith; atoms = (set, slice_get_within c e.atoms (kind.Atoms set.0) set.1) };
-      from_first = λ m lt. elim m as (λ n. n < 2 → (path : List Edge) × Path (steps (a ∷ as)) 0 path n) [
+      from_first = λ m lt. elim m as (λ n. n < 2 → (path : List Edge) × Path (steps (a ∷ sets)) 0 path n) [
         | zero ↦ λ _. ([], refl)
         | suc k ↦ λ less. let one : k ≡ 0 = omega arith in (step a ∷ [], ((0, refl), refl, ap suc (sym one)))
       ] lt;
-      to_last = λ m lt. elim m as (λ n. n < 2 → (path : List Edge) × Path (steps (a ∷ as)) n path 1) [
+      to_last = λ m lt. elim m as (λ n. n < 2 → (path : List Edge) × Path (steps (a ∷ sets)) n path 1) [
         | zero ↦ λ _. (step a ∷ [], ((0, refl), refl, refl))
         | suc k ↦ λ less. let one : k ≡ 0 = omega arith in ([], ap suc one)
       ] lt;
-      short = λ from to path h. let few = short (a ∷ as) from to path h in omega arith;
+      short = λ from to path h. let few = short (a ∷ sets) from to path h in omega arith;
       ordered = λ j k e f at there same.
-          let first = ends (a ∷ as) j e at in
-          let second = ends (a ∷ as) k f there in
+          let first = ends (a ∷ sets) j e at in
+          let second = ends (a ∷ sets) k f there in
           absurd (omega (arith, first.1, second.0, same));
     }
 

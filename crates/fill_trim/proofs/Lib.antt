@@ -4,3 +4,4 @@ pub mod Ranks
 pub mod Samples
 pub mod Left
 pub mod Trims
+pub mod Programs

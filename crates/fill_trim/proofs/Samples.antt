@@ -4,17 +4,13 @@ use Rattle.std.proofs.lemmas.Bool.{cases_lt}
 use Rattle.std.proofs.lemmas.Option.{slice_get_within}
 use Rattle.fill_arena.specs.WellMade.{AreAtoms, IsAtomItem}
 use Rattle.fill_arena.specs.declared.entry.Entry.{Entry}
-use Rattle.fill_arena.specs.declared.entry.AtomItem.{AtomItem}
 use Rattle.fill_arena.specs.declared.entry.AtomItem.TheVariants.{Const}
 use Rattle.fill_arena.specs.declared.entry.Edge.{Edge}
+use Rattle.fill_arena.proofs.Samples.{each_nil, each_cons}
 use Rattle.fill_trim.specs.Trim.{AreEdges}
 
-one_atom : (c : List Entry) (t : List ℕ) → length t ≤ 100 → (k : ℕ) (x : AtomItem) → slice_get (Const t ∷ []) k ≡ Some x → IsAtomItem c (length c) x
-one_atom c t few zero x e = let same : Const t ≡ x = cc in subst (IsAtomItem c (length c)) same few
-one_atom c t few (suc k) x e = absurd cc
-
 pub sample_atoms : (c : List Entry) (t : List ℕ) → length t ≤ 100 → AreAtoms c (length c) (Const t ∷ [])
-sample_atoms c t few = record { some = lit< tt; each = one_atom c t few }
+sample_atoms c t few = record { some = lit< tt; each = each_cons (IsAtomItem c (length c)) (Const t) [] few (each_nil (IsAtomItem c (length c))) }
 
 -- the edges before a place lead on within the nodes, in the order of the nodes that they come from
 pub record AreSorted (nodes : ℕ) (edges : List Edge) (i least : ℕ) : Type 0 where
