@@ -77,12 +77,7 @@ impl PlaceIndex {
 /// All places of the grammar under the profile whose value in the text is `k`, in their order and each once.
 ///
 /// For more than one position of a text [`PlaceIndex`] reads it once.
-pub fn places_of(
-    alloc: Global,
-    t: &Text,
-    k: usize,
-    profile: u8,
-) -> Result<List<Place>, NoMemory>
+pub fn places_of(alloc: Global, t: &Text, k: usize, profile: u8) -> Result<List<Place>, NoMemory>
     requires within { k ≤ length t.now }
     requires profile { IsProfile profile }
     ensures { IfOk result (Lists place_cmp (λ p. IsPlaceOf profile p × HasValue p t.now k)) }

@@ -121,7 +121,12 @@ fn longer_lefts(
 }
 
 /// The sequences of tokens of the profile that end somewhere in the text, in order.
-pub fn lefts(alloc: Global, table: &[TokenHops], t: &Text, profile: u8) -> Result<Vec<Entry>, NoMemory>
+pub fn lefts(
+    alloc: Global,
+    table: &[TokenHops],
+    t: &Text,
+    profile: u8,
+) -> Result<Vec<Entry>, NoMemory>
     requires table { AreTables profile (λ token. Spans token t.now) table.now }
     ensures { IfOk result (λ v. AreLefts profile t.now v.items) }
 {

@@ -80,12 +80,7 @@ fn push_fixed_right(out: &mut List<Place>, number: usize) -> Result<(), NoMemory
 }
 
 /// Puts the two fixed places of the position to the list.
-pub fn push_fixed(
-    out: &mut List<Place>,
-    t: &Text,
-    k: usize,
-    profile: u8,
-) -> Result<(), NoMemory>
+pub fn push_fixed(out: &mut List<Place>, t: &Text, k: usize, profile: u8) -> Result<(), NoMemory>
     requires { k ≤ length t.now }
     ensures { OnOk result (Adds place_cmp out.old out.new (FixedOf profile t.now k)) }
 {

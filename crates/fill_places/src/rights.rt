@@ -122,7 +122,12 @@ fn longer_rights(
 }
 
 /// The sequences of tokens of the profile that begin somewhere in the text, in order.
-pub fn rights(alloc: Global, table: &[TokenHops], t: &Text, profile: u8) -> Result<Vec<Entry>, NoMemory>
+pub fn rights(
+    alloc: Global,
+    table: &[TokenHops],
+    t: &Text,
+    profile: u8,
+) -> Result<Vec<Entry>, NoMemory>
     requires table { AreTables profile (SpansBack t.now) table.now }
     ensures { IfOk result (λ v. AreRights profile t.now v.items) }
 {

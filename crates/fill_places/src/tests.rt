@@ -1,9 +1,7 @@
 ghost use Rattle.fill_tokens.specs.Profile.{IsProfile};
 
 use crate::*;
-use Token::{
-    Alpha, Digits, End, Hyphen, Lower, NonAlpha, NonDigit, NonSpace, Start, Upper, Word,
-};
+use Token::{Alpha, Digits, End, Hyphen, Lower, NonAlpha, NonDigit, NonSpace, Start, Upper, Word};
 use fill_text::Text;
 use fill_tokens::{Place, Seq, Token, is_place, place_value};
 use std::alloc::Global;
@@ -49,13 +47,7 @@ fn places_before_one_letter(rt: HostRuntime) -> Result<(), Fail> {
 }
 
 /// Whether the place is listed for the position of the text.
-fn is_listed(
-    alloc: Global,
-    place: Place,
-    text: &str,
-    k: usize,
-    profile: u8,
-) -> Result<bool, Fail>
+fn is_listed(alloc: Global, place: Place, text: &str, k: usize, profile: u8) -> Result<bool, Fail>
     requires { IsProfile profile }
 {
     let text = Text::from_utf8(alloc, text.as_bytes())?;
