@@ -1,8 +1,6 @@
 -- What stands in an arena costs little: a text has at most 100 characters, a lookup three conditions, three lookups stand
 -- inside each other at most, and a program has at most 100 atoms.
-use Rattle.std.proofs.Common.{◌≡◌, ℕ, zero, suc, ◌+◌, ◌-◌, ◌*◌, ◌<◌, ◌≤◌, ◌^◌, ◌==◌, get_or, List, [], ◌∷◌, length, Bool, true, false, cond, Option, Some, None, slice_get, pos, negsuc, ℤ, refl, sym, ap, ◌∙◌, subst, arith, mul-le-mul, mul-le-mul_left, mul-le-mul_right, max, le_refl}
-use Rattle.std.specs.List.{sum_by, All}
-use Rattle.std.specs.Option.{IfSome}
+use Rattle.std.proofs.Common.{◌≡◌, ℕ, zero, suc, ◌+◌, ◌-◌, ◌*◌, ◌<◌, ◌≤◌, ◌^◌, ◌==◌, get_or, List, [], ◌∷◌, length, Bool, true, false, cond, Some, slice_get, pos, negsuc, ℤ, refl, ap, subst, arith, mul-le-mul_right}
 use Rattle.std.specs.Int.{w32}
 use Rattle.std.specs.Prelude.{FitsSigned}
 use Rattle.std.proofs.lemmas.List.Elements.{All-get_or}
@@ -16,9 +14,9 @@ use Rattle.fill_tokens.specs.declared.place.Place.TheVariants.{CPos, Pos}
 use Rattle.fill_tree.specs.Cost.{char_cost, text_cost, source_cost, atom_cost, condition_cost, conditions_cost, program_cost}
 use Rattle.fill_tree.specs.Grammar.{source_depth, atom_depth, greatest_depth, number_of_atoms}
 use Rattle.fill_tree.specs.Tree.{SourceTree, AtomTree, Atoms, col, select, constant, whole, sub, end, more}
-use Rattle.fill_arena.specs.Contents.{In, SomeIn, EachIn}
-use Rattle.fill_arena.specs.Stands.{AtomFits, AtomStands, ConditionFits, ConditionsFit, PlaceStands, ProgramStands, SomeAtom, SomeSource, SourceFits, SourceStands, Walks}
-use Rattle.fill_arena.specs.WellMade.{IsWellMade, IsConditionItem, IsSourceItem, IsAtomItem, IsEdge, IsGraphOf, OlderAtoms, Path}
+use Rattle.fill_arena.specs.Contents.{EachIn}
+use Rattle.fill_arena.specs.Stands.{AtomFits, AtomStands, ConditionFits, ConditionsFit, PlaceStands, ProgramStands, SomeSource, SourceFits, SourceStands, Walks}
+use Rattle.fill_arena.specs.WellMade.{IsWellMade, IsConditionItem, IsSourceItem, IsAtomItem, Path}
 use Rattle.fill_arena.specs.declared.entry.AtomItem.{AtomItem}
 use Rattle.fill_arena.specs.declared.entry.AtomItem.TheVariants as atom
 use Rattle.fill_arena.specs.declared.entry.ConditionItem.{ConditionItem}

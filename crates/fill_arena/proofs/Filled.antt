@@ -1,5 +1,5 @@
 -- Something stands in each set of an arena, and some program in each graph.
-use Rattle.std.proofs.Common.{◌≡◌, ℕ, ◌-◌, ◌<◌, List, [], ◌∷◌, Some, slice_get, refl}
+use Rattle.std.proofs.Common.{◌≡◌, ℕ, ◌-◌, List, [], ◌∷◌, Some, slice_get, refl}
 use Rattle.fill_tokens.specs.declared.place.Place.{Place}
 use Rattle.fill_tree.specs.Tree.{SourceTree, AtomTree, Atoms, col, constant, whole, sub, end, more}
 use Rattle.fill_arena.specs.Contents.{In, IsPlaceSet, IsSourceSet, IsAtomSet, IsGraph}

@@ -1,5 +1,5 @@
 -- An arena keeps what is true of it when an entry is pushed with its slot, or is refused.
-use Rattle.std.proofs.Common.{◌≡◌, ℕ, Result, Ok, Err, List, [], ◌∷◌, ◌++◌, length, sym, subst}
+use Rattle.std.proofs.Common.{◌≡◌, Result, Ok, Err, List, [], ◌∷◌, ◌++◌, length, sym, subst}
 use Rattle.std.specs.Result.{OnOk, OnErr}
 use Rattle.fill_arena.specs.Contents.{AreDistinct}
 use Rattle.fill_arena.specs.Index.{IsIndexed, IsFree}

@@ -1,5 +1,5 @@
 -- An arena stays well made when it grows and when it is cut, and its numbers stand for the same.
-use Rattle.std.proofs.Common.{◌≡◌, ℕ, suc, ◌-◌, ◌<◌, ◌≤◌, ◌↔◌, List, [], ◌∷◌, ◌++◌, length, take, Bool, true, false, cond, Option, Some, None, slice_get, inl, inr, sym, ◌∙◌, subst, arith}
+use Rattle.std.proofs.Common.{◌≡◌, ℕ, suc, ◌-◌, ◌<◌, ◌≤◌, ◌↔◌, List, [], ◌∷◌, ◌++◌, length, take, Option, Some, None, slice_get, inl, inr, sym, ◌∙◌, subst, arith}
 use Rattle.std.specs.Option.{IfSome}
 use Rattle.std.proofs.lemmas.Option.{slice_get_within}
 use Rattle.fill_tokens.specs.declared.place.Place.{Place}
@@ -15,7 +15,7 @@ use Rattle.fill_arena.specs.declared.entry.AtomItem.{AtomItem}
 use Rattle.fill_arena.specs.declared.entry.AtomItem.TheVariants.{Const, Whole, Sub}
 use Rattle.fill_arena.specs.declared.entry.Edge.{Edge}
 use Rattle.fill_arena.proofs.Agree.{SourceBelow, AtomBelow, EntryBelow, atom_agrees, source_agrees, sources_agree, atoms_agree}
-use Rattle.fill_arena.proofs.Lists.{get_left, get_last, get_pushed, get_taken, get_of_taken, extends_agree, extends_pushed}
+use Rattle.fill_arena.proofs.Lists.{get_left, get_pushed, get_taken, get_of_taken, extends_agree}
 
 -- what an entry names is below its number
 some_older : (c : List Entry) (o : Option ℕ) (n : ℕ) → IfSome o (OlderAtoms c n) → IfSome o (λ s. s < n)

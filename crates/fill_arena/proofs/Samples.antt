@@ -2,7 +2,7 @@
 use Rattle.std.proofs.Common.{◌≡◌, ℕ, zero, suc, ◌<◌, ◌≤◌, List, [], ◌∷◌, length, Some, slice_get, refl, sym, ap, subst, lit<, lit≤, arith}
 use Rattle.std.proofs.lemmas.Option.{slice_get_within}
 use Rattle.fill_arena.specs.Contents.{In, EachIn, IsPlaceSet, IsSourceSet, IsAtomSet, Extends}
-use Rattle.fill_arena.specs.WellMade.{AreAtoms, IsAtomItem, IsEdge, IsGraphOf, Path}
+use Rattle.fill_arena.specs.WellMade.{AreAtoms, IsAtomItem, IsGraphOf, Path}
 use Rattle.fill_arena.specs.declared.entry.Entry.{Entry}
 use Rattle.fill_arena.specs.declared.entry.Entry.TheVariants as kind
 use Rattle.fill_arena.specs.declared.entry.AtomItem.TheVariants.{Const, Whole, Sub}

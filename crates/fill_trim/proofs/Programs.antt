@@ -1,5 +1,5 @@
 -- The programs on walks, by the sets that the walks have.
-use Rattle.std.proofs.Common.{◌≡◌, ◌↔◌, ℕ, ◌-◌, List, [], ◌∷◌, refl, sym, subst}
+use Rattle.std.proofs.Common.{◌↔◌, ℕ, ◌-◌, List, [], ◌∷◌, refl, sym, subst}
 use Rattle.fill_tree.specs.Tree.{Atoms, end, more}
 use Rattle.fill_arena.specs.Stands.{AtomStands, Walks}
 use Rattle.fill_arena.specs.declared.entry.Entry.{Entry}
