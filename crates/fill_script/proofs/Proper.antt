@@ -1,6 +1,6 @@
 -- What is true of each script.
-use Rattle.std.proofs.Common.{◌≡◌, ◌≢◌, ℕ, zero, suc, ◌+◌, ◌<◌, ◌≤◌, ◌⊎◌, ◌==◌, ◌||◌, ◌&&◌, not, inl, inr, List, [], ◌∷◌, ◌++◌, length, get_or, take, drop, Bool, true, false, IsTrue, All, AllPairs, Contains, Option, None, Some, Ok, Err, Result, refl, sym, ap, subst, ◌∙◌, arith}
-use Rattle.std.specs.Prelude.{unwrap_or, if◌then◌else◌, nat_le, nat_lt, cond, option_map, position, ⊤}
+use Rattle.std.proofs.Common.{◌≡◌, ◌≢◌, ℕ, zero, suc, ◌+◌, ◌<◌, ◌≤◌, ◌⊎◌, ◌==◌, ◌||◌, not, inl, inr, List, [], ◌∷◌, length, get_or, take, drop, Bool, true, false, All, Contains, Option, None, Some, Ok, Err, Result, refl, sym, ap, subst, ◌∙◌, arith}
+use Rattle.std.specs.Prelude.{unwrap_or, if◌then◌else◌, nat_le, nat_lt, cond, position, ⊤}
 use Rattle.std.specs.List.{list_any}
 use Rattle.std.specs.Option.{ForSome, is_some}
 use Rattle.std.specs.Result.{IfOk}
@@ -14,17 +14,16 @@ use Rattle.fill_tree.specs.declared.user.Constants.TheVariants.{Any}
 use Rattle.fill_script.specs.Line.{columns_in, constants_in, constants_of, depth_in, header_in, inputs_in, is_begin, is_text, key_from, key_in, name_in, number_between, output_in, profile_in, sheet_in, statement_in, table_from, table_in}
 use Rattle.fill_script.specs.Opening.{after_line, after_lines, after_statement, clashes, is_said, is_understood, is_wide, onward, unset, with_statement}
 use Rattle.fill_script.specs.Entries.{entries_from}
-use Rattle.fill_script.specs.Script.{AreSettings, IsScript, IsTableLine, assembled, read_script, script_from, script_in, script_with, settings_of, unless_more}
+use Rattle.fill_script.specs.Script.{AreSettings, IsScript, IsTableLine, assembled, read_script, script_from, script_with, unless_more}
 use Rattle.fill_script.specs.declared.error.ScriptError.{ScriptError}
 use Rattle.fill_script.specs.declared.error.ScriptError.TheVariants as error
 use Rattle.fill_script.specs.declared.opening.Opening.{Opening}
 use Rattle.fill_script.specs.declared.script.Entry.{Entry}
 use Rattle.fill_script.specs.declared.script.Script.{Script}
-use Rattle.fill_script.specs.declared.script.TableLine.{TableLine}
 use Rattle.fill_script.specs.declared.script.TableLine.TheVariants.{Table, Key}
 use Rattle.fill_script.specs.declared.statement.Statement.{Statement}
 use Rattle.fill_script.specs.declared.statement.Statement.TheVariants as says
-use Rattle.fill_script.proofs.Lines.{AreColumns, columns-within, if_some, map_some, not_true, number-within}
+use Rattle.fill_script.proofs.Lines.{columns-within, if_some, map_some, not_true, number-within}
 
 -- what is true of what a line says
 abbrev IsStatement : Statement → Type 0

@@ -1,12 +1,11 @@
 -- The lines of a session file: their words, and what their fields spell. A line is a list of fields, the first its word.
-use Rattle.std.specs.Prelude.{ℕ, ◌+◌, ◌==◌, ◌&&◌, not, List, [], ◌∷◌, length, drop, map, Option, Some, None, Bool, true, false, if◌then◌else◌, nat_le, codes, option_and_then, option_map}
+use Rattle.std.specs.Prelude.{ℕ, ◌+◌, ◌==◌, ◌&&◌, not, List, [], ◌∷◌, length, drop, Option, Some, None, Bool, true, if◌then◌else◌, nat_le, codes, option_and_then, option_map}
 use Rattle.std.specs.List.{list_all, list_any}
 use Rattle.std.specs.Str.{bytes_eq, chars, is_utf8}
 use Rattle.fill_records.specs.Records.{field_of}
 use Rattle.fill_script.specs.Number.{number_in}
 use Rattle.fill_tree.specs.declared.user.Constants.{Constants}
 use Rattle.fill_tree.specs.declared.user.Constants.TheVariants.{Any, Separators}
-use Rattle.fill_script.specs.declared.script.TableLine.{TableLine}
 use Rattle.fill_script.specs.declared.script.TableLine.TheVariants.{Table, Key}
 use Rattle.fill_script.specs.declared.statement.Statement.{Statement}
 use Rattle.fill_script.specs.declared.statement.Statement.TheVariants as says

@@ -51,10 +51,16 @@ fn entry_in(alloc: Global, line: &Record) -> Result<Option<Entry>, NoMemory>
     ensures { IfOk result (λ entry. entry ≡ entry_in line.now) }
 {
     if is_word(line, b"add") {
-        return Ok(row_text_in(alloc, line)?.map(|(row, text)| Entry::Edit(Edit::Add { row, text })));
+        return Ok(row_text_in(alloc, line)?.map(|(row, text)| Entry::Edit(Edit::Add {
+            row,
+            text,
+        })));
     }
     if is_word(line, b"correct") {
-        return Ok(row_text_in(alloc, line)?.map(|(row, text)| Entry::Edit(Edit::Correct { row, text })));
+        return Ok(row_text_in(alloc, line)?.map(|(row, text)| Entry::Edit(Edit::Correct {
+            row,
+            text,
+        })));
     }
     if is_word(line, b"retract") {
         return Ok(row_in(line).map(|row| Entry::Edit(Edit::Retract { row })));

@@ -53,7 +53,12 @@ pub(crate) fn number_between(low: u32, high: u32, field: &[u8]) -> Option<u32>
 }
 
 /// The numbers from 1 to `high` that the fields from a place on spell, where each of them spells one.
-fn numbers_in(alloc: Global, line: &Record, first: usize, high: u32) -> Result<Option<List<u32>>, NoMemory>
+fn numbers_in(
+    alloc: Global,
+    line: &Record,
+    first: usize,
+    high: u32,
+) -> Result<Option<List<u32>>, NoMemory>
     ensures { IfOk result (λ numbers. numbers ≡ numbers_in high (drop first line.now)) }
 {
     let mut numbers = List::new(alloc);

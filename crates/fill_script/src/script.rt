@@ -34,7 +34,11 @@ pub struct Script {
 #[derive(Debug, Drop)]
 pub enum TableLine {
     /// Adds the table of a file under a name.
-    Table { number: u32, name: Name, file: Name },
+    Table {
+        number: u32,
+        name: Name,
+        file: Name,
+    },
     /// Adds a key to the table of a name.
     Key {
         number: u32,
@@ -98,7 +102,11 @@ impl Script {
     {
         let Some(place) = begin_in(lines) else {
             let _opening = Opening::of_lines(alloc, lines)?;
-            return Err(if more { TOO_MANY } else { ScriptError::MissingBegin });
+            return Err(if more {
+                TOO_MANY
+            } else {
+                ScriptError::MissingBegin
+            });
         };
         let Opening {
             sheet,

@@ -129,11 +129,7 @@ fn table_in(alloc: Global, number: u32, line: &Record) -> Result<Option<Statemen
     let Some(file) = name_in(alloc, line, 3)? else {
         return Ok(None);
     };
-    Ok(Some(Statement::Lookup(TableLine::Table {
-        number,
-        name,
-        file,
-    })))
+    Ok(Some(Statement::Lookup(TableLine::Table { number, name, file })))
 }
 
 /// `key,NAME,COLUMN,..`

@@ -27,8 +27,11 @@ fn begun_before(alloc: Global, line: &[u8]) -> Result<Option<ScriptError>, Fail>
 }
 
 const BAD: Option<ScriptError> = Some(ScriptError::BadRecord { number: 1 });
+
 const BAD_SECOND: Option<ScriptError> = Some(ScriptError::BadRecord { number: 2 });
+
 const AGAIN: Option<ScriptError> = Some(ScriptError::Again { number: 2 });
+
 const BAD_ENTRY: Option<ScriptError> = Some(ScriptError::BadRecord { number: 4 });
 
 #[test]
@@ -84,7 +87,10 @@ fn lines_of_the_opening(rt: HostRuntime) -> Result<(), Fail> {
         (b"undo", BAD),
         (b"\xff", Some(ScriptError::NotUtf8 { number: 1 })),
         (b"sheet,\xff", Some(ScriptError::NotUtf8 { number: 1 })),
-        (b"header\nnothing,\xff", Some(ScriptError::NotUtf8 { number: 2 })),
+        (
+            b"header\nnothing,\xff",
+            Some(ScriptError::NotUtf8 { number: 2 }),
+        ),
     ] {
         assert_eq!(rt; opened_after(rt.alloc(), lines)?, expected, "{lines:?}");
     }
@@ -114,10 +120,19 @@ fn sheets_inputs_and_begin(rt: HostRuntime) {
         (b"inputs,1\ninputs,2", AGAIN),
         (b"inputs,1,2\noutput,2", BAD_SECOND),
         (b"output,2\ninputs,1,2", BAD_SECOND),
-        (b"inputs,1\noutput,2\noutput,1", Some(ScriptError::BadRecord { number: 3 })),
-        (b"output,2\ninputs,1\ninputs,2", Some(ScriptError::BadRecord { number: 3 })),
+        (
+            b"inputs,1\noutput,2\noutput,1",
+            Some(ScriptError::BadRecord { number: 3 }),
+        ),
+        (
+            b"output,2\ninputs,1\ninputs,2",
+            Some(ScriptError::BadRecord { number: 3 }),
+        ),
         // of several lines the first that breaks a rule is told
-        (b"sheet,s\ninputs,1\nbegin\nadd,4294967296,x\n\xff", BAD_ENTRY),
+        (
+            b"sheet,s\ninputs,1\nbegin\nadd,4294967296,x\n\xff",
+            BAD_ENTRY,
+        ),
         (b"begin\n\xff", Some(ScriptError::MissingSheet)),
     ] {
         assert_eq!(rt; refusal(rt.alloc(), bytes), expected, "{bytes:?}");
@@ -178,7 +193,8 @@ fn the_thousandth_line(rt: HostRuntime) -> Result<(), Fail> {
 
 #[test]
 fn a_whole_script(rt: HostRuntime) -> Result<(), Fail> {
-    let bytes = b"table,t,t.csv\nprofile,2\nkey,t,2,1\nheader\noutput,3\ndepth,3\ninputs,2,1\nconstants,separators\nsheet,s.csv\nbegin\nadd,2,x\ncorrect,2,\nretract,2\nclear\nprograms\nswitch\nfill\ncount\nanswer,7\n";
+    let bytes =
+        b"table,t,t.csv\nprofile,2\nkey,t,2,1\nheader\noutput,3\ndepth,3\ninputs,2,1\nconstants,separators\nsheet,s.csv\nbegin\nadd,2,x\ncorrect,2,\nretract,2\nclear\nprograms\nswitch\nfill\ncount\nanswer,7\n";
     let script = Script::read(rt.alloc(), bytes)?;
     assert_eq!(rt; script.sheet.as_str(), "s.csv");
     assert!(rt; script.header);
@@ -210,7 +226,12 @@ fn a_whole_script(rt: HostRuntime) -> Result<(), Fail> {
     match script.entries.as_slice() {
         [
             Entry::Edit(Edit::Add { row: 2, text }),
-            Entry::Edit(Edit::Correct { row: 2, text: other }),
+            Entry::Edit(
+                Edit::Correct {
+                    row: 2,
+                    text: other,
+                },
+            ),
             Entry::Edit(Edit::Retract { row: 2 }),
             Entry::Edit(Edit::Clear),
             Entry::Programs,

@@ -24,7 +24,7 @@ place_in (n ∷ names) (t ∷ tables) name text is =
     let here : chars (string_bytes n) ≡ t.name = cc in
     let later : map (λ m. chars (string_bytes m)) names ≡ map (λ u. u.name) tables = cc in
     let test : bytes_eq name (string_bytes n) ≡ bytes_eq t.name (chars name) =
-      same_chars name (string_bytes n) text (is.text 0 n (omega arith)) ∙ bytes_eq-sym (chars name) (chars (string_bytes n)) ∙ ap (λ (u : List ℕ). bytes_eq u (chars name)) here in
+    same_chars name (string_bytes n) text (is.text 0 n (omega arith)) ∙ bytes_eq-sym (chars name) (chars (string_bytes n)) ∙ ap (λ (u : List ℕ). bytes_eq u (chars name)) here in
     let rest = place_in names tables name text (record { same = later; text = λ k d lt. is.text (suc k) d (omega arith) }) in
     rw (test, rest) refl
 

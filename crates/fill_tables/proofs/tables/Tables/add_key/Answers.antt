@@ -14,10 +14,9 @@ pub invariant_of-self : goal.invariant_of-self
 invariant_of-self c =
     let found = rw (← c.self.view_is) at (sym c.place_of.ensures ∙ c.in-Some.is) in
     let lt = place-within c.self.inside.tables.items (chars c.args.name.now) c.in-Some.place found in
-    let there = slice_get_read c.self.inside.tables.items (length c.self.inside.tables.items) c.in-Some.place c.index_mut.result.now refl lt c.index_mut.ensures.value in
-    (
+    let there = slice_get_read c.self.inside.tables.items (length c.self.inside.tables.items) c.in-Some.place c.index_mut.result.now refl lt c.index_mut.ensures.value in (
       set-tables c.self.inside.tables.items c.in-Some.place c.add_key.new.self c.index_mut.result.now c.self.invariant.0 c.add_key.ensures.shape lt there c.add_key.ensures.name,
-      index-set c.self.inside.names.keys c.self.inside.tables.items c.in-Some.place c.add_key.new.self c.index_mut.result.now c.self.invariant.1 there c.add_key.ensures.name
+      index-set c.self.inside.names.keys c.self.inside.tables.items c.in-Some.place c.add_key.new.self c.index_mut.result.now c.self.invariant.1 there c.add_key.ensures.name,
     )
 
 pub returns-clause-ok : goal.returns-clause-ok
