@@ -1,3 +1,4 @@
+pub mod Later
 pub mod Lines
 pub mod Numbers
 pub mod Proper

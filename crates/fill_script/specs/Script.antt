@@ -1,5 +1,5 @@
 -- The session file: the script that its records spell, or the one refusal.
-use Rattle.std.specs.Prelude.{ℕ, ◌+◌, List, length, take, drop, position, All, Option, Some, None, Result, Ok, Err, Bool, true, false, if◌then◌else◌, nat_lt, unwrap_or, ⊤}
+use Rattle.std.specs.Prelude.{◌≡◌, ◌==◌, ℕ, ◌+◌, ◌≤◌, ◌⊎◌, List, length, take, drop, position, All, Option, Some, None, Result, Ok, Err, Bool, true, false, if◌then◌else◌, nat_lt, cond, unwrap_or, ⊤}
 use Rattle.fill_records.specs.Records.{records_of}
 use Rattle.fill_sheet.specs.Columns.{AreInputs, IsOutput}
 use Rattle.fill_tables.specs.Keys.{AreKeyColumns}

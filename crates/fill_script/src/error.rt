@@ -21,10 +21,10 @@ pub enum ScriptError {
     #[error("record {number} comes again")]
     Again { number: u32 },
     /// No line before `begin` names the sheet.
-    #[error("no sheet is named")]
+    #[error("no sheet")]
     MissingSheet,
     /// No line before `begin` names the input columns.
-    #[error("no inputs are named")]
+    #[error("no inputs")]
     MissingInputs,
     /// No line is `begin`.
     #[error("no begin")]

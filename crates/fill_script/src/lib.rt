@@ -3,6 +3,7 @@
 
 mod entries;
 mod error;
+pub mod laws;
 mod line;
 mod number;
 mod opening;
