@@ -14,7 +14,8 @@ use Rattle.fill_tree.specs.declared.user.Constants.TheVariants.{Any}
 use Rattle.fill_script.specs.Line.{columns_in, constants_in, constants_of, depth_in, header_in, inputs_in, is_begin, is_text, key_from, key_in, name_in, number_between, output_in, profile_in, sheet_in, statement_in, table_from, table_in}
 use Rattle.fill_script.specs.Opening.{after_line, after_lines, after_statement, clashes, is_said, is_understood, is_wide, onward, unset, with_statement}
 use Rattle.fill_script.specs.Entries.{entries_from}
-use Rattle.fill_script.specs.Script.{AreSettings, IsScript, IsTableLine, assembled, read_script, script_from, script_with, unless_more}
+use Rattle.fill_tree.specs.Grammar.{AreSettings}
+use Rattle.fill_script.specs.Script.{IsScript, IsTableLine, assembled, read_script, script_from, script_with, unless_more}
 use Rattle.fill_script.specs.declared.error.ScriptError.{ScriptError}
 use Rattle.fill_script.specs.declared.error.ScriptError.TheVariants as error
 use Rattle.fill_script.specs.declared.opening.Opening.{Opening}
