@@ -1,7 +1,7 @@
 -- Orders that compare a cost first, and the least of what has a property.
 use Rattle.std.specs.Prelude.{◌≡◌, ◌⊎◌, ℕ, Option, Some, None}
 use Rattle.std.specs.declared.cmp.Ordering.{Ordering}
-use Rattle.std.specs.declared.cmp.Ordering.TheVariants.{Less, Equal}
+use Rattle.std.specs.declared.cmp.Ordering.TheVariants.{Less}
 use Rattle.std.specs.Ordering.{nat_cmp, ordering_then}
 use Rattle.fill_tokens.specs.Place.{place_cost, place_cmp}
 use Rattle.fill_tokens.specs.declared.place.Place.{Place}
