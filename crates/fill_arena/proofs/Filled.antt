@@ -31,7 +31,7 @@ module _ (c : List Entry) (made : IsWellMade c) where
       let one = source_item_filled s first.0 (all.each 0 first.0 first.1) in
       (one.0, (live.0, live.1, (first.0, (0, first.1), one.1)))
 
-  atom_item_filled : (n : ℕ) (i : AtomItem) → IsAtomItem c n i → (a : AtomTree) × AtomFits a c i
+  pub atom_item_filled : (n : ℕ) (i : AtomItem) → IsAtomItem c n i → (a : AtomTree) × AtomFits a c i
   atom_item_filled n (atom.Const t) h = (constant t, refl)
   atom_item_filled n (atom.Whole b) h = let x = source_filled b h.0 in (whole x.0, x.1)
   atom_item_filled n (atom.Sub b l r) h =

@@ -14,3 +14,4 @@ pub mod WalksOn
 pub mod Meets
 pub mod Rows
 mod Samples
+pub mod Selves

@@ -20,7 +20,8 @@ use Rattle.fill_meet.specs.Product.{IsProduct, ArePairable}
 use Rattle.fill_meet.specs.Walked.{IsWalked}
 use Rattle.fill_meet.proofs.Grows.{atoms_within}
 use Rattle.fill_meet.proofs.Products.{product_stays}
-use Rattle.fill_meet.proofs.WalksOn.{walk_sets, trimmed_walks, product_walks, walks_product, product_short, corner}
+use Rattle.fill_trim.proofs.Programs.{walk_sets, trimmed_walks}
+use Rattle.fill_meet.proofs.WalksOn.{product_walks, walks_product, product_short, corner}
 
 pub graph_edges : (c : List Entry) (n nodes : ℕ) (edges : List Edge) → IsGraphOf c n nodes edges → AreEdges nodes edges
 graph_edges c n nodes edges g = record { onward = λ k e h. (let x = g.each k e h in (x.onward, x.within)); ordered = g.ordered }

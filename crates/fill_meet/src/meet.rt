@@ -1,6 +1,8 @@
 //! The intersection of graphs.
-ghost use Rattle.std.specs.Prelude.{◌≡◌, ◌+◌, IfOk, OnErr, IfNone, MatchOption};
+ghost use Rattle.std.specs.Prelude.{◌≡◌, ◌+◌, Ok, Some, IfOk, OnErr, OnSome, IfNone, MatchOption};
+ghost use Rattle.fill_tree.specs.Tree.{Atoms};
 ghost use Rattle.fill_arena.specs.Contents.{Extends, HasEdges, IsGraph};
+ghost use Rattle.fill_arena.specs.Stands.{ProgramStands};
 ghost use Rattle.fill_meet.specs.Meet.{IsMeet, NoneInBoth};
 ghost use Rattle.fill_meet.specs.Walked.{IsWalked};
 
@@ -14,7 +16,8 @@ use std::alloc::Global;
 
 /// The graph of the programs that stand in both graphs, or none where there are none.
 ///
-/// Where it makes no graph, it leaves the arena as it was. It takes one step, whatever it answers.
+/// Of a graph and itself that is the graph. Where it makes no graph, it leaves the arena as it was. It takes one step,
+/// whatever it answers.
 pub fn meet<L: Ledger>(
     alloc: Global,
     arena: &mut Arena,
@@ -25,14 +28,24 @@ pub fn meet<L: Ledger>(
     requires first { IsGraph arena.old a }
     requires second { IsGraph arena.old b }
     ensures met { IfOk result (λ made. MatchOption made (NoneInBoth arena.old a b) (IsMeet arena.old a b arena.new)) }
+    ensures some { IfOk result (λ made. OnSome made ((p : Atoms) × ProgramStands arena.old a p × ProgramStands arena.old b p)) }
     ensures none { IfOk result (λ made. IfNone made (arena.new ≡ arena.old)) }
+    ensures same { a ≡ b → (result ≡ Ok (Some a)) × (arena.new ≡ arena.old) }
     ensures kept { Extends arena.old arena.new }
     ensures err { OnErr result (arena.new ≡ arena.old) }
     ensures step { steps.new ≡ steps.old + 1 }
 {
+    if a == b {
+        arena.keeps_made();
+        steps.tick();
+        return Ok(Some(a));
+    }
     let mark = arena.mark();
     match meet_uncut(alloc, arena, a, b, steps) {
-        Ok(Some(made)) => Ok(Some(made)),
+        Ok(Some(made)) => {
+            arena.keeps_made();
+            Ok(Some(made))
+        }
         Ok(None) => {
             arena.cut(mark);
             Ok(None)

@@ -1,24 +1,69 @@
-//! What two sorted lists of places have in common.
-ghost use Rattle.std.specs.Prelude.{◌≡◌, ◌↔◌, ◌++◌, ◌∷◌, [], All, IfOk};
+//! What two sets of places have in common.
+ghost use Rattle.std.specs.Prelude.{◌≡◌, ◌↔◌, ◌++◌, ◌∷◌, [], All, IfOk, OnOk};
 ghost use Rattle.std.specs.List.{AllPairs};
 ghost use Rattle.std.specs.declared.cmp.Ordering.TheVariants.{Less};
 ghost use Rattle.fill_tokens.specs.Place.{place_cmp};
 ghost use Rattle.fill_tokens.specs.PlaceGrammar.{IsPlace};
 ghost use Rattle.fill_tokens.specs.declared.place.Place.{Place};
-ghost use Rattle.fill_arena.specs.Contents.{In};
+ghost use Rattle.fill_arena.specs.Contents.{Extends, In, IsPlaceSet};
 ghost use Rattle.fill_arena.specs.WellMade.{ArePlaces};
+ghost use Rattle.fill_meet.specs.Memory.{IsRight};
+ghost use Rattle.fill_meet.specs.Sets.{PlaceSetsMeet};
 
+use crate::memo::{Memo, find_places, put_places};
+use fill_arena::{Arena, PlaceSet};
 use fill_text::{List, NoMemory};
 use fill_tokens::Place;
 use std::alloc::Global;
 use std::cmp::Ordering;
 
+/// The set of the places that stand in both sets, or none where there are none.
+pub(crate) fn meet_places(
+    arena: &mut Arena,
+    memo: &mut Memo,
+    s: PlaceSet,
+    t: PlaceSet,
+) -> Result<Option<PlaceSet>, NoMemory>
+    requires memo { IsRight arena.old memo.old }
+    requires first { IsPlaceSet arena.old s }
+    requires second { IsPlaceSet arena.old t }
+    ensures kept { Extends arena.old arena.new }
+    ensures memo { OnOk result (IsRight arena.new memo.new) }
+    ensures met { IfOk result (PlaceSetsMeet arena.new s t) }
+{
+    if s == t {
+        arena.keeps_made();
+        return Ok(Some(s));
+    }
+    if let Some(made) = find_places(&memo.places, s, t) {
+        return Ok(made);
+    }
+    let made = make_places(arena, memo, s, t)?;
+    put_places(&mut memo.places, s, t, &made)?;
+    Ok(made)
+}
+
+fn make_places(
+    arena: &mut Arena,
+    memo: &Memo,
+    s: PlaceSet,
+    t: PlaceSet,
+) -> Result<Option<PlaceSet>, NoMemory>
+    requires first { IsPlaceSet arena.old s }
+    requires second { IsPlaceSet arena.old t }
+    ensures kept { Extends arena.old arena.new }
+    ensures met { IfOk result (PlaceSetsMeet arena.new s t) }
+{
+    arena.keeps_made();
+    let both = common_places(memo.alloc, arena.places(s), arena.places(t))?;
+    if both.len() == 0 {
+        return Ok(None);
+    }
+    Ok(Some(arena.intern_places(both.as_slice())?))
+}
+
 /// The places of both lists, found by one merge.
-pub(crate) fn common_places(
-    alloc: Global,
-    xs: &[Place],
-    ys: &[Place],
-) -> Result<List<Place>, NoMemory>
+fn common_places(alloc: Global, xs: &[Place], ys: &[Place]) -> Result<List<Place>, NoMemory>
     requires first { ArePlaces xs.now }
     requires second { ArePlaces ys.now }
     ensures both { IfOk result (λ both. (p : Place) → In p both ↔ (In p xs.now × In p ys.now)) }

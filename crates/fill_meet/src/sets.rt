@@ -1,19 +1,15 @@
 //! What stands in two sets.
 ghost use Rattle.std.specs.Prelude.{◌≡◌, ◌↔◌, ℕ, ◌+◌, ◌<◌, [], ◌∷◌, ◌++◌, length, IsTrue, IfOk, OnOk, IfSome, MatchOption};
-ghost use Rattle.fill_arena.specs.Contents.{EachIn, Extends, IsAtomSet, IsPlaceSet, IsSourceSet, SomeIn};
+ghost use Rattle.fill_arena.specs.Contents.{EachIn, Extends, IsAtomSet, IsSourceSet, SomeIn};
 ghost use Rattle.fill_arena.specs.Stands.{SomeAtom};
 ghost use Rattle.fill_arena.specs.WellMade.{IsAtomItem, IsConditionItem, OlderAtoms};
 ghost use Rattle.fill_meet.specs.Memory.{IsRight};
-ghost use Rattle.fill_meet.specs.Sets.{AreConditions, AtomIn, AtomItemsMeet, AtomSetsMeet, ConditionsMeet, HaveSameNumbers, IsCommonConstant, IsFilled, IsPartItem, NamesAtoms, NamesOlder, PairsState, PartsMeet, PlaceSetsMeet, RowsMeet, SelectsMeet, SourceIn, SourceItemsMeet, SourceSetsMeet};
+ghost use Rattle.fill_meet.specs.Sets.{AreConditions, AtomIn, AtomItemsMeet, AtomSetsMeet, ConditionsMeet, HaveSameNumbers, IsCommonConstant, IsFilled, IsPartItem, NamesAtoms, NamesOlder, PairsState, PartsMeet, RowsMeet, SelectsMeet, SourceIn, SourceItemsMeet, SourceSetsMeet};
 
 use crate::copy::{copy_atoms, copy_sources};
-use crate::memo::{
-    Memo, find_atoms, find_places, find_sources, put_atoms, put_places, put_sources,
-};
-use crate::places::common_places;
-use fill_arena::{
-    Arena, AtomItem, AtomSet, ConditionItem, PlaceSet, SelectItem, SourceItem, SourceSet,
-};
+use crate::memo::{Memo, find_atoms, find_sources, put_atoms, put_sources};
+use crate::places::meet_places;
+use fill_arena::{Arena, AtomItem, AtomSet, ConditionItem, SelectItem, SourceItem, SourceSet};
 use fill_text::{List, NoMemory, Text};
 
 /// The set of the atoms that stand in both sets, or none where there are none.
@@ -31,6 +27,10 @@ pub(crate) fn meet_atoms(
     ensures memo { OnOk result (IsRight arena.new memo.new) }
     ensures met { IfOk result (AtomSetsMeet arena.new s t) }
 {
+    if s == t {
+        arena.keeps_made();
+        return Ok(Some(s));
+    }
     if let Some(made) = find_atoms(&memo.atoms, s, t) {
         return Ok(made);
     }
@@ -137,47 +137,6 @@ fn meet_atom_items(
     }
 }
 
-/// The set of the places that stand in both sets, or none where there are none.
-fn meet_places(
-    arena: &mut Arena,
-    memo: &mut Memo,
-    s: PlaceSet,
-    t: PlaceSet,
-) -> Result<Option<PlaceSet>, NoMemory>
-    requires memo { IsRight arena.old memo.old }
-    requires first { IsPlaceSet arena.old s }
-    requires second { IsPlaceSet arena.old t }
-    ensures kept { Extends arena.old arena.new }
-    ensures memo { OnOk result (IsRight arena.new memo.new) }
-    ensures met { IfOk result (PlaceSetsMeet arena.new s t) }
-{
-    if let Some(made) = find_places(&memo.places, s, t) {
-        return Ok(made);
-    }
-    let made = make_places(arena, memo, s, t)?;
-    put_places(&mut memo.places, s, t, &made)?;
-    Ok(made)
-}
-
-fn make_places(
-    arena: &mut Arena,
-    memo: &Memo,
-    s: PlaceSet,
-    t: PlaceSet,
-) -> Result<Option<PlaceSet>, NoMemory>
-    requires first { IsPlaceSet arena.old s }
-    requires second { IsPlaceSet arena.old t }
-    ensures kept { Extends arena.old arena.new }
-    ensures met { IfOk result (PlaceSetsMeet arena.new s t) }
-{
-    arena.keeps_made();
-    let both = common_places(memo.alloc, arena.places(s), arena.places(t))?;
-    if both.len() == 0 {
-        return Ok(None);
-    }
-    Ok(Some(arena.intern_places(both.as_slice())?))
-}
-
 /// The set of the sources that stand in both sets, or none where there are none.
 #[cycle(meet)]
 fn meet_sources(
@@ -193,6 +152,10 @@ fn meet_sources(
     ensures memo { OnOk result (IsRight arena.new memo.new) }
     ensures met { IfOk result (SourceSetsMeet arena.new s t) }
 {
+    if s == t {
+        arena.keeps_made();
+        return Ok(Some(s));
+    }
     if let Some(made) = find_sources(&memo.sources, s, t) {
         return Ok(made);
     }

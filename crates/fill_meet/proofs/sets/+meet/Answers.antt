@@ -16,6 +16,7 @@ use Rattle.fill_meet.proofs.AtomPairs as atoms
 use Rattle.fill_meet.proofs.Parts.{parts_apart, parts_constants, parts_met, met_set, condition_met}
 use Rattle.fill_meet.proofs.Conditions.{rows_push}
 use Rattle.fill_meet.proofs.Selects as selects
+use Rattle.fill_meet.proofs.Selves.{number_same, atoms_self, sources_self, atoms_mirror, sources_mirror, told}
 use Rattle.fill_meet.proofs.sets.+meet.Goals as goal
 
 pub make_atoms-loop-i-init : goal.make_atoms-loop-i-init
@@ -148,7 +149,7 @@ pub meet_atom_row-returns-clause-pairs : goal.meet_atom_row-returns-clause-pairs
 meet_atom_row-returns-clause-pairs n c = state_row AtomIn IsAtomItem atom_item_stays _ _ _ _ _ _ _ c.loop-j-test.false c.loop-j.invariant.pairs
 
 pub meet_atoms-returns-in-Some-clause-met : goal.meet_atoms-returns-in-Some-clause-met
-meet_atoms-returns-in-Some-clause-met n c = c.requires.memo.atoms.each (c.args.s, c.args.t) _ c.in-Some.ensures
+meet_atoms-returns-in-Some-clause-met n c = told (AtomSetsMeet c.args.arena.now) (atoms_mirror c.args.arena.now) _ c.args.s c.args.t _ c.requires.memo.atoms c.in-Some.ensures
 
 pub meet_atoms-returns-clause-memo : goal.meet_atoms-returns-clause-memo
 meet_atoms-returns-clause-memo n c =
@@ -256,7 +257,7 @@ pub meet_source_row-returns-clause-pairs : goal.meet_source_row-returns-clause-p
 meet_source_row-returns-clause-pairs n c = state_row SourceIn NamesOlder source_item_stays _ _ _ _ _ _ _ c.loop-j-test.false c.loop-j.invariant.pairs
 
 pub meet_sources-returns-in-Some-clause-met : goal.meet_sources-returns-in-Some-clause-met
-meet_sources-returns-in-Some-clause-met n c = c.requires.memo.sources.each (c.args.s, c.args.t) _ c.in-Some.ensures
+meet_sources-returns-in-Some-clause-met n c = told (SourceSetsMeet c.args.arena.now) (sources_mirror c.args.arena.now) _ c.args.s c.args.t _ c.requires.memo.sources c.in-Some.ensures
 
 pub meet_sources-returns-clause-memo : goal.meet_sources-returns-clause-memo
 meet_sources-returns-clause-memo n c =
@@ -266,3 +267,9 @@ meet_sources-returns-clause-memo n c =
       sources = right_put (SourceSetsMeet c.make_sources.new.arena) _ _ _ _ _ c.in_ok-put_sources.ensures c.in_ok-made.ensures.met right.sources;
       atoms = right.atoms;
     }
+
+pub meet_atoms-returns-then-eq-clause-met : goal.meet_atoms-returns-then-eq-clause-met
+meet_atoms-returns-then-eq-clause-met n c = atoms_self c.args.arena.now c.keeps_made.ensures c.args.s c.args.t (number_same c.args.s c.args.t (sym c.eq.ensures ∙ c.if-eq.true)) c.requires.first
+
+pub meet_sources-returns-then-eq-clause-met : goal.meet_sources-returns-then-eq-clause-met
+meet_sources-returns-then-eq-clause-met n c = sources_self c.args.arena.now c.keeps_made.ensures c.args.s c.args.t (number_same c.args.s c.args.t (sym c.eq.ensures ∙ c.if-eq.true)) c.requires.first

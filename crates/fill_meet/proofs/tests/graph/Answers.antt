@@ -1,5 +1,7 @@
 use Rattle.fill_arena.specs.Contents.{IsSourceSet, IsAtomSet}
-use Rattle.fill_meet.proofs.Samples.{sample_atoms, sample_graph}
+use Rattle.std.proofs.Common.{[]}
+use Rattle.fill_arena.proofs.Samples.{sample_graph, one_set}
+use Rattle.fill_meet.proofs.Samples.{sample_atoms}
 use Rattle.fill_meet.proofs.tests.graph.Goals as goal
 
 pub intern_atoms-requires : goal.intern_atoms-requires
@@ -12,4 +14,4 @@ pub intern_graph-requires : goal.intern_graph-requires
 intern_graph-requires g c =
     let now = c.intern_atoms.new.self in
     let atoms : IsAtomSet now c.in_ok-all.all = (_, c.in_ok-all.ensures.ok) in
-    rw c.in_ok-edges.ensures (sample_graph now c.in_ok-all.all atoms)
+    rw c.in_ok-edges.ensures (sample_graph now c.in_ok-all.all [] (one_set now c.in_ok-all.all atoms))

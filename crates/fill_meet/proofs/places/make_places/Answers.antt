@@ -2,7 +2,7 @@ use Rattle.std.proofs.Common.{sym, ◌∙◌, ap, Some}
 use Rattle.fill_arena.specs.declared.entry.Entry.TheVariants.{Places}
 use Rattle.fill_arena.proofs.Lists.{extends_same}
 use Rattle.fill_meet.proofs.Listed.{places_met, places_apart}
-use Rattle.fill_meet.proofs.sets.make_places.Goals as goal
+use Rattle.fill_meet.proofs.places.make_places.Goals as goal
 
 pub common_places-requires-clause-first : goal.common_places-requires-clause-first
 common_places-requires-clause-first c = c.keeps_made.ensures c.args.s (Places c.places.result.now) c.places.ensures

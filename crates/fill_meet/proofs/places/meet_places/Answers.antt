@@ -1,0 +1,20 @@
+use Rattle.std.proofs.Common.{sym, ◌∙◌}
+use Rattle.fill_meet.specs.Sets.{PlaceSetsMeet}
+use Rattle.fill_meet.proofs.Memories.{right_stays, right_put}
+use Rattle.fill_meet.proofs.Selves.{number_same, places_self, places_mirror, told}
+use Rattle.fill_meet.proofs.places.meet_places.Goals as goal
+
+pub returns-in-Some-clause-met : goal.returns-in-Some-clause-met
+returns-in-Some-clause-met c = told (PlaceSetsMeet c.args.arena.now) (places_mirror c.args.arena.now) _ c.args.s c.args.t _ c.requires.memo.places c.in-Some.ensures
+
+pub returns-clause-memo : goal.returns-clause-memo
+returns-clause-memo c =
+    let right = right_stays _ _ c.make_places.ensures.kept _ c.requires.memo in
+    record {
+      places = right_put (PlaceSetsMeet c.make_places.new.arena) _ _ _ _ _ c.in_ok-put_places.ensures c.in_ok-made.ensures.met right.places;
+      sources = right.sources;
+      atoms = right.atoms;
+    }
+
+pub returns-then-eq-clause-met : goal.returns-then-eq-clause-met
+returns-then-eq-clause-met c = places_self c.args.arena.now c.keeps_made.ensures c.args.s c.args.t (number_same c.args.s c.args.t (sym c.eq.ensures ∙ c.if-eq.true)) c.requires.first
