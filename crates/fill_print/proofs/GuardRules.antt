@@ -66,8 +66,8 @@ matched_forth b l s k h =
       most = h4.later.here.1;
     } in
     let text : s ≡ body lit k =
-        h.here ∙ ap (λ x. codes "Match(" ++ x) (h.later.here.2 ∙ ap (λ x. decimal c ++ 44 ∷ x) (h2.here ∙ ap (λ x. 91 ∷ x) (f.text ∙ ap (λ x. names r ++ 93 ∷ x)
-        (h4.here ∙ ap (λ x. 44 ∷ x) (h4.later.here.2 ∙ ap (λ x. decimal n ++ 41 ∷ x) h6.1))))) in
+    h.here ∙ ap (λ x. codes "Match(" ++ x) (h.later.here.2 ∙ ap (λ x. decimal c ++ 44 ∷ x) (h2.here ∙ ap (λ x. 91 ∷ x) (f.text ∙ ap (λ x. names r ++ 93 ∷ x)
+    (h4.here ∙ ap (λ x. 44 ∷ x) (h4.later.here.2 ∙ ap (λ x. decimal n ++ 41 ∷ x) h6.1))))) in
     let found : IsMatched b lit s k = record { sign = refl; rules = is; text = text } in
     subst (λ x. IsMatched b x s k) (sym h6.0) found
 

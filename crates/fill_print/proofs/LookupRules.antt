@@ -146,7 +146,7 @@ source_lookup depth deep = record {
       let part : has_part (atoms_of xs) ≡ true = f.0.part in
       let tail : 44 ∷ h3.middle ≡ after_commas (atoms_of xs) ++ 41 ∷ k = f.1 ∙ ap (λ x. after_commas (atoms_of xs) ++ 41 ∷ x) h4.later.1 in
       let text : s ≡ source_text (select c t n (atoms_of xs)) ++ k =
-          h.here ∙ ap (λ x. codes "Select(" ++ x) (h.later.here.2 ∙ ap (λ x. decimal c ++ 44 ∷ x) (h2.here.2 ∙ ap (λ x. decimal t ++ 44 ∷ x) (h3.here.2 ∙ ap (λ x. decimal n ++ x) tail))) ∙ lookup_text c t n (atoms_of xs) k in
+      h.here ∙ ap (λ x. codes "Select(" ++ x) (h.later.here.2 ∙ ap (λ x. decimal c ++ 44 ∷ x) (h2.here.2 ∙ ap (λ x. decimal t ++ 44 ∷ x) (h3.here.2 ∙ ap (λ x. decimal n ++ x) tail))) ∙ lookup_text c t n (atoms_of xs) k in
       subst (λ x. SourceFront depth x s k) (sym h4.later.0)
       (((h.later.here.0, omega (arith, h.later.here.1)), (h2.here.0, omega (arith, h2.here.1)), (h3.here.0, omega (arith, h3.here.1)), f.0.few, there_part (atoms_of xs) part, f.0.atoms), (let d = f.0.deep in omega (arith, d)), text);
   back = λ b s k h. go b s k h;

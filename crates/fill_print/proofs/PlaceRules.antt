@@ -75,8 +75,8 @@ place_between = record {
         end_right = side_end false true true q g.side;
       } in
       let text : s ≡ place_text (Pos r q z) ++ k =
-          h.here ∙ ap (λ x. codes "Pos([" ++ x) (f.text ∙ ap (λ x. names r ++ 93 ∷ x) (h2.here ∙ ap (λ x. codes ",[" ++ x) (g.text ∙ ap (λ x. names q ++ 93 ∷ x)
-          (h4.here ∙ ap (λ x. 44 ∷ x) (h4.later.here.2 ∙ ap (λ x. signed_decimal z ++ 41 ∷ x) h4.later.later.1))))) ∙ between_text r q z k in
+      h.here ∙ ap (λ x. codes "Pos([" ++ x) (f.text ∙ ap (λ x. names r ++ 93 ∷ x) (h2.here ∙ ap (λ x. codes ",[" ++ x) (g.text ∙ ap (λ x. names q ++ 93 ∷ x)
+      (h4.here ∙ ap (λ x. 44 ∷ x) (h4.later.here.2 ∙ ap (λ x. signed_decimal z ++ 41 ∷ x) h4.later.later.1))))) ∙ between_text r q z k in
       subst (λ x. PlaceFront x s k) (sym h4.later.later.0) ((h4.later.here.0, h4.later.here.1 refl, around), text);
   back = λ p s k ne h. go p s k ne h;
 }

@@ -67,8 +67,8 @@ part_sub depth = record {
       let q = h4.later.item in
       let h6 = h4.later.later in
       let text : s ≡ atom_text (sub t p q) ++ k =
-          h.here ∙ ap (λ x. codes "Sub(" ++ x) (h.later.here.2 ∙ ap (λ x. source_text t ++ x) (h2.here ∙ ap (λ x. 44 ∷ x) (h2.later.here.1 ∙ ap (λ x. place_text p ++ x)
-          (h4.here ∙ ap (λ x. 44 ∷ x) (h4.later.here.1 ∙ ap (λ x. place_text q ++ x) (h6.here ∙ ap (λ x. 41 ∷ x) h6.later.1)))))) ∙ sub_text t p q k in
+      h.here ∙ ap (λ x. codes "Sub(" ++ x) (h.later.here.2 ∙ ap (λ x. source_text t ++ x) (h2.here ∙ ap (λ x. 44 ∷ x) (h2.later.here.1 ∙ ap (λ x. place_text p ++ x)
+      (h4.here ∙ ap (λ x. 44 ∷ x) (h4.later.here.1 ∙ ap (λ x. place_text q ++ x) (h6.here ∙ ap (λ x. 41 ∷ x) h6.later.1)))))) ∙ sub_text t p q k in
       subst (λ x. PartFront depth x s k) (sym h6.later.0) (refl, ((h.later.here.0, h2.later.here.0, h4.later.here.0), h.later.here.1, text));
   back = λ a s k h. go a s k h;
 }

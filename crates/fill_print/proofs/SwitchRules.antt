@@ -31,7 +31,7 @@ case_whole = record {
       let g : Guard = record { first = h.item; second = h2.item } in
       let t : CaseTree = record { guard = g; program = h3.item } in
       let text : s ≡ case_text t ++ k =
-          h.here.1 ∙ ap (λ x. literal_text h.item ++ x) (h2.here.1 ∙ ap (λ x. (second_text h2.item ++ codes "=>") ++ x) (h3.here.1 ∙ ap (λ x. program_text h3.item ++ x) (h4.here ∙ ap (λ x. 59 ∷ x) h4.later.1))) ∙ spelled_case t k in
+      h.here.1 ∙ ap (λ x. literal_text h.item ++ x) (h2.here.1 ∙ ap (λ x. (second_text h2.item ++ codes "=>") ++ x) (h3.here.1 ∙ ap (λ x. program_text h3.item ++ x) (h4.here ∙ ap (λ x. 59 ∷ x) h4.later.1))) ∙ spelled_case t k in
       subst (λ x. CaseFront x s k) (sym h4.later.0) (((h.here.0, h2.here.0), h3.here.0), text);
   back = λ c s k h.
       let m2 : List ℕ = program_text c.program ++ (59 ∷ k) in
@@ -104,9 +104,11 @@ cases_forth room (c ∷ cs) s k h =
 cases_back : (room : ℕ) (cs : List CaseTree) (s k : List ℕ) → AreSpelledCases room cs s k → Cases room cs s k
 cases_back room [] s k h = h.text
 cases_back room (c ∷ cs) s k h =
-    let m : List ℕ = cases_text cs ++ (codes "else=>" ++ k) in
-    (m, ((let f = h.few in omega (arith, f)), (h.rules.0, h.text ∙ append_assoc (case_text c) (cases_text cs) (codes "else=>" ++ k))),
-    cases_back (room - 1) cs m k (record { few = (let f = h.few in omega (arith, f)); rules = h.rules.1; text = refl }))
+    let m : List ℕ = cases_text cs ++ (codes "else=>" ++ k) in (
+      m,
+      ((let f = h.few in omega (arith, f)), (h.rules.0, h.text ∙ append_assoc (case_text c) (cases_text cs) (codes "else=>" ++ k))),
+      cases_back (room - 1) cs m k (record { few = (let f = h.few in omega (arith, f)); rules = h.rules.1; text = refl }),
+    )
 
 joined : (w c e p d k : List ℕ) → w ++ (c ++ (e ++ (p ++ (d ++ k)))) ≡ ((((w ++ c) ++ e) ++ p) ++ d) ++ k
 joined w c e p d k = simp append_assoc
@@ -124,7 +126,7 @@ switch_whole = record {
       let f = cases_forth 7 cs h.middle h.later.middle h.later.here in
       let made : SwitchTree = record { cases = cs; last = p } in
       let text : s ≡ switch_text made ++ k =
-          h.here ∙ ap (λ x. codes "Switch(" ++ x) (f.text ∙ ap (λ x. cases_text cs ++ (codes "else=>" ++ x)) (h2.here.1 ∙ ap (λ x. program_text p ++ x) (h3.here ∙ ap (λ x. 41 ∷ x) h3.later.1))) ∙ spelled_switch cs p k in
+      h.here ∙ ap (λ x. codes "Switch(" ++ x) (f.text ∙ ap (λ x. cases_text cs ++ (codes "else=>" ++ x)) (h2.here.1 ∙ ap (λ x. program_text p ++ x) (h3.here ∙ ap (λ x. 41 ∷ x) h3.later.1))) ∙ spelled_switch cs p k in
       subst (λ x. SwitchFront x s k) (sym h3.later.0) ((f.few, f.rules, h2.here.0), text);
   back = λ t s k h.
       let m1 : List ℕ = program_text t.last ++ 41 ∷ k in

@@ -45,7 +45,7 @@ pub halts_fault : (bytes : List ℕ) (left : ℕ) → Halts WholeSwitch bytes le
 halts_fault bytes left halt =
     let h : Halts SwitchFront bytes left = same_halts switch_whole halt in
     let f = fault h.front h.rest (h.some, h.next ∷ h.more, (h.viable []).0, sym (append-nil (switch_text h.some)) ∙ sym (h.viable []).1 ∙ append-nil (h.front ++ h.next ∷ h.more))
-        (λ t r is same e. h.wrong t r [] same (is, sym e ∙ sym (append-nil (switch_text t)))) in
+    (λ t r is same e. h.wrong t r [] same (is, sym e ∙ sym (append-nil (switch_text t)))) in
     let at : length h.front ≡ length bytes - left = omega (arith, length-append h.front h.rest, ap length h.is, h.size) in
     subst (λ n. IsFault bytes n) at (subst (λ x. IsFault x (length h.front)) (sym h.is) f)
 
@@ -54,10 +54,10 @@ rest_fault bytes t b rest after taken e =
     let h : Takes SwitchFront bytes t rest = same_takes switch_whole taken in
     let whole = h.spelled [] in
     let f = fault h.front rest (t, [], whole.0, sym (append-nil (switch_text t)) ∙ sym whole.1)
-        (λ u r is same text.
-            let one = switch_one.law t u (h.front ++ r) r [] (h.spelled r) (is, sym text ∙ sym (append-nil (switch_text u))) in
-            let bad : SameHead (b ∷ after) [] = subst (λ x. SameHead (b ∷ after) x) one.1 (subst (λ x. SameHead x r) e same) in
-            bad) in
+    (λ u r is same text.
+    let one = switch_one.law t u (h.front ++ r) r [] (h.spelled r) (is, sym text ∙ sym (append-nil (switch_text u))) in
+    let bad : SameHead (b ∷ after) [] = subst (λ x. SameHead (b ∷ after) x) one.1 (subst (λ x. SameHead x r) e same) in
+    bad) in
     let at : length h.front ≡ length bytes - length rest = omega (arith, length-append h.front rest, ap length h.is) in
     subst (λ n. IsFault bytes n) at (subst (λ x. IsFault x (length h.front)) (sym h.is) f)
 

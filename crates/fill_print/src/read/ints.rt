@@ -3,9 +3,9 @@ ghost use Rattle.std.specs.Prelude.{◌≡◌, ◌≤◌, ◌<◌, ◌-◌, ◌�
 ghost use Rattle.fill_print.specs.Reading.{Reads, Plain};
 ghost use Rattle.fill_print.specs.Ints.{Int, Negative, Zero, Positive};
 
+use crate::read::bytes::{first, word};
 use crate::read::error::ReadError;
 use crate::read::numbers::number;
-use crate::read::bytes::{first, word};
 
 fn negated(n: u32) -> i32
     requires low { 1 ≤ n }

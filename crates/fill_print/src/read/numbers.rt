@@ -1,9 +1,10 @@
+//! Numbers without a sign.
 ghost use Rattle.std.specs.Prelude.{◌≡◌, ℕ, ◌<◌, ◌≤◌, MatchOption};
 ghost use Rattle.fill_print.specs.Reading.{Reads};
 ghost use Rattle.fill_print.specs.Numbers.{Number, PutsDigit};
 
-use crate::read::error::ReadError;
 use crate::read::bytes::first;
+use crate::read::error::ReadError;
 
 /// The number with one digit more, where it is within the limit.
 fn with_digit(value: u32, byte: u8, limit: u32) -> Option<u32>

@@ -40,11 +40,7 @@ fn some_atom(alloc: Global, bytes: &[u8]) -> Result<(Option<Atom>, &[u8]), ReadE
 }
 
 /// The next atom, or none at the bracket.
-fn next_atom(
-    alloc: Global,
-    bytes: &[u8],
-    first: bool,
-) -> Result<(Option<Atom>, &[u8]), ReadError>
+fn next_atom(alloc: Global, bytes: &[u8], first: bool) -> Result<(Option<Atom>, &[u8]), ReadError>
     ensures { Reads (λ x. option_map atom_tree x.0) (λ x. x.1.now) (AtomStep first) bytes.now result }
 {
     if first {

@@ -3,8 +3,8 @@ ghost use Rattle.std.specs.Prelude.{◌≡◌, ◌≤◌, ◌<◌, if◌then◌e
 ghost use Rattle.fill_print.specs.Reading.{Reads};
 ghost use Rattle.fill_print.specs.Utf8.{High, Ranged, Two, Three, Four, low_3, high_3, low_4, high_4};
 
-use crate::read::error::ReadError;
 use crate::read::bytes::first;
+use crate::read::error::ReadError;
 
 fn ranged(bytes: &[u8], low: u8, high: u8) -> Result<(u32, &[u8]), ReadError>
     requires { low ≤ high }

@@ -52,11 +52,7 @@ fn some_case(alloc: Global, bytes: &[u8]) -> Result<(Option<Case>, &[u8]), ReadE
 }
 
 /// The next case, if so many may still come, or none where the last program comes.
-fn next_case(
-    alloc: Global,
-    bytes: &[u8],
-    room: u32,
-) -> Result<(Option<Case>, &[u8]), ReadError>
+fn next_case(alloc: Global, bytes: &[u8], room: u32) -> Result<(Option<Case>, &[u8]), ReadError>
     ensures { Reads (λ x. option_map case_tree x.0) (λ x. x.1.now) (CaseStep room) bytes.now result }
 {
     if room == 0 {

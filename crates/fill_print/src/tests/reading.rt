@@ -68,7 +68,10 @@ fn hostile_texts_are_refused_at_the_first_wrong_byte(rt: HostRuntime) -> Result<
         (b"Switch(else=>Concat(Const('\xff", 27),
         (b"Switch(else=>Concat(Const('\\n", 28),
         (b"Switch(else=>Concat(Whole(Select(1,1,1,Const(''))", 48),
-        (b"Switch(else=>Concat(Whole(Select(1,1,1,Const(''),Const(''),Const", 59),
+        (
+            b"Switch(else=>Concat(Whole(Select(1,1,1,Const(''),Const(''),Const",
+            59,
+        ),
         (b"Switch(Match(1,[],1", 16),
         (b"Switch(Match(1,[Dot Dot Dot", 23),
         (b"Switch(Match(1,[Dot],4", 21),

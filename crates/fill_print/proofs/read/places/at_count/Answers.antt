@@ -19,6 +19,6 @@ returns-in_err-count c = exit _ _ _ _ (Int true 41) c.in_ok-rest.rest.now c.from
     (λ left h. in_rest (plain_one (codes "CPos(")) c.in_ok-rest.ensures (in_first h (λ z. gives_spelled _)))
 
 pub returns : goal.returns
-returns c = 
+returns c =
     let fits : FitsSigned w32 c.in_ok-count.count = search rules in
     subst (λ z. Takes AtCount c.args.bytes.now (CPos z) c.in_ok-count.rest.now) (sym (to_z-of_z w32 c.in_ok-count.count fits)) (both c.in_ok-rest.ensures (both c.in_ok-count.ensures done))

@@ -35,7 +35,7 @@ returns-in_err-count c = exit _ _ _ _ (Int false 41) c.in_ok-rest-3.rest.now c.f
     (λ left h. in_rest (plain_one (codes "Pos([")) c.in_ok-rest.ensures (in_rest (token_seq_one true false (AtStart 3 true)) c.in-Ok.ensures (in_rest (plain_one (codes ",[")) c.in_ok-rest-2.ensures (in_rest (token_seq_one false true (AtStart 3 (not_empty c.in-Ok.read.0))) c.in-Ok-right_seq.ensures (in_rest (plain_one (codes ",")) c.in_ok-rest-3.ensures (in_first h (λ z. gives_spelled _)))))))
 
 pub returns : goal.returns
-returns c = 
+returns c =
     let fits : FitsSigned w32 c.in_ok-count.count = search rules in
     subst (λ z. Takes Between c.args.bytes.now (Pos c.in-Ok.read.0 c.in-Ok-right_seq.read.0 z) c.in_ok-count.rest.now) (sym (to_z-of_z w32 c.in_ok-count.count fits))
     (both c.in_ok-rest.ensures (both c.in-Ok.ensures (both c.in_ok-rest-2.ensures (both c.in-Ok-right_seq.ensures (both c.in_ok-rest-3.ensures (both c.in_ok-count.ensures done))))))

@@ -38,7 +38,7 @@ lookup-returns-in_err-conditions t c = exit _ _ _ _ (Conditions c.args.depth at_
     (λ left h. in_rest (plain_one (codes "Select(")) c.in_ok-rest.ensures (in_rest (number_one greatest 44 (omega arith) (omega arith)) c.in_ok-column.ensures (in_rest (number_one greatest 44 (omega arith) (omega arith)) c.in_ok-table.ensures (in_rest (number_one greatest 44 (omega arith) (omega arith)) c.in_ok-key.ensures (in_first h (λ xs. gives_spelled _))))))
 
 pub lookup-returns : goal.lookup-returns
-lookup-returns t c = 
+lookup-returns t c =
     let e = c.in-Ok.ensures.ok in
     rw (lookup_tree c.in-Ok.boxed, e) (both c.in_ok-rest.ensures (both c.in_ok-column.ensures (both c.in_ok-table.ensures (both c.in_ok-key.ensures (both c.in_ok-conditions.ensures done)))))
 
@@ -116,17 +116,17 @@ pub source-returns-in-None : goal.source-returns-in-None
 source-returns-in-None t c = reads_else (λ x. source_tree x.0) (λ x. x.1.now) 83 c.args.bytes.now c.column-in-None.result (source_column c.args.depth) c.in-None.ensures c.column-in-None.ensures
 
 pub condition-returns-then-only_part : goal.condition-returns-then-only_part
-condition-returns-then-only_part t c = 
+condition-returns-then-only_part t c =
     let read = reads_same (λ x. atom_tree x.0) (λ x. x.1.now) c.args.bytes.now c.part.result (condition_only c.args.depth) c.part.ensures in
     subst (λ b. Reads (λ x. atom_tree x.0) (λ x. x.1.now) (ConditionFront c.args.depth b) c.args.bytes.now c.part.result) (sym c.if-only_part.true) read
 
 pub condition-returns-in-Some : goal.condition-returns-in-Some
-condition-returns-in-Some t c = 
+condition-returns-in-Some t c =
     let read = reads_via (λ x. atom_tree x.0) (λ x. x.1.now) 67 c.args.bytes.now c.in-Some._rest.now c.constant.result (condition_constant c.args.depth) c.in-Some.ensures c.constant.ensures in
     subst (λ b. Reads (λ x. atom_tree x.0) (λ x. x.1.now) (ConditionFront c.args.depth b) c.args.bytes.now c.constant.result) (sym c.if-only_part.false) read
 
 pub condition-returns-in-None : goal.condition-returns-in-None
-condition-returns-in-None t c = 
+condition-returns-in-None t c =
     let read = reads_else (λ x. atom_tree x.0) (λ x. x.1.now) 67 c.args.bytes.now c.part-in-None.result (condition_part c.args.depth) c.in-None.ensures c.part-in-None.ensures in
     subst (λ b. Reads (λ x. atom_tree x.0) (λ x. x.1.now) (ConditionFront c.args.depth b) c.args.bytes.now c.part-in-None.result) (sym c.if-only_part.false) read
 
@@ -152,19 +152,19 @@ pub next_condition-returns-in-None : goal.next_condition-returns-in-None
 next_condition-returns-in-None t c = reads_else (λ x. option_map atom_tree x.0) (λ x. x.1.now) 44 c.args.bytes.now c.no_condition-in-None.result (step_close c.args.depth (record { room = c.args.room; seen = c.args.seen }) c.if-room-eq3.false c.if-not-seen.false) c.in-None.ensures c.no_condition-in-None.ensures
 
 pub conditions-returns-in_err-next : goal.conditions-returns-in_err-next
-conditions-returns-in_err-next t c = 
+conditions-returns-in_err-next t c =
     let r : Room = record { room = c.loop-conditions.room; seen = c.loop-conditions.seen } in
     exit _ _ _ _ (ConditionStep c.args.depth r) c.loop-conditions.rest.now c.from_residual.ensures.1 c.in_err-next.ensures
     (λ left h. leads_halts (ConditionStep c.args.depth) after_one (Conditions c.args.depth at_start) r (conditions_complete c.args.depth r c.loop-conditions.invariant.room) (map atom_tree c.loop-conditions.conditions) c.args.bytes.now c.loop-conditions.rest.now left c.loop-conditions.invariant.read h)
 
 pub conditions-returns-in_default : goal.conditions-returns-in_default
-conditions-returns-in_default t c = 
+conditions-returns-in_default t c =
     let r : Room = record { room = c.loop-conditions.room; seen = c.loop-conditions.seen } in
     leads_end (ConditionStep c.args.depth) after_one (Conditions c.args.depth at_start) r (map atom_tree c.loop-conditions.conditions) c.args.bytes.now c.loop-conditions.rest.now c.in_ok-next.after.now c.loop-conditions.invariant.read
     (subst (λ x. Takes (ConditionStep c.args.depth r) c.loop-conditions.rest.now (option_map atom_tree x) c.in_ok-next.after.now) c.in_default.is c.in_ok-next.ensures)
 
 pub conditions-loop-conditions-preserved : goal.conditions-loop-conditions-preserved
-conditions-loop-conditions-preserved t c = 
+conditions-loop-conditions-preserved t c =
     let r : Room = record { room = c.loop-conditions.room; seen = c.loop-conditions.seen } in
     let a : AtomTree = atom_tree c.in-Some.condition in
     let read : Takes (ConditionStep c.args.depth r) c.loop-conditions.rest.now (Some a) c.in_ok-next.after.now =
