@@ -1,2 +1,20 @@
 mod Cases
+pub mod Chains
+pub mod Decimals
+pub mod Dispatch
+pub mod Encoding
+pub mod Folds
+pub mod GuardRules
+pub mod LookupRules
 pub mod Names
+pub mod PlaceRules
+pub mod ProgramRules
+pub mod Quotes
+pub mod Sequences
+pub mod Sides
+pub mod Signs
+pub mod SourceRules
+pub mod Strings
+pub mod SwitchRules
+pub mod TokenNames
+pub mod Whole

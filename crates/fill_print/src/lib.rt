@@ -5,9 +5,11 @@
 
 mod guards;
 mod pieces;
+mod read;
 mod trees;
 
 pub use guards::{print_guard, print_switch};
+pub use read::{ReadProgramError, read_switch, spellings_differ};
 pub use trees::print_program;
 
 #[cfg(test)]

@@ -1,3 +1,5 @@
+mod reading;
+
 use crate::{print_guard, print_program, print_switch};
 use fill_text::{List, Text};
 use fill_tokens::{Place, Seq, Token};

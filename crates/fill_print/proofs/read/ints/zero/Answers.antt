@@ -1,0 +1,7 @@
+use Rattle.std.proofs.Common.{◌∷◌, []}
+use Rattle.fill_print.specs.Reading.{Plain}
+use Rattle.fill_print.proofs.Chains.{exit, in_first, gives_spelled}
+use Rattle.fill_print.proofs.read.ints.zero.Goals as goal
+
+pub returns-in_err-rest : goal.returns-in_err-rest
+returns-in_err-rest c = exit _ _ _ _ (Plain (48 ∷ c.args.last ∷ [])) c.args.bytes.now c.from_residual.ensures.1 c.in_err-rest.ensures (λ left h. in_first h (λ u. gives_spelled _))

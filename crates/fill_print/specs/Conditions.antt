@@ -1,0 +1,61 @@
+-- Sources, conditions and other atoms at the front of bytes, and a lookup's conditions one after the other.
+use Rattle.std.specs.Prelude.{◌≡◌, ℕ, ◌-◌, ◌<◌, ◌≤◌, Bool, true, false, ◌||◌, List, [], ◌∷◌, ◌++◌, Option, Some, None, ◌==◌, if◌then◌else◌}
+use Rattle.fill_tokens.specs.PlaceGrammar.{IsPlace}
+use Rattle.fill_tokens.specs.declared.place.Place.{Place}
+use Rattle.fill_tree.specs.Grammar.{source_depth, atom_depth}
+use Rattle.fill_tree.specs.Tree.{SourceTree, AtomTree, constant, whole, sub}
+use Rattle.fill_print.specs.Notation.{place_text, source_text, atom_text}
+use Rattle.fill_print.specs.Reading.{ManyFrom}
+use Rattle.fill_print.specs.Rules.{IsSource, IsCondition}
+
+abbrev pub PlaceFront : Place → List ℕ → List ℕ → Type 0
+PlaceFront p s k = IsPlace p × (s ≡ place_text p ++ k)
+
+-- at most so many lookups stand inside each other
+abbrev pub SourceFront : ℕ → SourceTree → List ℕ → List ℕ → Type 0
+SourceFront depth t s k = IsSource t × (source_depth t ≤ depth) × (s ≡ source_text t ++ k)
+
+abbrev pub AtomFront : ℕ → AtomTree → List ℕ → List ℕ → Type 0
+AtomFront depth a s k = IsCondition a × (atom_depth a ≤ depth) × (s ≡ atom_text a ++ k)
+
+abbrev pub is_part : AtomTree → Bool
+is_part (constant t) = false
+is_part (whole t) = true
+is_part (sub t p q) = true
+
+-- an atom that is no constant
+abbrev pub PartFront : ℕ → AtomTree → List ℕ → List ℕ → Type 0
+PartFront depth a s k = (is_part a ≡ true) × AtomFront depth a s k
+
+-- how many conditions may still come, and whether one that is no constant was there
+pub record Room : Type 0 where
+  pub room : ℕ
+  pub seen : Bool
+
+abbrev pub at_start : Room
+at_start = record { room = 3; seen = false }
+
+abbrev pub after_one : Room → AtomTree → Room
+after_one r a = record { room = r.room - 1; seen = r.seen || is_part a }
+
+-- a comma stands before each condition but the first of the three
+abbrev pub comma : ℕ → List ℕ
+comma room = if room == 3 then [] else 44 ∷ []
+
+-- the next condition, which where it is the last chance is no constant, or the bracket
+abbrev pub ConditionStep : ℕ → Room → Option AtomTree → List ℕ → List ℕ → Type 0
+ConditionStep depth r None s k = (r.seen ≡ true) × (s ≡ 41 ∷ k)
+ConditionStep depth r (Some a) s k = (0 < r.room) × (m : List ℕ) × (s ≡ comma r.room ++ m) × (r.room ≡ 1 → r.seen ≡ false → is_part a ≡ true) × AtomFront depth a m k
+
+abbrev pub Conditions : ℕ → Room → List AtomTree → List ℕ → List ℕ → Type 0
+Conditions depth = ManyFrom (ConditionStep depth) after_one
+
+-- a state that reading comes to: each can be gone on from to an end
+pub record IsRoom (r : Room) : Type 0 where
+  pub few : r.room ≤ 3
+  pub first : r.room ≡ 3 → r.seen ≡ false
+  pub alive : r.seen ≡ false → 0 < r.room
+
+-- a condition, and where only that may come, one that is no constant
+abbrev pub ConditionFront : ℕ → Bool → AtomTree → List ℕ → List ℕ → Type 0
+ConditionFront depth only_part a s k = (only_part ≡ true → is_part a ≡ true) × AtomFront depth a s k

@@ -1,0 +1,87 @@
+-- The rules of the notation, each as a chain of what is read one after the other.
+use Rattle.std.specs.Prelude.{ℕ, Bool, true, false, List, [], ◌∷◌, codes, Option, Some, None}
+use Rattle.fill_tokens.specs.declared.token.Token.{Token}
+use Rattle.fill_tokens.specs.declared.place.Place.{Place}
+use Rattle.fill_tokens.specs.declared.place.Place.TheVariants.{CPos, Pos}
+use Rattle.fill_tree.specs.Tree.{SourceTree, AtomTree, Atoms, col, select, constant, whole, sub, atoms_of}
+use Rattle.fill_tree.specs.Switch.{CaseTree, SwitchTree}
+use Rattle.fill_tree.specs.declared.guard.Literal.{Literal}
+use Rattle.fill_print.specs.Conditions.{PlaceFront, SourceFront, ConditionFront, Conditions, at_start}
+use Rattle.fill_print.specs.Ints.{Int}
+use Rattle.fill_print.specs.Numbers.{Number}
+use Rattle.fill_print.specs.Programs.{ProgramAtom, ProgramAtoms, ProgramFront}
+use Rattle.fill_print.specs.Reading.{Then, Plain, Gives}
+use Rattle.fill_print.specs.Seqs.{TokenSeq, AtStart}
+use Rattle.fill_print.specs.Switches.{LiteralFront, SecondFront, Cases}
+use Rattle.fill_print.specs.Texts.{Quoted}
+
+abbrev pub greatest : ℕ
+greatest = 4294967295
+
+abbrev pub not_empty : List Token → Bool
+not_empty [] = false
+not_empty (t ∷ ts) = true
+
+abbrev pub AtCount : Place → List ℕ → List ℕ → Type 0
+AtCount = Then (Plain (codes "CPos(")) (λ u. Then (Int true 41) (λ z. Gives (CPos z)))
+
+abbrev pub Between : Place → List ℕ → List ℕ → Type 0
+Between = Then (Plain (codes "Pos([")) (λ u. Then (TokenSeq true false (AtStart 3 true)) (λ r. Then (Plain (codes ",[")) (λ v.
+    Then (TokenSeq false true (AtStart 3 (not_empty r))) (λ s. Then (Plain (codes ",")) (λ w. Then (Int false 41) (λ z. Gives (Pos r s z)))))))
+
+abbrev pub Column : SourceTree → List ℕ → List ℕ → Type 0
+Column = Then (Plain (codes "Col(")) (λ u. Then (Number greatest 41) (λ n. Gives (col n)))
+
+abbrev pub Lookup : ℕ → SourceTree → List ℕ → List ℕ → Type 0
+Lookup depth = Then (Plain (codes "Select(")) (λ u. Then (Number greatest 44) (λ c. Then (Number greatest 44) (λ t. Then (Number greatest 44) (λ k.
+    Then (Conditions depth at_start) (λ xs. Gives (select c t k (atoms_of xs)))))))
+
+abbrev pub Constant : Bool → AtomTree → List ℕ → List ℕ → Type 0
+Constant may_be_empty = Then (Plain (codes "Const('")) (λ u. Then (Quoted may_be_empty) (λ t. Then (Plain (codes ")")) (λ v. Gives (constant t))))
+
+abbrev pub WholePart : ℕ → AtomTree → List ℕ → List ℕ → Type 0
+WholePart depth = Then (Plain (codes "Whole(")) (λ u. Then (SourceFront depth) (λ t. Then (Plain (codes ")")) (λ v. Gives (whole t))))
+
+abbrev pub SubPart : ℕ → AtomTree → List ℕ → List ℕ → Type 0
+SubPart depth = Then (Plain (codes "Sub(")) (λ u. Then (SourceFront depth) (λ t. Then (Plain (codes ",")) (λ v. Then PlaceFront (λ p.
+    Then (Plain (codes ",")) (λ w. Then PlaceFront (λ q. Then (Plain (codes ")")) (λ x. Gives (sub t p q))))))))
+
+abbrev pub WholeProgram : Atoms → List ℕ → List ℕ → Type 0
+WholeProgram = Then (Plain (codes "Concat(")) (λ u. Then (ProgramAtoms true) (λ xs. Gives (atoms_of xs)))
+
+abbrev pub Matched : Bool → Literal → List ℕ → List ℕ → Type 0
+Matched negated = Then (Plain (codes "Match(")) (λ u. Then (Number greatest 44) (λ c. Then (Plain (codes "[")) (λ v. Then (TokenSeq true true (AtStart 2 false)) (λ r.
+    Then (Plain (codes ",")) (λ w. Then (Number 3 41) (λ n. Gives (record { negated = negated; column = c; seq = r; least = n })))))))
+
+abbrev pub SecondLiteral : Option Literal → List ℕ → List ℕ → Type 0
+SecondLiteral = Then LiteralFront (λ l. Then (Plain (codes "=>")) (λ u. Gives (Some l)))
+
+abbrev pub NoSecond : Option Literal → List ℕ → List ℕ → Type 0
+NoSecond = Then (Plain (codes "=>")) (λ u. Gives None)
+
+abbrev pub WholeCase : CaseTree → List ℕ → List ℕ → Type 0
+WholeCase = Then LiteralFront (λ l. Then SecondFront (λ o. Then ProgramFront (λ p. Then (Plain (codes ";")) (λ u.
+    Gives (record { guard = record { first = l; second = o }; program = p })))))
+
+abbrev pub WholeSwitch : SwitchTree → List ℕ → List ℕ → Type 0
+WholeSwitch = Then (Plain (codes "Switch(")) (λ u. Then (Cases 7) (λ cs. Then ProgramFront (λ p. Then (Plain (codes ")")) (λ v.
+    Gives (record { cases = cs; last = p })))))
+
+abbrev pub NoAtom : Option AtomTree → List ℕ → List ℕ → Type 0
+NoAtom = Then (Plain (codes ")")) (λ u. Gives None)
+
+abbrev pub SomeAtom : Option AtomTree → List ℕ → List ℕ → Type 0
+SomeAtom = Then ProgramAtom (λ a. Gives (Some a))
+
+abbrev pub NoCase : Option CaseTree → List ℕ → List ℕ → Type 0
+NoCase = Then (Plain (codes "else=>")) (λ u. Gives None)
+
+abbrev pub SomeCase : Option CaseTree → List ℕ → List ℕ → Type 0
+SomeCase = Then WholeCase (λ c. Gives (Some c))
+
+-- conditions: the first one, one behind a comma, and none
+abbrev pub FirstCondition : ℕ → Option AtomTree → List ℕ → List ℕ → Type 0
+FirstCondition depth = Then (ConditionFront depth false) (λ a. Gives (Some a))
+
+abbrev pub LaterCondition : ℕ → Bool → Option AtomTree → List ℕ → List ℕ → Type 0
+LaterCondition depth only_part = Then (Plain (codes ",")) (λ u. Then (ConditionFront depth only_part) (λ a. Gives (Some a)))
