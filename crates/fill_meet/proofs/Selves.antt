@@ -1,10 +1,10 @@
 -- A set has in common with itself what stands in it; and a pair has what its mirror has.
-use Rattle.std.proofs.Common.{rules, ◌≡◌, ◌⊎◌, ◌↔◌, inl, inr, true, nat_eq, ℕ, suc, ◌<◌, ◌≤◌, List, Option, Some, None, slice_get, sym, ◌∙◌, subst, arith}
+use Rattle.std.proofs.Common.{rules, ◌≡◌, ◌⊎◌, inl, inr, true, nat_eq, ℕ, List, Option, Some, None, slice_get, sym, ◌∙◌, subst, arith}
 use Rattle.std.proofs.lemmas.Option.{slice_get_within}
 use Rattle.std.specs.HashMap.{HashMap, get}
 use Rattle.fill_tree.specs.Tree.{AtomTree, Atoms}
 use Rattle.fill_arena.specs.Contents.{EachIn, Extends, IsPlaceSet, IsSourceSet, IsAtomSet, IsGraph}
-use Rattle.fill_arena.specs.Stands.{PlaceStands, SourceStands, AtomStands, AtomFits, ProgramStands}
+use Rattle.fill_arena.specs.Stands.{PlaceStands, SourceStands, AtomStands, ProgramStands}
 use Rattle.fill_arena.specs.WellMade.{IsWellMade}
 use Rattle.fill_arena.specs.declared.entry.AtomItem.{AtomItem}
 use Rattle.fill_arena.specs.declared.entry.Entry.{Entry}

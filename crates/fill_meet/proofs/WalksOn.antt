@@ -1,9 +1,9 @@
 -- The walks of a product are those of both graphs.
-use Rattle.std.proofs.Common.{◌≡◌, ◌↔◌, ℕ, zero, suc, ◌+◌, ◌-◌, ◌*◌, ◌<◌, ◌≤◌, inl, inr, List, [], ◌∷◌, length, refl, sym, ap, ◌∙◌, subst, arith}
+use Rattle.std.proofs.Common.{◌≡◌, ℕ, zero, suc, ◌+◌, ◌-◌, ◌*◌, ◌<◌, ◌≤◌, inl, inr, List, [], ◌∷◌, length, refl, sym, ap, ◌∙◌, subst, arith}
 use Rattle.std.proofs.Math.Nat.{suc-mul}
 use Rattle.fill_tree.specs.Tree.{Atoms, end, more}
 use Rattle.fill_arena.specs.Contents.{In}
-use Rattle.fill_arena.specs.Stands.{AtomStands, Walks}
+use Rattle.fill_arena.specs.Stands.{Walks}
 use Rattle.fill_arena.specs.WellMade.{Path}
 use Rattle.fill_arena.specs.declared.entry.Entry.{Entry}
 use Rattle.fill_arena.specs.declared.entry.Edge.{Edge}
