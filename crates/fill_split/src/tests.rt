@@ -201,7 +201,7 @@ fn apply<L: Ledger>(
 }
 
 /// Whether these are the places of the branches' items.
-fn are(branches: &[Fold<usize>], wanted: &[&[usize]]) -> bool {
+fn are(branches: &[Fold<usize>], wanted: &'static [&'static [usize]]) -> bool {
     if branches.len() != wanted.len() {
         return false;
     }
@@ -221,6 +221,9 @@ struct Row {
     firsts: u64,
     joins: u64,
 }
+
+/// The branches of no items.
+const NO_BRANCHES: &[&[usize]] = &[];
 
 /// Six, five, four and three at the end in turn, and then the first one taken out.
 const FIRST: [Row; 5] = [
@@ -305,7 +308,7 @@ const BY_FIRST: [Row; 3] = [
 fn holds<L: Ledger>(
     sums: &mut Sums,
     held: &mut Held,
-    before: &[&[usize]],
+    before: &'static [&'static [usize]],
     row: Row,
     steps: &mut Steps<L>,
 ) -> Result<bool, Fail>
@@ -354,7 +357,7 @@ fn rows_hold<L: Ledger>(
         folds: Folds::new(alloc, rule),
         count: 0,
     };
-    let mut before: &[&[usize]] = &[];
+    let mut before = NO_BRANCHES;
     for i in 0..rows.len() {
         let row = rows[i];
         match holds(&mut sums, &mut held, before, row, &mut steps) {
@@ -410,6 +413,9 @@ fn a_call_without_memory_changes_nothing(rt: HostRuntime) -> Result<(), Fail> {
     Ok(())
 }
 
+/// One branch of three items.
+const ALL_IN_ONE: &[&[usize]] = &[&[0, 1, 2]];
+
 /// Whether the folds after the rows refuse an item and take another one for one of theirs, and whether renewed and cleared
 /// folds are as they should be.
 fn changes_hold<L: Ledger>(alloc: Global, blank: Blank) -> Result<bool, Fail>
@@ -438,19 +444,19 @@ fn changes_hold<L: Ledger>(alloc: Global, blank: Blank) -> Result<bool, Fail>
         _ => false,
     };
     let alone = alone
-        && are(held.folds.branches(), &[&[0, 1], &[2]])
+        && are(held.folds.branches(), FIRST[4].branches)
         && (sums.firsts, sums.joins) == (calls.0.wrapping_add(1), calls.1);
     let calls = (sums.firsts, sums.joins);
     if let Err(refusal) = apply(&mut sums, &mut held, Edit::Replace(1, 2), &mut steps) {
         return Err(Fail::from(refusal));
     }
-    let replaced = are(held.folds.branches(), &[&[0, 1, 2]])
+    let replaced = are(held.folds.branches(), ALL_IN_ONE)
         && (sums.firsts, sums.joins) == (calls.0.wrapping_add(1), calls.1.wrapping_add(2));
     let mut kept: List<usize> = List::new(alloc);
     kept.append(held.folds.kept())?;
     let mut folds = held.folds;
     folds.renew(kept.as_slice());
-    let renewed = folds.kept() == kept.as_slice() && are(folds.branches(), &[&[0, 1, 2]]);
+    let renewed = folds.kept() == kept.as_slice() && are(folds.branches(), ALL_IN_ONE);
     folds.clear();
     folds_stay::<Sums>();
     renewed_folds_stand::<Sums>();

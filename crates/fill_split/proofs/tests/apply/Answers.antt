@@ -26,5 +26,5 @@ returns-in-Ok g c =
     let e = c.in-Some.ensures in
     let same = e.1 in
     let count = r.2 in
-    let long = changed_long c.change_of.result.1 c.change_of.result.0 r.0 (rw r.2 e.0) in
-    (changed c.change_of.result.1 c.change_of.result.0 r.0, c.in-Ok.ensures.folds r.0 r.1, omega arith)
+    let long = changed_long c.change_of-at.result.1 c.change_of-at.result.0 r.0 (rw r.2 e.0) in
+    (changed c.change_of-at.result.1 c.change_of-at.result.0 r.0, c.in-Ok.ensures.folds r.0 r.1, omega arith)
