@@ -1,11 +1,11 @@
 //! Chains of atoms with what they cost: rows of conditions, and the ends of programs.
-ghost use Rattle.std.specs.Prelude.{◌≡◌, ◌+◌, ◌≤◌, ◌^◌, ◌↔◌, IsTrue, IfOk, IfSome, IfNone};
+ghost use Rattle.std.specs.Prelude.{◌≡◌, ◌+◌, ◌<◌, ◌^◌, ◌↔◌, IsTrue, IfOk};
 ghost use Rattle.std.specs.declared.cmp.Ordering.TheVariants.{Less};
 ghost use Rattle.fill_tree.specs.Cost.{condition_cost};
 ghost use Rattle.fill_tree.specs.Meaning.{atom_tree, program_tree};
 ghost use Rattle.fill_tree.specs.Tree.{more};
 ghost use Rattle.fill_rank.specs.Rank.{IsLesser, chain_rank};
-ghost use Rattle.fill_rank.specs.Sets.{IsPut, link_cost};
+ghost use Rattle.fill_rank.specs.Sets.{IsCheap, IsPut, link_cost};
 
 use fill_text::{List, NoMemory};
 use fill_tree::{Atom, Program};
@@ -43,14 +43,17 @@ pub(crate) fn lesser(best: Option<Chain>, next: Option<Chain>) -> Option<Chain>
 }
 
 /// The cost of an atom as a condition of a lookup: a constant costs the same whatever its text.
-fn cost_as_condition(atom: &Atom) -> Option<u64>
-    ensures some { IfSome result (λ n. n ≡ condition_cost (atom_tree atom.now)) }
-    ensures none { IfNone result (2 ^ 64 ≤ condition_cost (atom_tree atom.now)) }
+fn cost_as_condition(atom: &Atom) -> u64
+    requires { condition_cost (atom_tree atom.now) < 2 ^ 64 }
+    ensures { result ≡ condition_cost (atom_tree atom.now) }
 {
-    match atom {
-        Atom::Const(_) => Some(15),
-        _ => atom.cost()?.checked_add(2),
+    if let Atom::Const(_) = atom {
+        return 15;
     }
+    let Some(cost) = atom.cost() else {
+        unreachable!()
+    };
+    cost + 2
 }
 
 /// The atom and then the atoms of the rest.
@@ -71,17 +74,13 @@ pub(crate) fn put_condition(
     atom: &Option<Atom>,
     row: &Option<Chain>,
 ) -> Result<Option<Chain>, NoMemory>
+    requires { IsCheap condition_cost atom.now row.now }
     ensures { IfOk result (λ made. IsPut condition_cost atom.now row.now made) }
 {
     let (Some(atom), Some(row)) = (atom, row) else {
         return Ok(None);
     };
-    let Some(own) = cost_as_condition(atom) else {
-        return Err(NoMemory);
-    };
-    let Some(cost) = own.checked_add(row.cost) else {
-        return Err(NoMemory);
-    };
+    let cost = cost_as_condition(atom) + row.cost;
     let atoms = followed_by(alloc, atom, &row.atoms)?;
     Ok(Some(Chain { cost, atoms }))
 }
@@ -92,20 +91,16 @@ pub(crate) fn put_atom(
     atom: &Option<Atom>,
     rest: &Option<Chain>,
 ) -> Result<Option<Chain>, NoMemory>
+    requires { IsCheap link_cost atom.now rest.now }
     ensures { IfOk result (λ made. IsPut link_cost atom.now rest.now made) }
 {
     let (Some(atom), Some(rest)) = (atom, rest) else {
         return Ok(None);
     };
     let Some(own) = atom.cost() else {
-        return Err(NoMemory);
+        unreachable!()
     };
-    let Some(with_rest) = own.checked_add(rest.cost) else {
-        return Err(NoMemory);
-    };
-    let Some(cost) = with_rest.checked_add(5) else {
-        return Err(NoMemory);
-    };
+    let cost = own + 5 + rest.cost;
     let atoms = followed_by(alloc, atom, &rest.atoms)?;
     Ok(Some(Chain { cost, atoms }))
 }
