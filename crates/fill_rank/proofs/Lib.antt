@@ -8,3 +8,4 @@ pub mod Scan
 pub mod Stand
 pub mod Trees
 pub mod Walk
+pub mod Cheap

@@ -1,5 +1,5 @@
 -- Small steps of the proofs about sets: what is kept of conditions, and lists from the back.
-use Rattle.std.proofs.Common.{◌≡◌, ◌⊎◌, ℕ, zero, suc, ◌+◌, List, [], ◌∷◌, length, drop, Option, Some, None, Result, Ok, Err, option_map, inl, inr, refl, ap, subst, ◌∙◌, slice_get, ◌<◌, ◌≢◌, arith}
+use Rattle.std.proofs.Common.{◌≡◌, ◌⊎◌, ℕ, zero, suc, ◌+◌, List, [], ◌∷◌, length, drop, Option, Some, None, Result, Ok, Err, option_map, inl, inr, refl, sym, ap, subst, ◌∙◌, slice_get, ◌<◌, ◌≢◌, arith}
 use Rattle.std.proofs.Math.ListN.{set}
 use Rattle.std.specs.Result.{IfOk}
 use Rattle.fill_tree.specs.Grammar.{HasPart, IsPart}
@@ -7,6 +7,7 @@ use Rattle.fill_tree.specs.Meaning.{atom_tree}
 use Rattle.fill_tree.specs.Tree.{SourceTree, AtomTree, Atoms, col, select, constant, whole, sub}
 use Rattle.fill_tree.specs.declared.tree.Atom.{Atom}
 use Rattle.fill_tree.specs.declared.tree.Atom.TheVariants.{Const}
+use Rattle.fill_arena.specs.Contents.{EachIn}
 use Rattle.fill_arena.specs.Stands.{AtomFits, AtomStands, ConditionFits, ConditionsFit, SourceFits}
 use Rattle.fill_arena.specs.declared.entry.ConditionItem.{ConditionItem}
 use Rattle.fill_arena.specs.declared.entry.Entry.{Entry}
@@ -99,3 +100,7 @@ set_apart (x ∷ xs) (suc n) v (suc m) apart = set_apart xs n v m (λ e. apart (
 
 pub dropped_later : {A : Type 0} (xs : List A) (n left : ℕ) → suc n ≡ left → (k : ℕ) → slice_get (drop left xs) k ≡ slice_get xs (n + 1 + k)
 dropped_later xs n left next k = let same : left + k ≡ n + 1 + k = omega arith in get_dropped xs left k ∙ ap (slice_get xs) same
+
+-- what is true of each item is true of each of the last ones
+pub each_dropped : {A : Type 0} (P : A → Type 0) (xs : List A) (n : ℕ) → EachIn P xs → EachIn P (drop n xs)
+each_dropped P xs n each k x h = each (n + k) x (sym (get_dropped xs n k) ∙ h)

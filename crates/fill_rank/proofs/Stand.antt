@@ -1,4 +1,4 @@
--- What stands in a set, by the set's items; something stands in each.
+-- What stands in a set, by the set's items.
 use Rattle.std.proofs.Common.{◌≡◌, ℕ, List, Some, slice_get, refl, subst}
 use Rattle.fill_tokens.specs.declared.place.Place.{Place}
 use Rattle.fill_tree.specs.Tree.{SourceTree, AtomTree, col, constant, whole, sub}
@@ -38,30 +38,3 @@ module _ (c : List Entry) (s : ℕ) (items : List SourceItem) (is : slice_get c 
 
   pub items_source : (x : SourceTree) → SomeIn (SourceFits x c) items → SourceStands c s x
   items_source x h = (items, is, h)
-
-  pub source_filled : IsWellMade c → (x : SourceTree) × SourceStands c s x
-  source_filled made =
-      let all = made s (Sources items) is in
-      let first = get_there items 0 all.some in
-      let one = fits first.0 (all.each 0 first.0 first.1) in
-      (one.0, (items, is, (first.0, (0, first.1), one.1)))
-    where
-      fits : (i : SourceItem) → IsSourceItem c s i → (x : SourceTree) × SourceFits x c i
-      fits (Col m) h = (col m, refl)
-      fits (Select i) h = h.filled
-
-pub atom_filled : (c : List Entry) (s : ℕ) → IsWellMade c → IsAtomSet c s → (a : AtomTree) × AtomStands c s a
-atom_filled c s made live =
-    let all = made s (Atoms live.0) live.1 in
-    let first = get_there live.0 0 all.some in
-    let one = fits first.0 (all.each 0 first.0 first.1) in
-    (one.0, (live.0, live.1, (first.0, (0, first.1), one.1)))
-  where
-    fits : (i : AtomItem) → IsAtomItem c s i → (a : AtomTree) × AtomFits a c i
-    fits (atom.Const t) h = (constant t, refl)
-    fits (atom.Whole b) h = let x = source_filled c b h.0.0 h.0.1 made in (whole x.0, x.1)
-    fits (atom.Sub b l r) h =
-        let x = source_filled c b h.0.0.0 h.0.0.1 made in
-        let p = get_there h.1.0.0 0 (made l (Places h.1.0.0) h.1.0.1).some in
-        let q = get_there h.2.0.0 0 (made r (Places h.2.0.0) h.2.0.1).some in
-        (sub x.0 p.0 q.0, (x.1, (h.1.0.0, h.1.0.1, (0, p.1)), (h.2.0.0, h.2.0.1, (0, q.1))))

@@ -24,7 +24,6 @@ use Rattle.fill_rank.specs.Sets.{AreBestRests, IsBestChain, IsFirstEdge, IsPut, 
 use Rattle.fill_rank.specs.declared.chain.Chain.{Chain}
 use Rattle.fill_rank.proofs.Best.{chains_lesser}
 use Rattle.fill_rank.proofs.Put.{Starts, as_link, best_put}
-use Rattle.fill_rank.proofs.Stand.{atom_filled}
 
 same_chain : (cost : Atoms → ℕ) (P S : Atoms → Type 0) → ((p : Atoms) → S p → P p) → ((p : Atoms) → P p → S p) → (o : Option Chain) → IsBestChain cost P o → IsBestChain cost S o
 same_chain cost P S to from None h = λ p s. h p (to p s)
@@ -132,19 +131,6 @@ least_stands c g nodes edges x is best = record {
       let walk = subst (λ m. Walks q c edges (m - 1) 0) n (subst (λ xs. Walks q c xs (h.0 - 1) 0) es h.3) in
       reversed_less (program_cmp (program_tree x.atoms) q) (program_cmp q (program_tree x.atoms)) (program_antisymm q (program_tree x.atoms)) (best.1.least q walk);
 }
-
-path_walks : (c : List Entry) (made : IsWellMade c) (edges : List Edge) → ((f : Edge) → In f edges → IsAtomSet c f.atoms) → (path : List Edge) (from to : ℕ) → Path edges from path to → (p : Atoms) × Walks p c edges to from
-path_walks c made edges live [] from to h = (end, h)
-path_walks c made edges live (e ∷ rest) from to h =
-    let a = atom_filled c e.atoms made (live e h.0) in
-    let q = path_walks c made edges live rest e.to to h.2 in
-    (more a.0 q.0, (e, h.0, (h.1, a.1, q.1)))
-
-pub graph_filled : (c : List Entry) (g nodes : ℕ) (edges : List Edge) → IsWellMade c → slice_get c g ≡ Some (Graph nodes edges) → (p : Atoms) × Walks p c edges (nodes - 1) 0
-graph_filled c g nodes edges made is =
-    let all = made g (Graph nodes edges) is in
-    let path = all.to_last 0 all.some in
-    path_walks c made edges (λ f there. (all.each there.0 f there.1).atoms.0) path.0 0 (nodes - 1) path.1
 
 -- each edge is the first of those from it on
 pub first_edge : (c : List Entry) (n nodes : ℕ) (edges : List Edge) (j : ℕ) (e : Edge) (rest : List Edge) → IsGraphOf c n nodes edges → slice_get edges j ≡ Some e →

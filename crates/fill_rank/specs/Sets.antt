@@ -1,5 +1,5 @@
 -- What stands in a part of a set, a lookup or a graph.
-use Rattle.std.specs.Prelude.{◌≡◌, ◌≢◌, ℕ, ◌+◌, ◌<◌, List, Option, Some, None, slice_get}
+use Rattle.std.specs.Prelude.{◌≡◌, ◌≢◌, ℕ, ◌+◌, ◌<◌, ◌^◌, List, Option, Some, None, slice_get}
 use Rattle.fill_tree.specs.Cost.{conditions_cost, program_cost, atom_cost}
 use Rattle.fill_tree.specs.Grammar.{HasPart, IsPart}
 use Rattle.fill_tree.specs.Meaning.{atom_tree, program_tree}
@@ -58,6 +58,12 @@ IsPut cost (Some a) None made = made ≡ None
 IsPut cost (Some a) (Some x) made =
     (y : Chain) × (made ≡ Some y) × (program_tree y.atoms ≡ more (atom_tree a) (program_tree x.atoms)) × (y.cost ≡ cost (atom_tree a) + x.cost)
 
+-- what the atom and the rest cost together is one of the machine's numbers
+abbrev pub IsCheap : (AtomTree → ℕ) → Option Atom → Option Chain → Type 0
+IsCheap cost None rest = Unit {0}
+IsCheap cost (Some a) None = Unit {0}
+IsCheap cost (Some a) (Some x) = cost (atom_tree a) + x.cost < 2 ^ 64
+
 -- an atom of a program, with what the program costs for each of them
 abbrev pub link_cost : AtomTree → ℕ
 link_cost a = 5 + atom_cost a
@@ -70,3 +76,7 @@ pub record IsFirstEdge (e : Edge) (rest : List Edge) : Type 0 where
 -- for each node the best program that a walk over the edges from it to the last node has
 pub record AreBestRests (c : List Entry) (edges : List Edge) (last : ℕ) (table : List (Option Chain)) : Type 0 where
   pub each : (n : ℕ) (o : Option Chain) → slice_get table n ≡ Some o → IsBestChain program_cost (λ p. Walks p c edges last n) o
+
+-- what the atoms on a walk over the edges to the last node cost is one of the machine's numbers
+abbrev pub WalksAreCheap : List Entry → List Edge → ℕ → Type 0
+WalksAreCheap c edges last = (p : Atoms) (at : ℕ) → Walks p c edges last at → program_cost p < 2 ^ 64

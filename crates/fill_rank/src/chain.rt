@@ -1,11 +1,11 @@
 //! Chains of atoms with what they cost: rows of conditions, and the ends of programs.
-ghost use Rattle.std.specs.Prelude.{◌≡◌, ◌+◌, ◌≤◌, ◌^◌, ◌↔◌, IsTrue, IfOk, IfSome, IfNone};
+ghost use Rattle.std.specs.Prelude.{◌≡◌, ◌+◌, ◌<◌, ◌^◌, ◌↔◌, IsTrue, IfOk};
 ghost use Rattle.std.specs.declared.cmp.Ordering.TheVariants.{Less};
 ghost use Rattle.fill_tree.specs.Cost.{condition_cost};
 ghost use Rattle.fill_tree.specs.Meaning.{atom_tree, program_tree};
 ghost use Rattle.fill_tree.specs.Tree.{more};
 ghost use Rattle.fill_rank.specs.Rank.{IsLesser, chain_rank};
-ghost use Rattle.fill_rank.specs.Sets.{IsPut, link_cost};
+ghost use Rattle.fill_rank.specs.Sets.{IsCheap, IsPut, link_cost};
 
 use fill_text::{List, NoMemory};
 use fill_tree::{Atom, Program};
@@ -60,17 +60,16 @@ pub(crate) fn put_condition(
     atom: &Option<Atom>,
     row: &Option<Chain>,
 ) -> Result<Option<Chain>, NoMemory>
+    requires { IsCheap condition_cost atom.now row.now }
     ensures { IfOk result (λ made. IsPut condition_cost atom.now row.now made) }
 {
     let (Some(atom), Some(row)) = (atom, row) else {
         return Ok(None);
     };
     let Some(own) = atom.condition_cost() else {
-        return Err(NoMemory);
+        unreachable!()
     };
-    let Some(cost) = own.checked_add(row.cost) else {
-        return Err(NoMemory);
-    };
+    let cost = own + row.cost;
     let atoms = followed_by(alloc, atom, &row.atoms)?;
     Ok(Some(Chain { cost, atoms }))
 }
@@ -81,20 +80,16 @@ pub(crate) fn put_atom(
     atom: &Option<Atom>,
     rest: &Option<Chain>,
 ) -> Result<Option<Chain>, NoMemory>
+    requires { IsCheap link_cost atom.now rest.now }
     ensures { IfOk result (λ made. IsPut link_cost atom.now rest.now made) }
 {
     let (Some(atom), Some(rest)) = (atom, rest) else {
         return Ok(None);
     };
     let Some(own) = atom.cost() else {
-        return Err(NoMemory);
+        unreachable!()
     };
-    let Some(with_rest) = own.checked_add(rest.cost) else {
-        return Err(NoMemory);
-    };
-    let Some(cost) = with_rest.checked_add(5) else {
-        return Err(NoMemory);
-    };
+    let cost = own + 5 + rest.cost;
     let atoms = followed_by(alloc, atom, &rest.atoms)?;
     Ok(Some(Chain { cost, atoms }))
 }

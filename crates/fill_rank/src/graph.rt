@@ -7,7 +7,7 @@ ghost use Rattle.fill_arena.specs.Stands.{ProgramStands};
 ghost use Rattle.fill_arena.specs.declared.entry.Edge.{Edge as Listed};
 ghost use Rattle.fill_arena.specs.declared.entry.Entry.{Entry};
 ghost use Rattle.fill_rank.specs.Known.{AreKnown};
-ghost use Rattle.fill_rank.specs.Sets.{AreBestRests, IsFirstEdge};
+ghost use Rattle.fill_rank.specs.Sets.{AreBestRests, IsFirstEdge, WalksAreCheap};
 
 use crate::chain::{Chain, lesser, put_atom};
 use crate::known::Known;
@@ -69,6 +69,7 @@ fn take_edge(
     requires from { edge.from < length rests.old.items }
     requires to { edge.to < length rests.old.items }
     requires known { AreKnown arena.now known.old }
+    requires cheap { (others : Items Listed) × (last : ℕ) × AreBestRests arena.now others last rests.old.items × WalksAreCheap arena.now (edge ∷ others) last }
     ensures known { OnOk result (AreKnown arena.now known.new) }
     ensures length { length rests.new.items ≡ length rests.old.items }
     ensures best { OnOk result ((last : ℕ) (others : Items Listed) → IsFirstEdge edge others →

@@ -1,11 +1,11 @@
 //! The lesser of two places or trees, by cost and then by their order.
-ghost use Rattle.std.specs.Prelude.{◌↔◌, ◌≡◌, ◌<◌, IsTrue, IfOk, length};
+ghost use Rattle.std.specs.Prelude.{◌↔◌, ◌≡◌, ◌<◌, ◌^◌, IsTrue, IfSome, length};
 ghost use Rattle.std.specs.declared.cmp.Ordering.TheVariants.{Less};
+ghost use Rattle.fill_tree.specs.Cost.{atom_cost, source_cost};
 ghost use Rattle.fill_tree.specs.Meaning.{atom_tree, source_tree};
 ghost use Rattle.fill_arena.specs.Contents.{In};
 ghost use Rattle.fill_rank.specs.Rank.{IsBest, IsLesser, atom_rank, place_rank, source_rank};
 
-use fill_text::NoMemory;
 use fill_tokens::Place;
 use fill_tree::{Atom, Source};
 use std::cmp::Ordering;
@@ -31,52 +31,66 @@ fn place_before(a: &Place, b: &Place) -> bool
 }
 
 /// Whether the first source is before the second.
-fn source_before(a: &Source, b: &Source) -> Result<bool, NoMemory>
-    ensures { IfOk result (λ r. IsTrue r ↔ (source_rank (source_tree a.now) (source_tree b.now) ≡ Less)) }
+fn source_before(a: &Source, b: &Source) -> bool
+    requires first { source_cost (source_tree a.now) < 2 ^ 64 }
+    requires second { source_cost (source_tree b.now) < 2 ^ 64 }
+    ensures { IsTrue result ↔ (source_rank (source_tree a.now) (source_tree b.now) ≡ Less) }
 {
-    let (Some(first), Some(second)) = (a.cost(), b.cost()) else {
-        return Err(NoMemory);
+    let Some(first) = a.cost() else {
+        unreachable!()
     };
-    Ok(first.cmp(&second).then(a.compare(b)) == Ordering::Less)
+    let Some(second) = b.cost() else {
+        unreachable!()
+    };
+    first.cmp(&second).then(a.compare(b)) == Ordering::Less
 }
 
 /// The lesser of two sources, of which the first may be absent.
-pub(crate) fn lesser_source(best: Option<Source>, next: Source) -> Result<Option<Source>, NoMemory>
-    ensures { IfOk result (λ r. IsLesser (λ x y. source_rank (source_tree x) (source_tree y)) best (Some next) r) }
+pub(crate) fn lesser_source(best: Option<Source>, next: Source) -> Option<Source>
+    requires best { IfSome best (λ x. source_cost (source_tree x) < 2 ^ 64) }
+    requires next { source_cost (source_tree next) < 2 ^ 64 }
+    ensures { IsLesser (λ x y. source_rank (source_tree x) (source_tree y)) best (Some next) result }
 {
     let Some(known) = best else {
-        return Ok(Some(next));
+        return Some(next);
     };
-    Ok(Some(if source_before(&next, &known)? {
+    Some(if source_before(&next, &known) {
         next
     } else {
         known
-    }))
+    })
 }
 
 /// Whether the first atom is before the second, as atoms of a program.
-fn atom_before(a: &Atom, b: &Atom) -> Result<bool, NoMemory>
-    ensures { IfOk result (λ r. IsTrue r ↔ (atom_rank (atom_tree a.now) (atom_tree b.now) ≡ Less)) }
+fn atom_before(a: &Atom, b: &Atom) -> bool
+    requires first { atom_cost (atom_tree a.now) < 2 ^ 64 }
+    requires second { atom_cost (atom_tree b.now) < 2 ^ 64 }
+    ensures { IsTrue result ↔ (atom_rank (atom_tree a.now) (atom_tree b.now) ≡ Less) }
 {
-    let (Some(first), Some(second)) = (a.cost(), b.cost()) else {
-        return Err(NoMemory);
+    let Some(first) = a.cost() else {
+        unreachable!()
     };
-    Ok(first.cmp(&second).then(a.compare(b)) == Ordering::Less)
+    let Some(second) = b.cost() else {
+        unreachable!()
+    };
+    first.cmp(&second).then(a.compare(b)) == Ordering::Less
 }
 
 /// The lesser of two atoms that may be absent.
-pub(crate) fn lesser_atom(best: Option<Atom>, next: Option<Atom>) -> Result<Option<Atom>, NoMemory>
-    ensures { IfOk result (λ r. IsLesser (λ x y. atom_rank (atom_tree x) (atom_tree y)) best next r) }
+pub(crate) fn lesser_atom(best: Option<Atom>, next: Option<Atom>) -> Option<Atom>
+    requires best { IfSome best (λ x. atom_cost (atom_tree x) < 2 ^ 64) }
+    requires next { IfSome next (λ x. atom_cost (atom_tree x) < 2 ^ 64) }
+    ensures { IsLesser (λ x y. atom_rank (atom_tree x) (atom_tree y)) best next result }
 {
     let Some(known) = best else {
-        return Ok(next);
+        return next;
     };
     let Some(other) = next else {
-        return Ok(Some(known));
+        return Some(known);
     };
-    Ok(Some(if atom_before(&other, &known)? {
+    Some(if atom_before(&other, &known) {
         other
     } else {
         known
-    }))
+    })
 }

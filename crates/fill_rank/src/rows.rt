@@ -1,8 +1,9 @@
 //! The best rows of conditions of a lookup.
 ghost use Rattle.std.specs.Prelude.{◌∷◌, [], List as Items, IfOk};
+ghost use Rattle.fill_tree.specs.Cost.{condition_cost};
 ghost use Rattle.fill_arena.specs.declared.entry.ConditionItem.{ConditionItem};
 ghost use Rattle.fill_arena.specs.declared.entry.Entry.{Entry};
-ghost use Rattle.fill_rank.specs.Sets.{AreBestRows, IsBestPart, IsConstantOf};
+ghost use Rattle.fill_rank.specs.Sets.{AreBestRows, IsBestPart, IsCheap, IsConstantOf};
 
 use crate::chain::{Chain, lesser, put_condition};
 use fill_text::{List, NoMemory};
@@ -38,6 +39,9 @@ pub(crate) fn put_in_front(
     part: Option<Atom>,
     rows: Rows,
 ) -> Result<Rows, NoMemory>
+    requires fixed { IsCheap condition_cost constant rows.any }
+    requires part { IsCheap condition_cost part rows.any }
+    requires later { IsCheap condition_cost constant rows.mixed }
     ensures { IfOk result (λ made. (c : Items Entry) (i : ConditionItem) (is : Items ConditionItem) →
         IsConstantOf i constant → IsBestPart c i part → AreBestRows c is rows → AreBestRows c (i ∷ is) made) }
 {

@@ -2,7 +2,7 @@
 //!
 //! The best of a product of sets is the product of the bests, since costs add up and parts are compared one after the
 //! other. Lookups are no such product, for not all of their conditions may be constants: see [`Rows`].
-ghost use Rattle.std.specs.Prelude.{◌≡◌, ◌∷◌, List as Items, IfOk, OnOk, option_map};
+ghost use Rattle.std.specs.Prelude.{◌≡◌, ◌≤◌, ◌∷◌, length, List as Items, IfOk, OnOk, option_map};
 ghost use Rattle.fill_tree.specs.Meaning.{atom_tree, source_tree};
 ghost use Rattle.fill_arena.specs.Contents.{EachIn, IsAtomSet, IsPlaceSet, IsSourceSet};
 ghost use Rattle.fill_arena.specs.Stands.{AtomStands, PlaceStands, SourceFits, SourceStands};
@@ -78,7 +78,7 @@ fn scan_sources(
     let mut best: Option<Source> = None;
     for item in items {
         let next = source_in(alloc, arena, known, s, item)?;
-        best = lesser_source(best, next)?;
+        best = lesser_source(best, next);
     }
     let Some(source) = best else { unreachable!() };
     Ok(source)
@@ -139,6 +139,7 @@ fn rows_of(
     items: &[ConditionItem],
 ) -> Result<Rows, NoMemory>
     requires items { EachIn (IsConditionItem arena.now set) items.now }
+    requires few { length items.now ≤ 3 }
     requires known { AreKnown arena.now known.old }
     ensures known { OnOk result (AreKnown arena.now known.new) }
     ensures best { IfOk result (λ rows. AreBestRows arena.now items.now rows) }
@@ -162,6 +163,7 @@ fn longer_rows(
     rows: Rows,
 ) -> Result<Rows, NoMemory>
     requires item { IsConditionItem arena.now set item.now }
+    requires rows { (is : Items Listed) × EachIn (IsConditionItem arena.now set) (item.now ∷ is) × (length (item.now ∷ is) ≤ 3) × AreBestRows arena.now is rows }
     requires known { AreKnown arena.now known.old }
     ensures known { OnOk result (AreKnown arena.now known.new) }
     ensures best { IfOk result (λ made. (is : Items Listed) → AreBestRows arena.now is rows → AreBestRows arena.now (item.now ∷ is) made) }
@@ -174,6 +176,7 @@ fn longer_rows(
         Some(atoms) => part_of(alloc, arena, known, atoms)?,
         None => None,
     };
+    arena.keeps_made();
     put_in_front(alloc, constant, part, rows)
 }
 
@@ -224,7 +227,7 @@ fn scan_parts(
     let mut best: Option<Atom> = None;
     for item in items {
         let next = part_in(alloc, arena, known, s, item)?;
-        best = lesser_atom(best, next)?;
+        best = lesser_atom(best, next);
     }
     Ok(best)
 }
@@ -272,9 +275,10 @@ fn constant_of(arena: &Arena, s: AtomSet) -> Result<Option<Atom>, NoMemory>
     requires { IsAtomSet arena.now s }
     ensures { IfOk result (λ o. IsBestOf atom_tree atom_rank (ConstantStands arena.now s) o) }
 {
+    arena.keeps_made();
     let mut best: Option<Atom> = None;
     for item in arena.atoms(s) {
-        best = lesser_atom(best, constant_in(item)?)?;
+        best = lesser_atom(best, constant_in(item)?);
     }
     Ok(best)
 }
@@ -294,7 +298,7 @@ pub(crate) fn atom_of(
     arena.keeps_made();
     let constant = constant_of(arena, s)?;
     let part = part_of(alloc, arena, known, s)?;
-    let Some(atom) = lesser_atom(constant, part)? else {
+    let Some(atom) = lesser_atom(constant, part) else {
         unreachable!()
     };
     Ok(atom)

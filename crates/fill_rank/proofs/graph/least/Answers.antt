@@ -1,11 +1,14 @@
-use Rattle.std.proofs.Common.{◌≡◌, ◌-◌, [], ◌∷◌, suc, drop, length, refl, ap, sym, subst, ◌∙◌, arith}
+use Rattle.std.proofs.Common.{◌≡◌, ◌+◌, Some, slice_get, ◌-◌, [], ◌∷◌, suc, drop, length, refl, ap, sym, subst, ◌∙◌, arith}
 use Rattle.fill_tree.specs.Cost.{program_cost}
 use Rattle.fill_arena.specs.Stands.{Walks}
 use Rattle.fill_arena.specs.declared.entry.Entry.TheVariants.{Graph}
 use Rattle.fill_arena.proofs.Scan.{here}
 use Rattle.fill_rank.specs.Sets.{AreBestRests, IsBestChain}
-use Rattle.fill_rank.proofs.Pieces.{drop_whole, drop_here, dropped_later}
-use Rattle.fill_rank.proofs.Walk.{first_edge, graph_filled, least_stands, the_graph}
+use Rattle.fill_arena.proofs.Costs.{rest_present}
+use Rattle.fill_rank.proofs.Cheap.{walks_cheap}
+use Rattle.fill_rank.proofs.Pieces.{drop_whole, drop_here, dropped_later, get_dropped}
+use Rattle.fill_arena.proofs.Filled.{graph_filled}
+use Rattle.fill_rank.proofs.Walk.{first_edge, least_stands, the_graph}
 use Rattle.fill_rank.proofs.graph.least.Goals as goal
 
 pub no_edges-requires : goal.no_edges-requires
@@ -97,7 +100,7 @@ unreachable-requires c =
     let all = subst (λ n. IsBestChain program_cost (λ p. Walks p arena (drop n edges) (length c.in_ok-rests.rests.items - 1) 0) first) none best in
     let whole = subst (λ n. IsBestChain program_cost (λ p. Walks p arena edges (n - 1) 0) first) c.in_ok-rests.ensures.length all in
     let empty = subst (IsBestChain program_cost (λ p. Walks p arena edges (nodes - 1) 0)) (sym c.take.ensures.value ∙ c.in_default.is) whole in
-    let some = graph_filled arena c.args.g nodes edges c.keeps_made.ensures is in
+    let some = graph_filled arena c.keeps_made.ensures c.args.g nodes edges is in
     empty some.0 some.1
 
 pub returns : goal.returns
@@ -116,3 +119,26 @@ returns c =
     let whole = subst (λ n. IsBestChain program_cost (λ p. Walks p arena edges (n - 1) 0) first) c.in_ok-rests.ensures.length all in
     let some = subst (IsBestChain program_cost (λ p. Walks p arena edges (nodes - 1) 0)) (sym c.take.ensures.value ∙ c.in-Some.is) whole in
     least_stands arena c.args.g nodes edges c.in-Some.first is some
+
+pub take_edge-requires-clause-cheap : goal.take_edge-requires-clause-cheap
+take_edge-requires-clause-cheap c =
+    let arena = c.args.arena.now in
+    let edges = c.edges-edges.result.now in
+    let nodes = c.nodes.result in
+    let is = the_graph arena c.args.g nodes edges c.nodes.ensures c.edges-edges.ensures in
+    let left = c.loop-left.left in
+    let n = left - 1 in
+    let within = c.loop-left.invariant.within in
+    let more = c.loop-left-test.true in
+    let e = c.index-edges-left.result in
+    let at = here edges n e (omega arith) c.index-edges-left.is in
+    let next : suc n ≡ left = omega arith in
+    let cut : drop n edges ≡ e ∷ drop left edges = drop_here edges n e at ∙ ap (λ m. e ∷ drop m edges) next in
+    let last = length c.in_ok-rests.rests.items - 1 in (
+      drop left edges,
+      last,
+      c.loop-left.invariant.best,
+      walks_cheap arena (e ∷ drop left edges) edges last
+          (λ k f h. (n + k, sym (get_dropped edges n k) ∙ subst (λ l. slice_get l k ≡ Some f) (sym cut) h))
+          (λ p from walk. rest_present arena c.keeps_made.ensures c.args.g nodes edges last from p is walk),
+    )

@@ -3,6 +3,7 @@ use Rattle.std.proofs.Math.ListN.{set, length-set}
 use Rattle.fill_arena.proofs.Scan.{here}
 use Rattle.fill_rank.specs.Rank.{IsLesser, chain_rank}
 use Rattle.fill_rank.proofs.Pieces.{set_here, set_apart}
+use Rattle.fill_rank.proofs.Cheap.{link_cheap}
 use Rattle.fill_rank.proofs.Walk.{edge_step}
 use Rattle.fill_rank.proofs.graph.take_edge.Goals as goal
 
@@ -17,3 +18,11 @@ returns-clause-best c last others first are =
     (here old e.from c.index_mut.result.now c.requires.from c.index_mut.ensures.value) (here old e.to c.index.result.now c.requires.to c.index.ensures)
     c.in_ok-atom_of.ensures.best c.in_ok-along.ensures (subst (λ o. IsLesser chain_rank o c.in_ok-along.along made) c.take-before.ensures.value c.lesser.ensures)
     (set_here emptied e.from made lt) (λ n apart. set_apart emptied e.from made n apart ∙ set_apart old e.from c.take-before.new.self n apart)
+
+pub put_atom-requires : goal.put_atom-requires
+put_atom-requires c =
+    let old = c.args.rests.now.items in
+    let e = c.args.edge in
+    let h = c.requires.cheap in
+    let next = c.index.result.now in
+    link_cheap c.args.arena.now e h.0 h.1 h.3 c.in_ok-atom_of.field-0 c.in_ok-atom_of.ensures.best.has next (h.2.each e.to next (here old e.to next c.requires.to c.index.ensures))

@@ -1,4 +1,4 @@
-use Rattle.std.proofs.Common.{rules, ◌≡◌, ◌-◌, ◌∷◌, suc, drop, Some, sym, subst, ◌∙◌, ap, arith}
+use Rattle.std.proofs.Common.{rules, ◌≡◌, ◌≤◌, ◌-◌, List, ◌∷◌, length, length-drop, suc, drop, Some, sym, subst, ◌∙◌, ap, arith}
 use Rattle.fill_tree.specs.Cost.{conditions_cost}
 use Rattle.fill_tree.specs.Grammar.{HasPart, IsPart}
 use Rattle.fill_tree.specs.Meaning.{atom_tree, source_tree, select_tree, program_tree}
@@ -8,15 +8,20 @@ use Rattle.fill_tree.specs.declared.tree.Atom.TheFolds.{the_lemmas}
 use Rattle.fill_tree.specs.declared.tree.Source.TheVariants as source
 use Rattle.fill_arena.specs.Stands.{ConditionsFit, SourceFits, SourceStands}
 use Rattle.fill_arena.specs.declared.entry.AtomItem.TheVariants as item
+use Rattle.fill_arena.specs.declared.entry.ConditionItem.{ConditionItem}
 use Rattle.fill_arena.specs.declared.entry.Entry.TheVariants.{Sources, Atoms}
 use Rattle.fill_arena.proofs.Scan.{here}
 use Rattle.fill_rank.specs.Rank.{IsBest, IsBestOf, atom_rank, source_rank}
 use Rattle.fill_rank.specs.Sets.{AreBestRows, IsBestChain, IsBestPart, IsConstantOf, PartFits, PartStands}
 use Rattle.fill_rank.proofs.Best.{atom_rank-total, atom_rank-exact, source_rank-total, source_rank-exact}
 use Rattle.fill_rank.proofs.Parts.{best_select, best_sub}
-use Rattle.fill_rank.proofs.Pieces.{ok_on, constant_kept, part_kept, no_part_kept, no_lookup, copied_best, drop_whole, drop_here}
+use Rattle.fill_arena.specs.Contents.{EachIn}
+use Rattle.fill_arena.specs.WellMade.{IsConditionItem}
+use Rattle.fill_rank.proofs.Cheap.{rows_cheap, sources_cheap, source_cheap, atoms_cheap, atom_cheap, part_fits}
+use Rattle.fill_rank.proofs.Pieces.{each_dropped, ok_on, constant_kept, part_kept, no_part_kept, no_lookup, copied_best, drop_whole, drop_here}
 use Rattle.fill_rank.proofs.Scan.{scan_step, scan_done}
-use Rattle.fill_rank.proofs.Stand.{atom_items, items_atom, source_items, items_source, source_filled}
+use Rattle.fill_arena.proofs.Filled.{source_filled}
+use Rattle.fill_rank.proofs.Stand.{atom_items, items_atom, source_items, items_source}
 use Rattle.fill_rank.proofs.Trees.{sub_tree}
 use Rattle.fill_rank.proofs.sets.+sets.Goals as goal
 use Rattle.fill_rank.proofs.sets.+sets.Goals.{longer_rows-in-Some+in_ok-copy-in-Some, longer_rows-in-None, longer_rows-in-Some-atoms+in_ok-part-in-Some-atoms, longer_rows-in-None-atoms}
@@ -35,6 +40,23 @@ longer_rows-returns-clause-best t c =
       | longer_rows-in-None-atoms w ↦ subst (IsBestPart arena i) (sym w.part-is) (no_part_kept arena i w.in-None-atoms.is)
     ] in
     ok_on _ _ c.put_in_front.result c.put_in_front.ensures (λ made h is are. h arena i is k b are)
+
+pub longer_rows-put_in_front-requires : goal.longer_rows-put_in_front-requires
+longer_rows-put_in_front-requires t c =
+    let arena = c.args.arena.now in
+    let i = c.args.item.now in
+    let k : IsConstantOf i c.match-item.constant = elim c.match-item.branch [
+      | longer_rows-in-Some+in_ok-copy-in-Some w ↦ subst (IsConstantOf i) (sym w.constant-is) (constant_kept i w.in-Some.text w.in_ok-copy-in-Some.field-0 w.in-Some.is w.in_ok-copy-in-Some.ensures)
+      | longer_rows-in-None w ↦ subst (IsConstantOf i) (sym w.constant-is) w.in-None.is
+    ] in
+    let b : IsBestPart arena i c.match-item-2.part = elim c.match-item-2.branch [
+      | longer_rows-in-Some-atoms+in_ok-part-in-Some-atoms w ↦
+          subst (IsBestPart arena i) (sym w.part-is) (part_kept arena i w.in-Some-atoms.atoms w.in-Some-atoms.is w.in_ok-part-in-Some-atoms.part w.in_ok-part-in-Some-atoms.ensures.best)
+      | longer_rows-in-None-atoms w ↦ subst (IsBestPart arena i) (sym w.part-is) (no_part_kept arena i w.in-None-atoms.is)
+    ] in
+    let h = c.requires.rows in
+    let cheap = rows_cheap arena c.keeps_made.ensures c.args.set i h.0 h.1 h.2 c.match-item.constant c.match-item-2.part c.args.rows k b h.3 in
+    record { fixed = cheap.0; part = cheap.1; later = cheap.2 }
 
 pub lookup_in-unreachable-requires : goal.lookup_in-unreachable-requires
 lookup_in-unreachable-requires t c =
@@ -84,7 +106,17 @@ rows_of-longer_rows-requires t c =
     let n = c.loop-left.left - 1 in
     let within = c.loop-left.invariant.within in
     let x = c.index-items-left.result in
-    (search rules, (c.requires.items n x (here items n x (omega (arith, c.loop-left-test.true)) c.index-items-left.is), c.loop-left.invariant.known))
+    let at = here items n x (omega (arith, c.loop-left-test.true)) c.index-items-left.is in
+    let next : suc n ≡ c.loop-left.left = omega (arith, c.loop-left-test.true) in
+    let cut : drop n items ≡ x ∷ drop c.loop-left.left items = drop_here items n x at ∙ ap (λ m. x ∷ drop m items) next in
+    let P = IsConditionItem c.args.arena.now c.args.set in
+    let older = subst (EachIn P) cut (each_dropped P items n c.requires.items) in
+    let few = c.requires.few in
+    let short : length (drop n items) ≤ 3 = omega (arith, length-drop n items) in
+    let few_here : length (x ∷ drop c.loop-left.left items) ≤ 3 = subst (λ (l : List ConditionItem). length l ≤ 3) cut short in
+    let rows : (is : List ConditionItem) × EachIn P (x ∷ is) × (length (x ∷ is) ≤ 3) × AreBestRows c.args.arena.now is c.loop-left.rows =
+    (drop c.loop-left.left items, older, few_here, c.loop-left.invariant.best) in
+    (search rules, (c.requires.items n x at, (rows, c.loop-left.invariant.known)))
 
 pub rows_of-loop-left-preserved : goal.rows_of-loop-left-preserved
 rows_of-loop-left-preserved t c =
@@ -122,7 +154,7 @@ scan_parts-loop-item-preserved t c =
     record {
       known = c.in_ok-next.ensures.known;
       best = scan_step (λ x a. PartFits c.args.arena.now x a) items atom_tree atom_rank atom_rank-total atom_rank-exact i x (here items i x c.loop-item-test.true c.item-item.is)
-          c.loop-item.best c.in_ok-next.next c.in_ok-best.best c.in_ok-best.ensures c.loop-item.invariant.best c.in_ok-next.ensures.best;
+          c.loop-item.best c.in_ok-next.next c.lesser_atom-best.result c.lesser_atom-best.ensures c.loop-item.invariant.best c.in_ok-next.ensures.best;
     }
 
 pub scan_parts-returns-clause-best : goal.scan_parts-returns-clause-best
@@ -148,7 +180,7 @@ scan_sources-loop-item-preserved t c =
     record {
       known = c.in_ok-next.ensures.known;
       best = scan_step (λ y s. SourceFits s c.args.arena.now y) items source_tree source_rank source_rank-total source_rank-exact i x (here items i x c.loop-item-test.true c.item-item.is)
-          c.loop-item.best (Some c.in_ok-next.next) c.in_ok-best.best c.in_ok-best.ensures c.loop-item.invariant.best c.in_ok-next.ensures.best;
+          c.loop-item.best (Some c.in_ok-next.next) c.lesser_source-best.result c.lesser_source-best.ensures c.loop-item.invariant.best c.in_ok-next.ensures.best;
     }
 
 pub scan_sources-unreachable-requires : goal.scan_sources-unreachable-requires
@@ -159,7 +191,7 @@ scan_sources-unreachable-requires t c =
     (source_items arena c.args.s items c.sources-items.ensures) (items_source arena c.args.s items c.sources-items.ensures)
     c.loop-item.item-index c.loop-item-test.false c.loop-item.best c.loop-item.invariant.best in
     let none = subst (IsBestOf source_tree source_rank (SourceStands arena c.args.s)) c.in_default.is done in
-    let x = source_filled arena c.args.s items c.sources-items.ensures c.keeps_made.ensures in
+    let x = source_filled arena c.keeps_made.ensures c.args.s (items, c.sources-items.ensures) in
     none x.0 x.1
 
 pub scan_sources-returns-clause-best : goal.scan_sources-returns-clause-best
@@ -170,3 +202,27 @@ scan_sources-returns-clause-best t c =
     (source_items arena c.args.s items c.sources-items.ensures) (items_source arena c.args.s items c.sources-items.ensures)
     c.loop-item.item-index c.loop-item-test.false c.loop-item.best c.loop-item.invariant.best in
     subst (IsBestOf source_tree source_rank (SourceStands arena c.args.s)) c.in-Some.is done
+
+pub scan_sources-lesser_source-best-requires : goal.scan_sources-lesser_source-best-requires
+scan_sources-lesser_source-best-requires t c =
+    let arena = c.args.arena.now in
+    let items = c.sources-items.result.now in
+    let i = c.loop-item.item-index in
+    let x = c.item-item.result in
+    let each = (c.keeps_made.ensures c.args.s (Sources items) c.sources-items.ensures).each in
+    record {
+      best = sources_cheap arena c.keeps_made.ensures c.args.s items each i c.loop-item.best c.loop-item.invariant.best;
+      next = source_cheap arena c.keeps_made.ensures c.args.s x (each i x (here items i x c.loop-item-test.true c.item-item.is)) c.in_ok-next.next c.in_ok-next.ensures.best;
+    }
+
+pub scan_parts-lesser_atom-best-requires : goal.scan_parts-lesser_atom-best-requires
+scan_parts-lesser_atom-best-requires t c =
+    let arena = c.args.arena.now in
+    let items = c.atoms-items.result.now in
+    let i = c.loop-item.item-index in
+    let x = c.item-item.result in
+    let each = (c.keeps_made.ensures c.args.s (Atoms items) c.atoms-items.ensures).each in
+    record {
+      best = atoms_cheap arena c.keeps_made.ensures c.args.s (PartFits arena) (part_fits arena) items each i c.loop-item.best c.loop-item.invariant.best;
+      next = atom_cheap arena c.keeps_made.ensures c.args.s (PartFits arena) (part_fits arena) x (each i x (here items i x c.loop-item-test.true c.item-item.is)) c.in_ok-next.next c.in_ok-next.ensures.best;
+    }

@@ -5,6 +5,8 @@ use Rattle.fill_rank.specs.Rank.{atom_rank}
 use Rattle.fill_rank.specs.Sets.{ConstantFits, ConstantStands}
 use Rattle.fill_rank.proofs.Best.{atom_rank-total, atom_rank-exact}
 use Rattle.fill_rank.proofs.Scan.{scan_step, scan_done}
+use Rattle.fill_arena.specs.declared.entry.Entry.TheVariants.{Atoms}
+use Rattle.fill_rank.proofs.Cheap.{atoms_cheap, atom_cheap, constant_fits}
 use Rattle.fill_rank.proofs.Stand.{atom_items, items_atom}
 use Rattle.fill_rank.proofs.sets.constant_of.Goals as goal
 
@@ -14,7 +16,7 @@ loop-item-preserved c =
     let i = c.loop-item.item-index in
     let x = c.item-item.result in
     scan_step (λ x a. ConstantFits c.args.arena.now x a) items atom_tree atom_rank atom_rank-total atom_rank-exact i x (here items i x c.loop-item-test.true c.item-item.is)
-    c.loop-item.best c.in_ok-constant_in.field-0 c.in_ok-best.best c.in_ok-best.ensures c.loop-item.invariant (c.in_ok-constant_in.ensures c.args.arena.now)
+    c.loop-item.best c.in_ok-constant_in.field-0 c.lesser_atom-best.result c.lesser_atom-best.ensures c.loop-item.invariant (c.in_ok-constant_in.ensures c.args.arena.now)
 
 pub returns : goal.returns
 returns c =
@@ -23,3 +25,16 @@ returns c =
     scan_done (λ x a. ConstantFits arena x a) items atom_tree atom_rank (ConstantStands arena c.args.s)
     (atom_items arena c.args.s items c.atoms-item-items.ensures (λ a. ¬ (IsPart a))) (items_atom arena c.args.s items c.atoms-item-items.ensures (λ a. ¬ (IsPart a)))
     c.loop-item.item-index c.loop-item-test.false c.loop-item.best c.loop-item.invariant
+
+pub lesser_atom-best-requires : goal.lesser_atom-best-requires
+lesser_atom-best-requires c =
+    let arena = c.args.arena.now in
+    let items = c.atoms-item-items.result.now in
+    let i = c.loop-item.item-index in
+    let x = c.item-item.result in
+    let each = (c.keeps_made.ensures c.args.s (Atoms items) c.atoms-item-items.ensures).each in
+    record {
+      best = atoms_cheap arena c.keeps_made.ensures c.args.s (ConstantFits arena) (constant_fits arena) items each i c.loop-item.best c.loop-item.invariant;
+      next = atom_cheap arena c.keeps_made.ensures c.args.s (ConstantFits arena) (constant_fits arena) x (each i x (here items i x c.loop-item-test.true c.item-item.is)) c.in_ok-constant_in.field-0
+          (c.in_ok-constant_in.ensures arena);
+    }

@@ -1,6 +1,8 @@
+use Rattle.std.proofs.Common.{[], ◌∷◌}
 use Rattle.fill_arena.specs.Contents.{IsPlaceSet, IsSourceSet, IsAtomSet}
 use Rattle.fill_rank.proofs.Pieces.{ok_on}
-use Rattle.fill_rank.proofs.Samples.{sample_constant, sample_parts, sample_graph, places_later, atoms_later}
+use Rattle.fill_arena.proofs.Samples.{sample_graph, two_sets, places_later, atoms_later}
+use Rattle.fill_rank.proofs.Samples.{sample_constant, sample_parts}
 use Rattle.fill_rank.proofs.tests.fill.Goals as goal
 
 pub intern_atoms-requires : goal.intern_atoms-requires
@@ -30,7 +32,7 @@ intern_graph-requires g c =
     (atoms_later c2 c3 s c.intern_places-2.ensures.kept
     (atoms_later c.intern_atoms.new.self c2 s c.intern_places.ensures.kept (_, c.in_ok-first.ensures.ok)))) in
     let second : IsAtomSet now c.in_ok-second.second = (_, c.in_ok-second.ensures.ok) in
-    rw c.in_ok-edges.ensures (sample_graph now s c.in_ok-second.second first second)
+    rw c.in_ok-edges.ensures (sample_graph now s (c.in_ok-second.second ∷ []) (two_sets now s c.in_ok-second.second first second))
 
 pub returns : goal.returns
 returns g c = ok_on _ _ c.intern_graph.result c.intern_graph.ensures.ok (λ graph h. (_, _, h))
