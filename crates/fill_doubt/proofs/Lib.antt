@@ -1,0 +1,14 @@
+mod Answered
+mod Filled
+mod Flags
+mod Gains
+mod Items
+mod Joins
+mod Laid
+mod Maps
+mod Marks
+mod Programs
+mod Rising
+mod Spelling
+mod Tables
+mod Walked

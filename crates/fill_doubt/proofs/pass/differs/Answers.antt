@@ -1,0 +1,61 @@
+use Rattle.std.proofs.Common.{◌≡◌, ◌↔◌, ◌-◌, ◌<◌, ◌≤◌, ℕ, suc, length, drop, take, map, get_or, List, [], ◌∷◌, ◌++◌, Option, None, Some, true, false, inl, inr, ⊎_elim, IsTrue, slice_get, refl, sym, ap, subst, ◌∙◌, arith, rules}
+use Rattle.std.proofs.lemmas.Bool.{false≢true}
+use Rattle.fill_arena.proofs.Scan.{here}
+use Rattle.fill_doubt.specs.Known.{EdgeAnswers}
+use Rattle.fill_doubt.proofs.Flags.{fine_on}
+use Rattle.fill_doubt.proofs.Laid.{AllAgree, laid_start, all_more, from_is_laid, edge_differs, agree_no_doubt}
+use Rattle.fill_doubt.proofs.pass.differs.Goals as goal
+
+pub loop-i-init : goal.loop-i-init
+loop-i-init c =
+    let h = c.in_ok-lengths.ensures in
+    record {
+      known = c.requires.known;
+      long = h.long;
+      laid = laid_start (EdgeAnswers c.args.on.now) c.args.edges.now c.args.text.now c.in_ok-lengths.lengths.items h.first h.others;
+      all = record { agree = λ k e l g. absurd (omega arith) };
+    }
+
+pub follow_edge-requires-clause-atoms : goal.follow_edge-requires-clause-atoms
+follow_edge-requires-clause-atoms c =
+    let x = c.index-edges-i.result in
+    (c.requires.edges.1.each c.loop-i.i x (here c.args.edges.now c.loop-i.i x c.loop-i-test.true c.index-edges-i.is)).atoms.0
+
+pub follow_edge-requires-clause-from : goal.follow_edge-requires-clause-from
+follow_edge-requires-clause-from c =
+    let G = EdgeAnswers c.args.on.now in
+    let x = c.index-edges-i.result in
+    let at = here c.args.edges.now c.loop-i.i x c.loop-i-test.true c.index-edges-i.is in
+    let fine = fine_on c.args.on.now c.requires.row c.args.nodes c.args.edges.now c.requires.edges in
+    rw c.as_mut_slice.ensures.value (from_is_laid G c.args.edges.now c.args.text.now c.loop-i.lengths.items c.args.nodes c.loop-i.i x fine at c.loop-i.invariant.laid.first c.loop-i.invariant.all)
+
+pub follow_edge-requires-clause-to : goal.follow_edge-requires-clause-to
+follow_edge-requires-clause-to c =
+    let x = c.index-edges-i.result in
+    let at = here c.args.edges.now c.loop-i.i x c.loop-i-test.true c.index-edges-i.is in
+    let w = (c.requires.edges.1.each c.loop-i.i x at).within in
+    let size = ap length c.as_mut_slice.ensures.value in
+    let long = c.loop-i.invariant.long in
+    omega arith
+
+pub follow_edge-requires-clause-laid : goal.follow_edge-requires-clause-laid
+follow_edge-requires-clause-laid c =
+    let x = c.index-edges-i.result in
+    let at = here c.args.edges.now c.loop-i.i x c.loop-i-test.true c.index-edges-i.is in
+    (c.args.edges.now, (c.loop-i.i, at), rw c.as_mut_slice.ensures.value c.loop-i.invariant.laid)
+
+pub returns-then-not-follow_edge : goal.returns-then-not-follow_edge
+returns-then-not-follow_edge c = ?
+
+pub loop-i-preserved : goal.loop-i-preserved
+loop-i-preserved c = ?
+
+pub returns : goal.returns
+returns c =
+    let G = EdgeAnswers c.args.on.now in
+    let edges = c.args.edges.now in
+    let e : c.loop-i.i ≡ length edges = (let a = c.loop-i.auto.i-end in let b = c.loop-i-test.false in omega arith) in
+    let all = subst (λ n. AllAgree G edges c.args.text.now c.loop-i.lengths.items n) e c.loop-i.invariant.all in (
+      λ t. absurd (false≢true t),
+      λ d. absurd (agree_no_doubt G edges c.args.text.now c.loop-i.lengths.items all (c.args.nodes - 1) c.loop-i.invariant.laid.first c.requires.one d),
+    )
