@@ -23,8 +23,8 @@ returns-in-Some c =
     let there = graph_there c.args.arena.now c.args.g c.nodes.result c.edges.result.now c.nodes.ensures c.edges.ensures in
     if_ok c.differs.result c.differs.ensures (λ b h. by_differs on ok c.args.g c.nodes.result c.edges.result.now there b h)
 
-pub returns-in-None : goal.returns-in-None
-returns-in-None c =
+pub returns : goal.returns
+returns c =
     let on : OnRow = record { alloc = c.args.alloc; arena = c.args.arena; row = c.args.row; sheet = c.args.sheet; tables = c.args.tables } in
     let ok : IsOnRow on = record { first = c.requires.first; last = c.requires.last; distinguish = c.keeps_keys.ensures; made = c.keeps_made.ensures } in
     let there = graph_there c.args.arena.now c.args.g c.nodes.result c.edges.result.now c.nodes.ensures c.edges.ensures in

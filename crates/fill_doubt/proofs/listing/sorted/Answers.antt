@@ -24,3 +24,6 @@ loop-i-preserved c =
 
 pub returns : goal.returns
 returns c = ?
+
+pub copies-requires : goal.copies-requires
+copies-requires c = ?

@@ -44,8 +44,8 @@ follow_edge-requires-clause-laid c =
     let at = here c.args.edges.now c.loop-i.i x c.loop-i-test.true c.index-edges-i.is in
     (c.args.edges.now, (c.loop-i.i, at), rw c.as_mut_slice.ensures.value c.loop-i.invariant.laid)
 
-pub returns-then-not-follow_edge : goal.returns-then-not-follow_edge
-returns-then-not-follow_edge c = ?
+pub returns-then-not-branch : goal.returns-then-not-branch
+returns-then-not-branch c = ?
 
 pub loop-i-preserved : goal.loop-i-preserved
 loop-i-preserved c = ?

@@ -14,8 +14,8 @@ loop-i-init c = record {
 
 pub append_first-requires-clause-atoms : goal.append_first-requires-clause-atoms
 append_first-requires-clause-atoms c =
-    let x = c.index-e.result in
-    (c.requires.edges.1.each c.loop-i.i x (here c.args.edges.now c.loop-i.i x c.loop-i-test.true c.index-e.is)).atoms.0
+    let x = c.index-edges-i.result in
+    (c.requires.edges.1.each c.loop-i.i x (here c.args.edges.now c.loop-i.i x c.loop-i-test.true c.index-edges-i.is)).atoms.0
 
 pub returns-clause-answer : goal.returns-clause-answer
 returns-clause-answer c =

@@ -12,8 +12,8 @@ returns-then-lefts c = (
 
 pub returns-then-rights : goal.returns-then-rights
 returns-then-rights c = (
-  (λ t. inr (c.if-rights.true, c.is_some.ensures.0 t)),
-  (λ h. ⊎_elim (λ l. absurd (false≢true (sym c.if-lefts.false ∙ l.0))) (λ r. c.is_some.ensures.1 r.1) h),
+  (λ t. inr (c.if-rights.true, c.is_some-then-rights.ensures.0 t)),
+  (λ h. ⊎_elim (λ l. absurd (false≢true (sym c.if-lefts.false ∙ l.0))) (λ r. c.is_some-then-rights.ensures.1 r.1) h),
 )
 
 pub returns : goal.returns

@@ -9,7 +9,7 @@ use Rattle.fill_doubt.proofs.rows.put_constant.Goals as goal
 pub returns-in-Some : goal.returns-in-Some
 returns-in-Some c =
     let rest = c.args.rest.now.rows.items in
-    let t = c.in-Some.text.now in
+    let t = c.in-Some.text in
     let is = c.in-Some.is in
     on_ok c.put_before.result (rw c.as_slice.ensures at c.put_before.ensures)
     (gains_alike _ _ (AreInFront (choice_of t false) rest) (λ o. (u : List ℕ) × (c.args.constant.now ≡ Some u) × AreInFront (choice_of u false) rest o)

@@ -29,4 +29,4 @@ returns c =
     let xs = c.args.parts.now.pieces in
     let past : length xs.items ≤ c.loop-i.i = (let n = xs.ok.0 in let l = c.len-i-end.ensures in let t = c.loop-i-test.false in omega arith) in
     let all = below_end (λ y. AreInFront (choice_of (piece_text y) true) c.args.rest.now.rows.items) xs.items (RowsHave c.put_constant.new.made) (RowsHave c.loop-i.made) c.loop-i.i past c.loop-i.invariant in
-    gains_fronts c.args.constant.now c.args.parts.now c.args.rest.now c.lack.result c.lack.ensures _ (RowsHave c.put_constant.new.made) (RowsHave c.loop-i.made) (fronts_start _ c.lack.result c.new.ensures.items refl) c.in_ok-put_constant.ensures all
+    gains_fronts c.args.constant.now c.args.parts.now c.args.rest.now c.lack.result c.lack.ensures (RowsHave (record { rows = c.new.result; none = c.lack.result })) (RowsHave c.put_constant.new.made) (RowsHave c.loop-i.made) (fronts_start (record { rows = c.new.result; none = c.lack.result }) c.lack.result c.new.ensures.items refl) c.in_ok-put_constant.ensures all

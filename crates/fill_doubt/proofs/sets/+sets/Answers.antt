@@ -28,7 +28,7 @@ scan_sources-put_source-requires n c =
     let items = c.sources-items.result.now in
     let i = c.loop-item.item-index in
     let x = c.item-item.result in
-    (search rules, ((c.keeps_made.ensures c.args.s (Sources items) c.sources-items.ensures).each i x (here items i x c.loop-item-test.true c.item-item.is), c.requires.row, c.loop-item.invariant.known))
+    (search rules, ((c.keeps_made.ensures c.args.s (Sources items) c.sources-items.ensures).each i x (here items i x c.loop-item-test.true c.item-item.is), (c.requires.row, c.loop-item.invariant.known)))
 
 pub scan_sources-loop-item-preserved : goal.scan_sources-loop-item-preserved
 scan_sources-loop-item-preserved n c =
@@ -63,7 +63,7 @@ scan_parts-put_part-requires n c =
     let items = c.atoms-items.result.now in
     let i = c.loop-item.item-index in
     let x = c.item-item.result in
-    (search rules, ((c.keeps_made.ensures c.args.s (Atoms items) c.atoms-items.ensures).each i x (here items i x c.loop-item-test.true c.item-item.is), c.requires.row, c.loop-item.invariant.known, c.loop-item.invariant.within))
+    (search rules, ((c.keeps_made.ensures c.args.s (Atoms items) c.atoms-items.ensures).each i x (here items i x c.loop-item-test.true c.item-item.is), (c.requires.row, (c.loop-item.invariant.known, c.loop-item.invariant.within))))
 
 pub scan_parts-loop-item-preserved : goal.scan_parts-loop-item-preserved
 scan_parts-loop-item-preserved n c =
@@ -104,7 +104,7 @@ rows_of-longer_rows-requires n c =
     let k = c.loop-left.left - 1 in
     let within = c.loop-left.invariant.within in
     let x = c.index-items-left.result in
-    (search rules, (c.requires.items k x (here items k x (omega (arith, c.loop-left-test.true)) c.index-items-left.is), c.requires.row, c.loop-left.invariant.known))
+    (search rules, (c.requires.items k x (here items k x (omega (arith, c.loop-left-test.true)) c.index-items-left.is), (c.requires.row, c.loop-left.invariant.known)))
 
 pub rows_of-loop-left-preserved : goal.rows_of-loop-left-preserved
 rows_of-loop-left-preserved n c =
