@@ -1,5 +1,7 @@
 -- What is told of a graph's programs, by what is found on its edges.
-use Rattle.std.proofs.Common.{◌≡◌, ◌↔◌, ℕ, zero, suc, ◌-◌, List, [], ◌∷◌, length, drop, refl, ap, Bool, Option, None, Some, Result, Ok, Err, IfOk, OnOk, IsTrue, slice_get, ◌∙◌, sym, subst}
+use Rattle.std.proofs.Common.{◌≡◌, ◌↔◌, ℕ, zero, suc, ◌-◌, ◌≤◌, List, [], ◌∷◌, ◌++◌, length, take, drop, refl, ap, Bool, true, false, Option, None, Some, Result, Ok, Err, IfOk, OnOk, IsTrue, MatchBool, MatchOption, slice_get, ◌∙◌, sym, subst, arith}
+use Rattle.std.proofs.lemmas.Bool.{false≢true}
+use Rattle.std.proofs.lemmas.List.{take_all, take-append-le}
 use Rattle.fill_arena.specs.Contents.{HasEdges, HasNodes, SomeIn}
 use Rattle.fill_arena.specs.declared.entry.Edge.{Edge}
 use Rattle.fill_arena.specs.declared.entry.Entry.{Entry}
@@ -18,6 +20,26 @@ if_ok (Err e) h f = h
 pub on_ok : {A E : Type 0} {P Q : Type 0} (r : Result A E) → OnOk r P → (P → Q) → OnOk r Q
 on_ok (Ok x) h f = f h
 on_ok (Err e) h f = h
+
+pub match_true : (P Q : Type 0) (b : Bool) → MatchBool b P Q → b ≡ true → P
+match_true P Q true h e = h
+match_true P Q false h e = absurd (false≢true e)
+
+pub match_false : (P Q : Type 0) (b : Bool) → MatchBool b P Q → b ≡ false → Q
+match_false P Q true h e = absurd (false≢true (sym e))
+match_false P Q false h e = h
+
+pub match_map : {A B P Q : Type 0} (b : Bool) → MatchBool b A B → (A → P) → (B → Q) → MatchBool b P Q
+match_map true h f g = f h
+match_map false h f g = g h
+
+pub match_none : {A : Type 0} (P : Type 0) (Q : A → Type 0) (o : Option A) → MatchOption o P Q → o ≡ None → P
+match_none P Q None h e = h
+match_none P Q (Some x) h e = absurd cc
+
+-- what a slice that was lent gives back
+pub written : {A : Type 0} (new rest : List A) (n : ℕ) → n ≡ length new → take n (new ++ rest) ≡ new
+written new rest n e = take-append-le n new rest (omega arith) ∙ take_all n new (omega arith)
 
 pub graph_there : (c : List Entry) (g nodes : ℕ) (edges : List Edge) → HasNodes c g nodes → HasEdges c g edges → slice_get c g ≡ Some (Graph nodes edges)
 graph_there c g nodes edges n e =

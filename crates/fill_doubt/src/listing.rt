@@ -45,6 +45,8 @@ pub fn values(
     ensures exact { IfOk result (λ set. (v : Items ℕ) → In v set.texts ↔ AtomGives arena.now sheet.now tables.now row s (Some v)) }
     ensures none { IfOk result (λ set. IsTrue set.none ↔ AtomGives arena.now sheet.now tables.now row s None) }
 {
+    arena.keeps_made();
+    tables.keeps_keys();
     let on = OnRow {
         alloc,
         arena,

@@ -2,7 +2,13 @@ use Rattle.std.proofs.Common.{◌≡◌, ◌↔◌, ◌-◌, ◌<◌, ◌≤◌,
 use Rattle.std.proofs.lemmas.Bool.{false≢true}
 use Rattle.fill_arena.proofs.Scan.{here}
 use Rattle.std.specs.Ordering.{nat_cmp}
-use Rattle.fill_doubt.proofs.Rising.{exact_end, exact_more, exact_nil, map_rising, rising_nil, within_nil}
+use Rattle.std.specs.List.{AllPairs}
+use Rattle.std.specs.declared.cmp.Ordering.TheVariants.{Less}
+use Rattle.fill_arena.specs.Contents.{EachIn, In, SomeIn}
+use Rattle.fill_eval.specs.Piece.{IsWithin, piece_text}
+use Rattle.fill_eval.specs.declared.piece.Piece.{Piece}
+use Rattle.fill_doubt.proofs.Flags.{if_ok}
+use Rattle.fill_doubt.proofs.Rising.{exact_end, exact_more, exact_nil, map_rising, rising_nil, text_cmp, within_nil}
 use Rattle.fill_doubt.proofs.listing.sorted.Goals as goal
 
 pub loop-i-init : goal.loop-i-init
@@ -22,8 +28,16 @@ loop-i-preserved c =
       exact = exact_more c.loop-i.order.items c.insert.new.order.items c.args.pieces.now c.loop-i.i c.index-pieces-i.result at c.loop-i.invariant.exact c.in_ok-insert.ensures.gains;
     }
 
-pub returns : goal.returns
-returns c = ?
-
 pub copies-requires : goal.copies-requires
-copies-requires c = ?
+copies-requires c = subst (λ (xs : List Piece). EachIn IsWithin xs) (sym c.as_slice.ensures.value) c.loop-i.invariant.within
+
+pub returns : goal.returns
+returns c =
+    let order = c.loop-i.order.items in
+    let pieces = c.args.pieces.now in
+    let same : map piece_text c.as_slice.result.now ≡ map piece_text order = ap (λ (xs : List Piece). map piece_text xs) c.as_slice.ensures.value in
+    let exact = exact_end order pieces c.loop-i.i c.loop-i-test.false c.loop-i.invariant.exact in
+    record {
+      rising = if_ok c.copies.result c.copies.ensures (λ texts e. subst (λ (ts : List (List ℕ)). AllPairs (λ v w. text_cmp v w ≡ Less) ts) (sym (e ∙ same)) (map_rising order c.loop-i.invariant.rising));
+      exact = if_ok c.copies.result c.copies.ensures (λ texts e. subst (λ (ts : List (List ℕ)). (v : List ℕ) → In v ts ↔ SomeIn (λ x. piece_text x ≡ v) pieces) (sym (e ∙ same)) exact);
+    }

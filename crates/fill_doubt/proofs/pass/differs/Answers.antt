@@ -2,7 +2,9 @@ use Rattle.std.proofs.Common.{◌≡◌, ◌↔◌, ◌-◌, ◌<◌, ◌≤◌,
 use Rattle.std.proofs.lemmas.Bool.{false≢true}
 use Rattle.fill_arena.proofs.Scan.{here}
 use Rattle.fill_doubt.specs.Known.{EdgeAnswers}
-use Rattle.fill_doubt.proofs.Flags.{fine_on}
+use Rattle.std.proofs.Common.{◌+◌}
+use Rattle.fill_doubt.specs.Walks.{AreLaid, KeepsLengths}
+use Rattle.fill_doubt.proofs.Flags.{fine_on, match_false, match_true, written}
 use Rattle.fill_doubt.proofs.Laid.{AllAgree, laid_start, all_more, from_is_laid, edge_differs, agree_no_doubt}
 use Rattle.fill_doubt.proofs.pass.differs.Goals as goal
 
@@ -45,10 +47,41 @@ follow_edge-requires-clause-laid c =
     (c.args.edges.now, (c.loop-i.i, at), rw c.as_mut_slice.ensures.value c.loop-i.invariant.laid)
 
 pub returns-then-not-branch : goal.returns-then-not-branch
-returns-then-not-branch c = ?
+returns-then-not-branch c =
+    let G = EdgeAnswers c.args.on.now in
+    let edges = c.args.edges.now in
+    let text = c.args.text.now in
+    let x = c.index-edges-i.result in
+    let at = here edges c.loop-i.i x c.loop-i-test.true c.index-edges-i.is in
+    let fine = fine_on c.args.on.now c.requires.row c.args.nodes edges c.requires.edges in
+    let clash = match_false _ _ c.in_ok-follow_edge.field-0 c.in_ok-follow_edge.ensures.says c.if-not-branch.true in
+    let before = subst (λ (ls : List (Option ℕ)). AreLaid G edges text ls) (sym c.as_mut_slice.ensures.value) c.loop-i.invariant.laid in
+    let laid = c.in_ok-follow_edge.ensures.laid edges (c.loop-i.i, at) before in
+    ((λ _. edge_differs G edges text c.follow_edge.new.lengths c.args.nodes fine c.requires.one laid x (c.loop-i.i, at) clash), (λ _. refl))
 
 pub loop-i-preserved : goal.loop-i-preserved
-loop-i-preserved c = ?
+loop-i-preserved c =
+    let G = EdgeAnswers c.args.on.now in
+    let edges = c.args.edges.now in
+    let text = c.args.text.now in
+    let x = c.index-edges-i.result in
+    let old = c.loop-i.lengths.items in
+    let new = c.follow_edge.new.lengths in
+    let n = c.loop-i.lengths.len in
+    let size : n ≡ length new = (let k = c.loop-i.lengths.ok.0 in let v = ap length c.as_mut_slice.ensures.value in let a = c.follow_edge.auto.lengths in omega arith) in
+    let is = written new (drop (length new) old) n size in
+    let at = here edges c.loop-i.i x c.loop-i-test.true c.index-edges-i.is in
+    let agrees = match_true _ _ c.in_ok-follow_edge.field-0 c.in_ok-follow_edge.ensures.says c.if-not-branch.false in
+    let before = subst (λ (ls : List (Option ℕ)). AreLaid G edges text ls) (sym c.as_mut_slice.ensures.value) c.loop-i.invariant.laid in
+    let laid = c.in_ok-follow_edge.ensures.laid edges (c.loop-i.i, at) before in
+    let keeps = subst (λ (ls : List (Option ℕ)). KeepsLengths ls new) c.as_mut_slice.ensures.value c.in_ok-follow_edge.ensures.keeps in
+    let all = all_more G edges text old new c.loop-i.i x at keeps c.loop-i.invariant.all agrees in
+    record {
+      known = c.in_ok-follow_edge.ensures.known;
+      long = ap length is ∙ (let k = c.loop-i.lengths.ok.0 in let l = c.loop-i.invariant.long in omega arith);
+      laid = subst (λ (ls : List (Option ℕ)). AreLaid G edges text ls) (sym is) laid;
+      all = subst (λ (ls : List (Option ℕ)). AllAgree G edges text ls (c.loop-i.i + 1)) (sym is) all;
+    }
 
 pub returns : goal.returns
 returns c =

@@ -2,8 +2,9 @@ use Rattle.std.proofs.Common.{◌≡◌, ◌↔◌, ◌-◌, ◌<◌, ◌≤◌,
 use Rattle.std.proofs.lemmas.Bool.{false≢true}
 use Rattle.fill_arena.proofs.Scan.{here}
 use Rattle.fill_doubt.specs.Known.{EdgeAnswers}
-use Rattle.fill_doubt.proofs.Flags.{fine_on, lacks_one}
-use Rattle.fill_doubt.proofs.Walked.{walked_start, walked_more, walked_skip, walked_end}
+use Rattle.fill_doubt.proofs.Flags.{fine_on, lacks_one, match_false, match_true}
+use Rattle.std.proofs.Common.{◌+◌}
+use Rattle.fill_doubt.proofs.Walked.{IsWalked, walked_start, walked_more, walked_skip, walked_end}
 use Rattle.fill_doubt.proofs.pass.one_answer.Goals as goal
 
 pub loop-i-init : goal.loop-i-init
@@ -21,3 +22,24 @@ pub returns-clause-answer : goal.returns-clause-answer
 returns-clause-answer c =
     let fine = fine_on c.args.on.now c.requires.row c.args.nodes c.args.edges.now c.requires.edges in
     walked_end (EdgeAnswers c.args.on.now) c.args.edges.now c.args.nodes c.loop-i.at c.loop-i.text c.loop-i.i fine c.loop-i.invariant.walked c.loop-i-test.false
+
+pub returns-then-not-branch-clause-answer : goal.returns-then-not-branch-clause-answer
+returns-then-not-branch-clause-answer c =
+    let G = EdgeAnswers c.args.on.now in
+    let x = c.index-edges-i.result in
+    let at = here c.args.edges.now c.loop-i.i x c.loop-i-test.true c.index-edges-i.is in
+    let fine = fine_on c.args.on.now c.requires.row c.args.nodes c.args.edges.now c.requires.edges in
+    lacks_one G c.args.nodes c.args.edges.now fine c.loop-i.i x at (match_false _ _ c.in_ok-append_first.field-0 c.in_ok-append_first.ensures.appended c.if-not-branch.true)
+
+pub loop-i-preserved : goal.loop-i-preserved
+loop-i-preserved c =
+    let G = EdgeAnswers c.args.on.now in
+    let edges = c.args.edges.now in
+    let x = c.index-edges-i.result in
+    let at = here edges c.loop-i.i x c.loop-i-test.true c.index-edges-i.is in
+    let fine = fine_on c.args.on.now c.requires.row c.args.nodes edges c.requires.edges in
+    let t = match_true _ _ c.in_ok-append_first.field-0 c.in_ok-append_first.ensures.appended c.if-not-branch.false in
+    record {
+      known = c.in_ok-append_first.ensures.known;
+      walked = subst (λ (u : List ℕ). IsWalked G edges c.args.nodes x.to u (c.loop-i.i + 1)) (sym t.2) (walked_more G edges c.args.nodes c.loop-i.at c.loop-i.text c.loop-i.i fine c.loop-i.invariant.walked x t.0 at t.1 c.if-e-at.false);
+    }

@@ -2,6 +2,7 @@ use Rattle.std.proofs.Common.{◌≡◌, ◌↔◌, ◌-◌, ◌<◌, ◌≤◌,
 use Rattle.std.proofs.lemmas.Bool.{false≢true}
 use Rattle.fill_arena.proofs.Scan.{here}
 use Rattle.fill_eval.specs.Piece.{piece_text}
+use Rattle.fill_doubt.specs.Answers.{Gains}
 use Rattle.fill_doubt.specs.Rows.{AreInFront, RowsHave, choice_of}
 use Rattle.fill_doubt.proofs.Gains.{below_start, below_more, below_end}
 use Rattle.fill_doubt.proofs.Joins.{gains_fronts, fronts_start}
@@ -22,7 +23,8 @@ loop-i-preserved c =
     let x = c.index.result.now in
     let lt : c.loop-i.i < length xs.items = (let n = xs.ok.0 in let l = c.len-i-end.ensures in let t = c.loop-i-test.true in omega arith) in
     below_more (λ y. AreInFront (choice_of (piece_text y) true) c.args.rest.now.rows.items) xs.items (RowsHave c.put_constant.new.made) (RowsHave c.loop-i.made) (RowsHave c.put_before.new.made) c.loop-i.i x
-    (here xs.items c.loop-i.i x lt c.index.ensures) c.loop-i.invariant ?
+    (here xs.items c.loop-i.i x lt c.index.ensures) c.loop-i.invariant
+    (subst (λ t. Gains (RowsHave c.loop-i.made) (RowsHave c.put_before.new.made) (AreInFront (choice_of t true) c.args.rest.now.rows.items)) c.as_slice.ensures c.in_ok-put_before.ensures)
 
 pub returns : goal.returns
 returns c =
