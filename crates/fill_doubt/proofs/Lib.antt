@@ -9,6 +9,7 @@ mod Maps
 mod Marks
 mod Programs
 mod Rising
+mod Samples
 mod Spelling
 mod Tables
 mod Walked

@@ -1,11 +1,11 @@
 //! What small sets and graphs, made by hand, answer on the first row of small sheets.
 ghost use Rattle.std.specs.Prelude.{◌≡◌, ◌≤◌, List as Items, [], ◌∷◌, length, IfOk};
-ghost use Rattle.fill_arena.specs.Contents.{Extends, IsAtomSet, IsPlaceSet, IsSourceSet};
+ghost use Rattle.fill_arena.specs.Contents.{Extends, IsAtomSet, IsGraph, IsPlaceSet, IsSourceSet};
 ghost use Rattle.fill_arena.specs.WellMade.{IsAtomItem};
 ghost use Rattle.fill_arena.specs.declared.entry.Entry.{Entry as Kept};
 
 use crate::*;
-use fill_arena::{Arena, AtomItem, AtomSet, Edge, PlaceSet, SourceItem, SourceSet};
+use fill_arena::{Arena, AtomItem, AtomSet, Edge, GraphId, PlaceSet, SourceItem, SourceSet};
 use fill_edge::{Ledger, Steps};
 use fill_sheet::Sheet;
 use fill_tables::Tables;
@@ -129,25 +129,38 @@ fn tables(alloc: Global) -> Result<Tables, Fail> {
     Ok(tables)
 }
 
-/// The flag of a graph of two edges, of two atoms each, on a row of one cell; None where the sheet has no row.
-fn flag<L: Ledger>(
+/// The graph of two edges, where nothing is counted yet.
+fn graph_of<L: Ledger>(
     alloc: Global,
     blank: Blank,
-    cell: &str,
-    first: (Listed, Listed),
-    second: (Listed, Listed),
-) -> Result<Option<bool>, Fail>
+    arena: &mut Arena,
+    first: AtomSet,
+    second: AtomSet,
+) -> Result<GraphId, NoMemory>
     requires name { blank.name ≡ L.name }
     requires parts { blank.parts ≡ L.parts }
     requires one { blank.parts ≡ 1 }
+    requires first { IsAtomSet arena.old first }
+    requires second { IsAtomSet arena.old second }
+    ensures { IfOk result (IsGraph arena.new) }
 {
     let (book, share) = blank.open::<L>();
     let mut steps: Steps<L> = Steps::new(book, share);
+    arena.intern_graph(3, edges(alloc, first, second)?, &mut steps)
+}
+
+/// The flag of a graph of two edges, of two atoms each, on a row of one cell; None where the sheet has no row.
+fn doubted(
+    alloc: Global,
+    cell: &str,
+    first: (Listed, Listed),
+    second: (Listed, Listed),
+) -> Result<Option<bool>, Fail> {
     let mut arena = Arena::new(alloc);
     let sets = named(alloc, &mut arena)?;
     let a = atoms(alloc, &mut arena, sets, first.0, first.1)?;
     let b = atoms(alloc, &mut arena, sets, second.0, second.1)?;
-    let graph = arena.intern_graph(3, edges(alloc, a, b)?, &mut steps)?;
+    let graph = graph_of::<Brand>(alloc, Blank::new(1), &mut arena, a, b)?;
     let sheet = Sheet::read(alloc, cell.as_bytes(), false, &[1], None)?;
     if sheet.rows() == 0 {
         return Ok(None);
@@ -155,25 +168,15 @@ fn flag<L: Ledger>(
     Ok(Some(doubt(alloc, &arena, graph, 1, &sheet, &tables(alloc)?)?))
 }
 
-/// The same, where nothing is counted yet.
-fn doubted(
-    alloc: Global,
-    cell: &str,
-    first: (Listed, Listed),
-    second: (Listed, Listed),
-) -> Result<bool, Fail> {
-    Ok(flag::<Brand>(alloc, Blank::new(1), cell, first, second)? == Some(true))
-}
-
 #[test]
 fn equal_answers_are_no_doubt(rt: HostRuntime) -> Result<(), Fail> {
     use Listed::{Constant, Piece, Whole};
     let alloc = rt.alloc();
     let z = (Constant("z"), Constant("z"));
-    assert!(rt; !doubted(alloc, "a", (Constant("a"), Whole), z)?);
-    assert!(rt; !doubted(alloc, "ab", (Piece, Whole), z)?);
-    assert!(rt; !doubted(alloc, "a", (Piece, Piece), z)?);
-    assert!(rt; !doubted(alloc, "a", (Piece, Piece), (Constant("a"), Constant("b")))?);
+    assert_eq!(rt; doubted(alloc, "a", (Constant("a"), Whole), z)?, Some(false));
+    assert_eq!(rt; doubted(alloc, "ab", (Piece, Whole), z)?, Some(false));
+    assert_eq!(rt; doubted(alloc, "a", (Piece, Piece), z)?, Some(false));
+    assert_eq!(rt; doubted(alloc, "a", (Piece, Piece), (Constant("a"), Constant("b")))?, Some(false));
     Ok(())
 }
 
@@ -182,16 +185,16 @@ fn different_answers_are_doubt(rt: HostRuntime) -> Result<(), Fail> {
     use Listed::{Constant, Piece, Whole};
     let alloc = rt.alloc();
     let z = (Constant("z"), Constant("z"));
-    assert!(rt; doubted(alloc, "b", (Constant("a"), Whole), z)?);
-    assert!(rt; doubted(alloc, "abc", (Piece, Whole), z)?);
-    assert!(rt; doubted(alloc, "a", (Constant("a"), Piece), z)?);
-    assert!(rt; doubted(alloc, "a", z, (Piece, Constant("a")))?);
-    assert!(rt; doubted(alloc, "x", (Constant("a"), Constant("ab")), (Constant("bc"), Constant("c")))?);
+    assert_eq!(rt; doubted(alloc, "b", (Constant("a"), Whole), z)?, Some(true));
+    assert_eq!(rt; doubted(alloc, "abc", (Piece, Whole), z)?, Some(true));
+    assert_eq!(rt; doubted(alloc, "a", (Constant("a"), Piece), z)?, Some(true));
+    assert_eq!(rt; doubted(alloc, "a", z, (Piece, Constant("a")))?, Some(true));
+    assert_eq!(rt; doubted(alloc, "x", (Constant("a"), Constant("ab")), (Constant("bc"), Constant("c")))?, Some(true));
     Ok(())
 }
 
 /// The values of a set of two atoms on a row of one cell, one after the other, and whether one of them has none.
-fn listed(alloc: Global, cell: &str, one: Listed, other: Listed) -> Result<Option<ValueSet>, Fail> {
+fn row_values(alloc: Global, cell: &str, one: Listed, other: Listed) -> Result<Option<ValueSet>, Fail> {
     let mut arena = Arena::new(alloc);
     let sets = named(alloc, &mut arena)?;
     let s = atoms(alloc, &mut arena, sets, one, other)?;
@@ -214,12 +217,12 @@ fn are(alloc: Global, found: &ValueSet, first: &str, second: &str) -> Result<boo
 fn values_of_sets(rt: HostRuntime) -> Result<(), Fail> {
     use Listed::{Constant, Piece, Whole};
     let alloc = rt.alloc();
-    let Some(found) = listed(alloc, "a", Constant("b"), Whole)? else {
+    let Some(found) = row_values(alloc, "a", Constant("b"), Whole)? else {
         panic!(rt; "no row");
     };
     assert!(rt; are(alloc, &found, "a", "b")?);
     assert!(rt; !found.none);
-    let Some(found) = listed(alloc, "a", Constant("a"), Piece)? else {
+    let Some(found) = row_values(alloc, "a", Constant("a"), Piece)? else {
         panic!(rt; "no row");
     };
     assert_eq!(rt; found.texts.len(), 1);
