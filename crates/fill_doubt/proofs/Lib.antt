@@ -1,0 +1,15 @@
+mod Answered
+mod Filled
+mod Flags
+mod Gains
+mod Items
+mod Joins
+mod Laid
+mod Maps
+mod Marks
+mod Programs
+mod Rising
+mod Samples
+mod Spelling
+mod Tables
+mod Walked

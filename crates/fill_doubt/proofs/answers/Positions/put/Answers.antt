@@ -1,0 +1,11 @@
+use Rattle.std.proofs.Common.{◌≡◌, ◌↔◌, ◌<◌, ◌≤◌, ℕ, length, drop, take, map, get_or, List, [], ◌∷◌, Option, None, Some, true, false, IsTrue, slice_get, refl, sym, ap, subst, ◌∙◌, arith, rules}
+use Rattle.std.proofs.lemmas.Bool.{false≢true}
+use Rattle.fill_arena.proofs.Scan.{here}
+use Rattle.fill_doubt.proofs.Gains.{have_there, have_pushed}
+use Rattle.fill_doubt.proofs.answers.Positions.put.Goals as goal
+
+pub returns-then-has : goal.returns-then-has
+returns-then-has c = have_there (λ x. x) c.args.self.now.positions.items c.args.self.now.none c.args.position (c.has.ensures.0 c.if-has.true)
+
+pub returns-in-Ok : goal.returns-in-Ok
+returns-in-Ok c = have_pushed (λ x. x) c.args.self.now.positions.items _ c.args.self.now.none _ _ c.in-Ok.ensures.items refl

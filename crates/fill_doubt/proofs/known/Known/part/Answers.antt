@@ -1,0 +1,16 @@
+use Rattle.std.proofs.Common.{◌↔◌, ℕ, List, Option, nat_eq}
+use Rattle.std.specs.HashMap.{get}
+use Rattle.fill_arena.specs.Contents.{EachIn}
+use Rattle.fill_eval.specs.Piece.{IsWithin}
+use Rattle.fill_doubt.specs.Answers.{PiecesHave, TextsHave}
+use Rattle.fill_doubt.specs.Known.{PartAnswers, SourceAnswers}
+use Rattle.fill_doubt.specs.declared.answers.Pieces.{Pieces}
+use Rattle.fill_doubt.specs.declared.answers.Texts.{Texts}
+use Rattle.fill_doubt.proofs.Maps.{found_right}
+use Rattle.fill_doubt.proofs.known.Known.part.Goals as goal
+
+pub returns-clause-answers : goal.returns-clause-answers
+returns-clause-answers c on known = found_right (λ (f : Pieces). (o : Option (List ℕ)) → PiecesHave f o ↔ PartAnswers on c.args.s o) _ _ c.get.ensures.value (λ f h. (known.parts c.args.s f h).1)
+
+pub returns-clause-within : goal.returns-clause-within
+returns-clause-within c on known = found_right (λ (f : Pieces). EachIn IsWithin f.pieces.items) _ _ c.get.ensures.value (λ f h. (known.parts c.args.s f h).0)

@@ -1,0 +1,15 @@
+use Rattle.std.proofs.Common.{◌≡◌, ◌↔◌, ◌<◌, ◌≤◌, ℕ, length, drop, take, map, get_or, List, [], ◌∷◌, Option, None, Some, true, false, IsTrue, slice_get, refl, sym, ap, subst, ◌∙◌, arith, rules}
+use Rattle.std.proofs.lemmas.Bool.{false≢true}
+use Rattle.fill_arena.proofs.Scan.{here}
+use Rattle.fill_doubt.specs.Rows.{cells_row}
+use Rattle.fill_doubt.proofs.Gains.{have_positive}
+use Rattle.fill_doubt.proofs.rows.Rows.is_some.Goals as goal
+
+pub returns-then-self : goal.returns-then-self
+returns-then-self c = ((λ _. (None, c.if-self.true)), (λ _. refl))
+
+pub returns : goal.returns
+returns c =
+    let xs = c.args.self.now.rows in
+    let n : c.len.result ≡ length xs.items = (let k = xs.ok.0 in let l = c.len.ensures in omega arith) in
+    have_positive cells_row xs.items c.args.self.now.none c.len.result n c.if-self.false

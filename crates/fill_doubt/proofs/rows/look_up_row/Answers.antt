@@ -1,0 +1,27 @@
+use Rattle.std.proofs.Common.{◌≡◌, ◌↔◌, ◌<◌, ◌≤◌, ℕ, length, drop, take, map, get_or, List, [], ◌∷◌, Option, None, Some, true, false, IsTrue, slice_get, refl, sym, ap, subst, ◌∙◌, arith, rules}
+use Rattle.std.proofs.lemmas.Bool.{false≢true}
+use Rattle.fill_arena.proofs.Scan.{here}
+use Rattle.fill_tree.specs.Value.{IsValue, LooksUp}
+use Rattle.fill_doubt.proofs.Answered.{answer_one}
+use Rattle.fill_doubt.proofs.Flags.{on_ok}
+use Rattle.fill_doubt.proofs.Gains.{gains_alike, gains_none, have_none}
+use Rattle.fill_doubt.proofs.rows.look_up_row.Goals as goal
+
+pub returns-then-not-row : goal.returns-then-not-row
+returns-then-not-row c = gains_none _ _ (λ o h. false≢true (sym c.if-not-row.true ∙ h.0))
+
+pub returns-in-Some : goal.returns-in-Some
+returns-in-Some c =
+    let i = c.args.item.now in
+    let P = LooksUp (λ ts. ts ≡ map (λ cell. cell.now) c.args.row.now.cells.items) c.args.tables.now i.column i.table i.key in
+    let is : IsValue P (Some c.in-Some.text.now) = rw c.as_slice.ensures.value at c.in-Some.ensures in
+    on_ok c.put.result c.put.ensures (gains_alike _ _ (λ o. o ≡ Some c.in-Some.text.now) (λ o. (c.args.row.now.part ≡ true) × IsValue P o)
+    (λ o. ((λ e. (c.if-not-row.false, subst (IsValue P) (sym e) is)), (λ h. answer_one P o (Some c.in-Some.text.now) h.1 is))))
+
+pub returns-in-None : goal.returns-in-None
+returns-in-None c =
+    let i = c.args.item.now in
+    let P = LooksUp (λ ts. ts ≡ map (λ cell. cell.now) c.args.row.now.cells.items) c.args.tables.now i.column i.table i.key in
+    let is : IsValue P None = rw c.as_slice.ensures.value at c.in-None.ensures in
+    gains_alike _ _ (λ o. o ≡ None) (λ o. (c.args.row.now.part ≡ true) × IsValue P o)
+    (λ o. ((λ e. (c.if-not-row.false, subst (IsValue P) (sym e) is)), (λ h. answer_one P o None h.1 is))) (have_none (λ x. x.now) c.args.found.now.texts.items c.args.found.now.none)

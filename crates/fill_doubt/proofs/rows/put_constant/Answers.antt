@@ -1,0 +1,19 @@
+use Rattle.std.proofs.Common.{◌≡◌, ◌↔◌, ◌-◌, ◌<◌, ◌≤◌, ℕ, suc, length, drop, take, map, get_or, List, [], ◌∷◌, ◌++◌, Option, None, Some, true, false, inl, inr, ⊎_elim, IsTrue, slice_get, refl, sym, ap, subst, ◌∙◌, arith, rules}
+use Rattle.std.proofs.lemmas.Bool.{false≢true}
+use Rattle.fill_arena.proofs.Scan.{here}
+use Rattle.fill_doubt.specs.Rows.{AreInFront, RowsHave, choice_of}
+use Rattle.fill_doubt.proofs.Flags.{on_ok}
+use Rattle.fill_doubt.proofs.Gains.{gains_alike, gains_none}
+use Rattle.fill_doubt.proofs.rows.put_constant.Goals as goal
+
+pub returns-in-Some : goal.returns-in-Some
+returns-in-Some c =
+    let rest = c.args.rest.now.rows.items in
+    let t = c.in-Some.text in
+    let is = c.in-Some.is in
+    on_ok c.put_before.result (rw c.as_slice.ensures at c.put_before.ensures)
+    (gains_alike _ _ (AreInFront (choice_of t false) rest) (λ o. (u : List ℕ) × (c.args.constant.now ≡ Some u) × AreInFront (choice_of u false) rest o)
+    (λ o. ((λ h. (t, is, h)), (λ h. let e = h.1 in let same : h.0 ≡ t = cc in subst (λ u. AreInFront (choice_of u false) rest o) same h.2))))
+
+pub returns-in-None : goal.returns-in-None
+returns-in-None c = gains_none _ _ (λ o h. let e = h.1 in let f = c.in-None.is in cc)

@@ -1,0 +1,6 @@
+pub mod Answers
+pub mod Gives
+pub mod Known
+pub mod Rows
+pub mod Values
+pub mod Walks

@@ -1,0 +1,353 @@
+//! The answers of sets of sources and atoms.
+//!
+//! What a set names is older than the set, so the way down ends.
+ghost use Rattle.std.specs.Prelude.{◌≡◌, ◌↔◌, ◌∷◌, ℕ, List as Items, Option, IfOk, IfSome, OnOk};
+ghost use Rattle.fill_arena.specs.Contents.{EachIn, IsAtomSet, IsPlaceSet, IsSourceSet};
+ghost use Rattle.fill_arena.specs.WellMade.{IsAtomItem, IsConditionItem, IsSourceItem, OlderAtoms};
+ghost use Rattle.fill_arena.specs.declared.entry.ConditionItem.{ConditionItem as Listed};
+ghost use Rattle.fill_tree.specs.Value.{IsFilled, IsValue};
+ghost use Rattle.fill_eval.specs.Piece.{IsWithin};
+ghost use Rattle.fill_doubt.specs.Answers.{Gains, PiecesHave, TextsHave};
+ghost use Rattle.fill_doubt.specs.Known.{AreKnown, AtomAnswers, ConditionPartAnswers, ConstantItemAnswers, IsOnRow, PartAnswers, PartItemAnswers, RowAnswers, SourceAnswers, SourceItemAnswers};
+ghost use Rattle.fill_doubt.specs.Gives.{ArePiecesOf, AreWholes, SubGives};
+ghost use Rattle.fill_doubt.specs.Rows.{RowText, RowsHave};
+
+use crate::answers::{Pieces, Texts};
+use crate::known::Known;
+use crate::positions::{positions, put_between};
+use crate::row::OnRow;
+use crate::rows::{Rows, look_up, no_conditions, put_in_front};
+use fill_arena::{AtomItem, AtomSet, ConditionItem, PlaceSet, SelectItem, SourceItem, SourceSet};
+use fill_eval::{Piece, input_cell};
+use fill_text::{NoMemory, Text};
+
+/// The texts of the sources of a set.
+#[cycle(sets)]
+fn sources_of<'a>(
+    on: &OnRow<'a>,
+    known: &mut Known<'a>,
+    s: SourceSet,
+) -> Result<Texts<'a>, NoMemory>
+    requires set { IsSourceSet on.now.arena.now s }
+    requires row { IsOnRow on.now }
+    requires known { AreKnown on.now known.old }
+    ensures known { OnOk result (AreKnown on.now known.new) }
+    ensures exact { IfOk result (λ found. (o : Option (Items ℕ)) → TextsHave found o ↔ SourceAnswers on.now s o) }
+{
+    if let Some(found) = known.source(s) {
+        return found.copy(on.alloc);
+    }
+    let found = scan_sources(on, known, s)?;
+    known.keep_source(s, found.copy(on.alloc)?)?;
+    Ok(found)
+}
+
+#[cycle(sets)]
+fn scan_sources<'a>(
+    on: &OnRow<'a>,
+    known: &mut Known<'a>,
+    s: SourceSet,
+) -> Result<Texts<'a>, NoMemory>
+    requires set { IsSourceSet on.now.arena.now s }
+    requires row { IsOnRow on.now }
+    requires known { AreKnown on.now known.old }
+    ensures known { OnOk result (AreKnown on.now known.new) }
+    ensures exact { IfOk result (λ found. (o : Option (Items ℕ)) → TextsHave found o ↔ SourceAnswers on.now s o) }
+{
+    let arena = on.arena;
+    arena.keeps_made();
+    let items = arena.sources(s);
+    let mut found = Texts::new(on.alloc);
+    for item in items {
+        put_source(on, known, s, item, &mut found)?;
+    }
+    Ok(found)
+}
+
+/// The texts of the sources that an item of the set stands for.
+#[cycle(sets)]
+fn put_source<'a>(
+    on: &OnRow<'a>,
+    known: &mut Known<'a>,
+    set: SourceSet,
+    item: &'a SourceItem,
+    found: &mut Texts<'a>,
+) -> Result<(), NoMemory>
+    requires item { IsSourceItem on.now.arena.now set item.now }
+    requires row { IsOnRow on.now }
+    requires known { AreKnown on.now known.old }
+    ensures known { OnOk result (AreKnown on.now known.new) }
+    ensures gains { OnOk result (Gains (TextsHave found.old) (TextsHave found.new) (SourceItemAnswers on.now item.now)) }
+{
+    match item {
+        SourceItem::Col(column) => put_cell(on, *column, found),
+        SourceItem::Select(listed) => put_lookups(on, known, set, listed, found),
+    }
+}
+
+fn put_cell<'a>(on: &OnRow<'a>, column: u32, found: &mut Texts<'a>) -> Result<(), NoMemory>
+    requires { IsOnRow on.now }
+    ensures { OnOk result (Gains (TextsHave found.old) (TextsHave found.new) (SourceItemAnswers on.now (SourceItem.Col column))) }
+{
+    match input_cell(on.row, column, on.sheet) {
+        Some(text) => found.put(text),
+        None => {
+            found.none = true;
+            Ok(())
+        }
+    }
+}
+
+#[cycle(sets)]
+fn put_lookups<'a>(
+    on: &OnRow<'a>,
+    known: &mut Known<'a>,
+    set: SourceSet,
+    item: &'a SelectItem,
+    found: &mut Texts<'a>,
+) -> Result<(), NoMemory>
+    requires item { EachIn (IsConditionItem on.now.arena.now set) item.now.conditions }
+    requires row { IsOnRow on.now }
+    requires known { AreKnown on.now known.old }
+    ensures known { OnOk result (AreKnown on.now known.new) }
+    ensures gains { OnOk result (Gains (TextsHave found.old) (TextsHave found.new) (SourceItemAnswers on.now (SourceItem.Select item.now))) }
+{
+    let rows = rows_of(on, known, set, item.conditions.as_slice())?;
+    look_up(found, item, &rows, on.tables)
+}
+
+/// The texts of conditions, put together from the last condition on.
+#[cycle(sets)]
+fn rows_of<'a>(
+    on: &OnRow<'a>,
+    known: &mut Known<'a>,
+    set: SourceSet,
+    items: &'a [ConditionItem],
+) -> Result<Rows<'a>, NoMemory>
+    requires items { EachIn (IsConditionItem on.now.arena.now set) items.now }
+    requires row { IsOnRow on.now }
+    requires known { AreKnown on.now known.old }
+    ensures known { OnOk result (AreKnown on.now known.new) }
+    ensures exact { IfOk result (λ rows. (o : Option RowText) → RowsHave rows o ↔ RowAnswers on.now items.now o) }
+{
+    let none = no_conditions(on.alloc)?;
+    let mut rows = none;
+    let mut left = items.len();
+    while left > 0 {
+        left -= 1;
+        rows = longer_rows(on, known, set, &items[left], &rows)?;
+    }
+    Ok(rows)
+}
+
+#[cycle(sets)]
+fn longer_rows<'a>(
+    on: &OnRow<'a>,
+    known: &mut Known<'a>,
+    set: SourceSet,
+    item: &'a ConditionItem,
+    rows: &Rows<'a>,
+) -> Result<Rows<'a>, NoMemory>
+    requires item { IsConditionItem on.now.arena.now set item.now }
+    requires row { IsOnRow on.now }
+    requires known { AreKnown on.now known.old }
+    ensures known { OnOk result (AreKnown on.now known.new) }
+    ensures exact { IfOk result (λ made. (is : Items Listed) → ((o : Option RowText) → RowsHave rows.now o ↔ RowAnswers on.now is o) → (o : Option RowText) → RowsHave made o ↔ RowAnswers on.now (item.now ∷ is) o) }
+{
+    let parts = condition_parts(on, known, set, item.atoms)?;
+    put_in_front(on.alloc, &item.constant, &parts, rows)
+}
+
+/// The texts of a condition that is no constant.
+#[cycle(sets)]
+fn condition_parts<'a>(
+    on: &OnRow<'a>,
+    known: &mut Known<'a>,
+    set: SourceSet,
+    atoms: Option<AtomSet>,
+) -> Result<Pieces<'a>, NoMemory>
+    requires atoms { IfSome atoms (OlderAtoms on.now.arena.now set) }
+    requires row { IsOnRow on.now }
+    requires known { AreKnown on.now known.old }
+    ensures known { OnOk result (AreKnown on.now known.new) }
+    ensures within { IfOk result (λ found. EachIn IsWithin found.pieces.items) }
+    ensures exact { IfOk result (λ found. (o : Option (Items ℕ)) → PiecesHave found o ↔ ConditionPartAnswers on.now atoms o) }
+{
+    match atoms {
+        Some(s) => parts_of(on, known, s),
+        None => Ok(Pieces::new(on.alloc)),
+    }
+}
+
+/// The texts of the atoms of a set that are no constants.
+#[cycle(sets)]
+fn parts_of<'a>(
+    on: &OnRow<'a>,
+    known: &mut Known<'a>,
+    s: AtomSet,
+) -> Result<Pieces<'a>, NoMemory>
+    requires set { IsAtomSet on.now.arena.now s }
+    requires row { IsOnRow on.now }
+    requires known { AreKnown on.now known.old }
+    ensures known { OnOk result (AreKnown on.now known.new) }
+    ensures within { IfOk result (λ found. EachIn IsWithin found.pieces.items) }
+    ensures exact { IfOk result (λ found. (o : Option (Items ℕ)) → PiecesHave found o ↔ PartAnswers on.now s o) }
+{
+    if let Some(found) = known.part(s) {
+        return found.copy(on.alloc);
+    }
+    let found = scan_parts(on, known, s)?;
+    known.keep_part(s, found.copy(on.alloc)?)?;
+    Ok(found)
+}
+
+#[cycle(sets)]
+fn scan_parts<'a>(
+    on: &OnRow<'a>,
+    known: &mut Known<'a>,
+    s: AtomSet,
+) -> Result<Pieces<'a>, NoMemory>
+    requires set { IsAtomSet on.now.arena.now s }
+    requires row { IsOnRow on.now }
+    requires known { AreKnown on.now known.old }
+    ensures known { OnOk result (AreKnown on.now known.new) }
+    ensures within { IfOk result (λ found. EachIn IsWithin found.pieces.items) }
+    ensures exact { IfOk result (λ found. (o : Option (Items ℕ)) → PiecesHave found o ↔ PartAnswers on.now s o) }
+{
+    let arena = on.arena;
+    arena.keeps_made();
+    let items = arena.atoms(s);
+    let mut found = Pieces::new(on.alloc);
+    for item in items {
+        put_part(on, known, s, item, &mut found)?;
+    }
+    Ok(found)
+}
+
+/// The texts of the atoms that an item of the set stands for, if they are no constants.
+#[cycle(sets)]
+fn put_part<'a>(
+    on: &OnRow<'a>,
+    known: &mut Known<'a>,
+    set: AtomSet,
+    item: &'a AtomItem,
+    found: &mut Pieces<'a>,
+) -> Result<(), NoMemory>
+    requires item { IsAtomItem on.now.arena.now set item.now }
+    requires row { IsOnRow on.now }
+    requires known { AreKnown on.now known.old }
+    requires within { EachIn IsWithin found.old.pieces.items }
+    ensures known { OnOk result (AreKnown on.now known.new) }
+    ensures within { OnOk result (EachIn IsWithin found.new.pieces.items) }
+    ensures gains { OnOk result (Gains (PiecesHave found.old) (PiecesHave found.new) (PartItemAnswers on.now item.now)) }
+{
+    match item {
+        AtomItem::Const(_) => Ok(()),
+        AtomItem::Whole(sources) => {
+            let texts = sources_of(on, known, *sources)?;
+            put_wholes(&texts, found)
+        }
+        AtomItem::Sub(sources, lefts, rights) => {
+            let texts = sources_of(on, known, *sources)?;
+            put_subs(on, &texts, *lefts, *rights, found)
+        }
+    }
+}
+
+/// The texts that are not empty.
+fn put_wholes<'a>(texts: &Texts<'a>, found: &mut Pieces<'a>) -> Result<(), NoMemory>
+    requires within { EachIn IsWithin found.old.pieces.items }
+    ensures within { EachIn IsWithin found.new.pieces.items }
+    ensures gains { OnOk result (Gains (PiecesHave found.old) (PiecesHave found.new) (AreWholes (TextsHave texts.now))) }
+{
+    found.put_none(texts.none);
+    for i in 0..texts.texts.len() {
+        put_whole(texts.texts[i], found)?;
+    }
+    Ok(())
+}
+
+fn put_whole<'a>(text: &'a Text, found: &mut Pieces<'a>) -> Result<(), NoMemory>
+    requires within { EachIn IsWithin found.old.pieces.items }
+    ensures within { EachIn IsWithin found.new.pieces.items }
+    ensures gains { OnOk result (Gains (PiecesHave found.old) (PiecesHave found.new) (IsValue (IsFilled (λ t. t ≡ text.now)))) }
+{
+    match Piece::whole(text).filled() {
+        Some(piece) => found.put(&piece),
+        None => {
+            found.none = true;
+            Ok(())
+        }
+    }
+}
+
+/// The pieces of the texts between places of the two sets.
+fn put_subs<'a>(
+    on: &OnRow<'a>,
+    texts: &Texts<'a>,
+    lefts: PlaceSet,
+    rights: PlaceSet,
+    found: &mut Pieces<'a>,
+) -> Result<(), NoMemory>
+    requires lefts { IsPlaceSet on.now.arena.now lefts }
+    requires rights { IsPlaceSet on.now.arena.now rights }
+    requires within { EachIn IsWithin found.old.pieces.items }
+    ensures within { OnOk result (EachIn IsWithin found.new.pieces.items) }
+    ensures gains { OnOk result (Gains (PiecesHave found.old) (PiecesHave found.new) (ArePiecesOf on.now.arena.now lefts rights (TextsHave texts.now))) }
+{
+    found.put_none(texts.none);
+    for i in 0..texts.texts.len() {
+        put_pieces(on, texts.texts[i], lefts, rights, found)?;
+    }
+    Ok(())
+}
+
+fn put_pieces<'a>(
+    on: &OnRow<'a>,
+    text: &'a Text,
+    lefts: PlaceSet,
+    rights: PlaceSet,
+    found: &mut Pieces<'a>,
+) -> Result<(), NoMemory>
+    requires lefts { IsPlaceSet on.now.arena.now lefts }
+    requires rights { IsPlaceSet on.now.arena.now rights }
+    requires within { EachIn IsWithin found.old.pieces.items }
+    ensures within { OnOk result (EachIn IsWithin found.new.pieces.items) }
+    ensures gains { OnOk result (Gains (PiecesHave found.old) (PiecesHave found.new) (SubGives on.now.arena.now lefts rights text.now)) }
+{
+    let lefts = positions(on.alloc, on.arena, lefts, text)?;
+    let rights = positions(on.alloc, on.arena, rights, text)?;
+    put_between(found, text, &lefts, &rights)
+}
+
+/// The texts of the atoms of a set.
+pub(crate) fn atoms_of<'a>(
+    on: &OnRow<'a>,
+    known: &mut Known<'a>,
+    s: AtomSet,
+) -> Result<Pieces<'a>, NoMemory>
+    requires set { IsAtomSet on.now.arena.now s }
+    requires row { IsOnRow on.now }
+    requires known { AreKnown on.now known.old }
+    ensures known { OnOk result (AreKnown on.now known.new) }
+    ensures within { IfOk result (λ found. EachIn IsWithin found.pieces.items) }
+    ensures exact { IfOk result (λ found. (o : Option (Items ℕ)) → PiecesHave found o ↔ AtomAnswers on.now s o) }
+{
+    let mut found = parts_of(on, known, s)?;
+    let items = on.arena.atoms(s);
+    for item in items {
+        put_constant(item, &mut found)?;
+    }
+    Ok(found)
+}
+
+fn put_constant<'a>(item: &'a AtomItem, found: &mut Pieces<'a>) -> Result<(), NoMemory>
+    requires within { EachIn IsWithin found.old.pieces.items }
+    ensures within { EachIn IsWithin found.new.pieces.items }
+    ensures gains { OnOk result (Gains (PiecesHave found.old) (PiecesHave found.new) (ConstantItemAnswers item.now)) }
+{
+    match item {
+        AtomItem::Const(text) => put_whole(text, found),
+        _ => Ok(()),
+    }
+}

@@ -1,0 +1,76 @@
+//! Whether a program has a value.
+ghost use Rattle.std.specs.Prelude.{◌≡◌, ◌-◌, ◌<◌, ◌↔◌, ℕ, List as Items, Some, length, slice_get, IsTrue, IfOk, OnOk};
+ghost use Rattle.fill_arena.specs.Contents.{IsAtomSet};
+ghost use Rattle.fill_doubt.specs.Known.{AreEdgesOn, AreKnown, EdgeAnswers, IsOnRow};
+ghost use Rattle.fill_doubt.specs.Walks.{Follows, IsMarked, Reads};
+
+use crate::known::Known;
+use crate::row::OnRow;
+use crate::sets::atoms_of;
+use fill_arena::Edge;
+use fill_text::NoMemory;
+use std::alloc::Global;
+
+/// Whether some walk from the first node to the last one has a value on each of its edges.
+pub(crate) fn has_value<'a>(
+    on: &OnRow<'a>,
+    known: &mut Known<'a>,
+    nodes: usize,
+    edges: &[Edge],
+) -> Result<bool, NoMemory>
+    requires edges { AreEdgesOn on.now nodes edges.now }
+    requires row { IsOnRow on.now }
+    requires known { AreKnown on.now known.old }
+    ensures { IfOk result (λ b. IsTrue b ↔ ((t : Items ℕ) × Reads (EdgeAnswers on.now) edges.now 0 (nodes - 1) (Some t))) }
+{
+    let mut marks = first_mark(on.alloc, nodes)?;
+    for i in 0..edges.len() {
+        follow(on, known, marks.as_mut_slice(), &edges[i])?;
+    }
+    Ok(marks[nodes - 1])
+}
+
+/// Marks of nodes, of which node 0 alone is marked.
+fn first_mark(alloc: Global, nodes: usize) -> Result<Vec<bool>, NoMemory>
+    requires { 0 < nodes }
+    ensures long { IfOk result (λ marks. length marks.items ≡ nodes) }
+    ensures first { IfOk result (λ marks. IsMarked marks.items 0) }
+    ensures others { IfOk result (λ marks. (n : ℕ) → IsMarked marks.items n → n ≡ 0) }
+{
+    match vec![in alloc; false; nodes] {
+        Ok(mut marks) => {
+            marks[0] = true;
+            Ok(marks)
+        }
+        Err(_) => Err(NoMemory),
+    }
+}
+
+/// Marks the node that the edge leads to, if that which it comes from is marked and one of its atoms has a value.
+fn follow<'a>(
+    on: &OnRow<'a>,
+    known: &mut Known<'a>,
+    marks: &mut [bool],
+    e: &Edge,
+) -> Result<(), NoMemory>
+    requires atoms { IsAtomSet on.now.arena.now e.now.atoms }
+    requires from { e.now.from < length marks.old }
+    requires to { e.now.to < length marks.old }
+    requires row { IsOnRow on.now }
+    requires known { AreKnown on.now known.old }
+    ensures known { OnOk result (AreKnown on.now known.new) }
+    ensures follows { OnOk result (Follows (EdgeAnswers on.now) e.now marks.old marks.new) }
+{
+    if !marks[e.from] {
+        return Ok(());
+    }
+    if marks[e.to] {
+        return Ok(());
+    }
+    let found = atoms_of(on, known, e.atoms)?;
+    if found.pieces.len() == 0 {
+        return Ok(());
+    }
+    marks[e.to] = true;
+    Ok(())
+}
