@@ -173,10 +173,16 @@ fn equal_answers_are_no_doubt(rt: HostRuntime) -> Result<(), Fail> {
     use Listed::{Constant, Piece, Whole};
     let alloc = rt.alloc();
     let z = (Constant("z"), Constant("z"));
-    assert_eq!(rt; doubted(alloc, "a", (Constant("a"), Whole), z)?, Some(false));
+    assert_eq!(rt;
+        doubted(alloc, "a", (Constant("a"), Whole), z)?,
+        Some(false)
+    );
     assert_eq!(rt; doubted(alloc, "ab", (Piece, Whole), z)?, Some(false));
     assert_eq!(rt; doubted(alloc, "a", (Piece, Piece), z)?, Some(false));
-    assert_eq!(rt; doubted(alloc, "a", (Piece, Piece), (Constant("a"), Constant("b")))?, Some(false));
+    assert_eq!(rt;
+        doubted(alloc, "a", (Piece, Piece), (Constant("a"), Constant("b")))?,
+        Some(false)
+    );
     Ok(())
 }
 
@@ -189,12 +195,25 @@ fn different_answers_are_doubt(rt: HostRuntime) -> Result<(), Fail> {
     assert_eq!(rt; doubted(alloc, "abc", (Piece, Whole), z)?, Some(true));
     assert_eq!(rt; doubted(alloc, "a", (Constant("a"), Piece), z)?, Some(true));
     assert_eq!(rt; doubted(alloc, "a", z, (Piece, Constant("a")))?, Some(true));
-    assert_eq!(rt; doubted(alloc, "x", (Constant("a"), Constant("ab")), (Constant("bc"), Constant("c")))?, Some(true));
+    assert_eq!(rt;
+        doubted(
+            alloc,
+            "x",
+            (Constant("a"), Constant("ab")),
+            (Constant("bc"), Constant("c"))
+        )?,
+        Some(true)
+    );
     Ok(())
 }
 
 /// The values of a set of two atoms on a row of one cell, one after the other, and whether one of them has none.
-fn row_values(alloc: Global, cell: &str, one: Listed, other: Listed) -> Result<Option<ValueSet>, Fail> {
+fn row_values(
+    alloc: Global,
+    cell: &str,
+    one: Listed,
+    other: Listed,
+) -> Result<Option<ValueSet>, Fail> {
     let mut arena = Arena::new(alloc);
     let sets = named(alloc, &mut arena)?;
     let s = atoms(alloc, &mut arena, sets, one, other)?;
