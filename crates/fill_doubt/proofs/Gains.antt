@@ -69,8 +69,8 @@ module _ {A B : Type 0} (f : A → B) where
         ⊎_elim (λ l. inl (h.0, (h.1.0, l.1), h.2)) (λ r. inr (ap Some (sym h.2 ∙ ap f (sym r.1)))) (get_pushed xs x h.1.0 h.0 at)),
     (λ h. ⊎_elim
         (λ l.
-            let w = slice_get_within xs l.1.0 l.0 l.1.1 in
-            (l.0, (l.1.0, subst (λ zs. slice_get zs l.1.0 ≡ Some l.0) (sym is) (get_left xs (x ∷ []) l.1.0 w ∙ l.1.1)), l.2))
+        let w = slice_get_within xs l.1.0 l.0 l.1.1 in
+        (l.0, (l.1.0, subst (λ zs. slice_get zs l.1.0 ≡ Some l.0) (sym is) (get_left xs (x ∷ []) l.1.0 w ∙ l.1.1)), l.2))
         (λ r. let e : f x ≡ b = cc in (x, (length xs, subst (λ zs. slice_get zs (length xs) ≡ Some x) (sym is) (get_last xs x)), e)) h),
   )
 

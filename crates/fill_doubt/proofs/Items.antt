@@ -234,9 +234,11 @@ module _ (on : OnRow) (ok : IsOnRow on) where
     where
       to : (r : Option RowText) → RowAnswers on i.conditions r → RowFinds tables i.column i.table i.key r o → SourceItemAnswers on (Select i) o
       to None h e =
-          let Q = ConditionsAre sheet tables on.row h.0 in
-          (select i.column i.table i.key h.0, (refl, refl, refl, none_mixed h.0 h.2, h.1),
-            subst (IsValue (LooksUp Q tables i.column i.table i.key)) (sym e) (found_by_none tables Q i.column i.table i.key h.2))
+          let Q = ConditionsAre sheet tables on.row h.0 in (
+            select i.column i.table i.key h.0,
+            (refl, refl, refl, none_mixed h.0 h.2, h.1),
+            subst (IsValue (LooksUp Q tables i.column i.table i.key)) (sym e) (found_by_none tables Q i.column i.table i.key h.2),
+          )
       to (Some r) h f =
           let Q = ConditionsAre sheet tables on.row h.0 in
           (select i.column i.table i.key h.0, (refl, refl, refl, parts_true h.0 (sym h.3 ∙ f.0), h.1), (found_by tables Q i.column i.table i.key r.texts o h.2).0 f.1)

@@ -39,22 +39,32 @@ module _ (G : Edge → Option (List ℕ) → Type 0) (edges : List Edge) (text :
         go (Some v) on u r parts long to =
             let here = reads_append G edges 0 e.to (nodes - 1) (Some (u ++ t)) (Some v) to on in
             ⊎_elim
-            (λ none.
-            (Some text, Some ((u ++ t) ++ v), one, here, λ same.
-                let eq : text ≡ (u ++ t) ++ v = cc in
-                none v (ap (λ z. drop c.start z) (eq ∙ append_assoc u t v) ∙ drop_at u (t ++ v) c.start long)))
+            (λ none. (
+              Some text,
+              Some ((u ++ t) ++ v),
+              one,
+              here,
+              λ same.
+                  let eq : text ≡ (u ++ t) ++ v = cc in
+                  none v (ap (λ z. drop c.start z) (eq ∙ append_assoc u t v) ∙ drop_at u (t ++ v) c.start long),
+            ))
             (λ other.
             let m = laid.laid e.to other.0 other.1 in
             let w = m.0 in
-            let there = reads_append G edges 0 e.to (nodes - 1) (Some w) (Some v) m.4 on in
-            (Some (w ++ v), Some ((u ++ t) ++ v), there, here, λ same.
-                let eq : w ++ v ≡ (u ++ t) ++ v = cc in
-                let lens = ap length eq in
-                let a = length-append w v in
-                let b = length-append (u ++ t) v in
-                let d = length-append u t in
-                let y = m.3 in
-                other.2 (omega arith)))
+            let there = reads_append G edges 0 e.to (nodes - 1) (Some w) (Some v) m.4 on in (
+              Some (w ++ v),
+              Some ((u ++ t) ++ v),
+              there,
+              here,
+              λ same.
+                  let eq : w ++ v ≡ (u ++ t) ++ v = cc in
+                  let lens = ap length eq in
+                  let a = length-append w v in
+                  let b = length-append (u ++ t) v in
+                  let d = length-append u t in
+                  let y = m.3 in
+                  other.2 (omega arith),
+            ))
             c.apart
 
     pub edge_differs : (e : Edge) → In e edges → EdgeClashes G text lengths e → Differs G edges (nodes - 1)

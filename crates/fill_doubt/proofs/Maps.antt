@@ -22,4 +22,3 @@ put_right {X} f g P s x here others old new q y h = cases (nat_eq s q) refl
 pub found_right : {X : Type 0} (P : X → Type 0) (o : Option (Bor X)) (q : Option X) → option_copied o ≡ q → ((y : X) → q ≡ Some y → P y) → IfSome o (λ x. P x.now)
 found_right P None q e h = tt
 found_right P (Some x) q e h = h x.now (sym e)
-

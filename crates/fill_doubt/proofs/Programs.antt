@@ -28,18 +28,22 @@ module _ (c : List Entry) (sheet : SheetData) (tables : List TableData) (disting
     spelled [] at o h = (end, h.0, subst (λ q. IsValue (λ v. v ≡ []) q) (sym h.1) (some_is (λ v. v ≡ []) [] refl (λ v e. sym e)))
     spelled (e ∷ walk) at o h =
         let a = h.2.2.0 in
-        let rest = spelled walk e.to h.2.1 h.2.3 in
-        (more a rest.0, (e, h.0, (h.1, h.2.2.1, rest.1)),
-          subst (λ q. IsValue (ProgramIs sheet tables row (more a rest.0)) q) (sym h.2.4) (joined_is (AtomIs sheet tables row a) (ProgramIs sheet tables row rest.0) h.2.0 h.2.1 h.2.2.2 rest.2))
+        let rest = spelled walk e.to h.2.1 h.2.3 in (
+          more a rest.0,
+          (e, h.0, (h.1, h.2.2.1, rest.1)),
+          subst (λ q. IsValue (ProgramIs sheet tables row (more a rest.0)) q) (sym h.2.4) (joined_is (AtomIs sheet tables row a) (ProgramIs sheet tables row rest.0) h.2.0 h.2.1 h.2.2.2 rest.2),
+        )
 
     walked : (p : Atoms) (at : ℕ) → Walks p c edges last at → (o : Option (List ℕ)) × IsValue (ProgramIs sheet tables row p) o × Reads Edges edges at last o
     walked end at h = (Some [], some_is (λ v. v ≡ []) [] refl (λ v e. sym e), ([], (h, refl)))
     walked (more a p) at h =
         let e = h.0 in
         let first = atom_answer sheet tables distinguish row a in
-        let rest = walked p e.to h.2.2 in
-        (joined first.0 rest.0, joined_is (AtomIs sheet tables row a) (ProgramIs sheet tables row p) first.0 rest.0 first.1 rest.1,
-          (e ∷ rest.2.0, (h.1, h.2.0, (first.0, rest.0, (a, h.2.1, first.1), rest.2.1, refl))))
+        let rest = walked p e.to h.2.2 in (
+          joined first.0 rest.0,
+          joined_is (AtomIs sheet tables row a) (ProgramIs sheet tables row p) first.0 rest.0 first.1 rest.1,
+          (e ∷ rest.2.0, (h.1, h.2.0, (first.0, rest.0, (a, h.2.1, first.1), rest.2.1, refl))),
+        )
 
   module _ (g nodes : ℕ) (edges : List Edge) (there : slice_get c g ≡ Some (Graph nodes edges)) where
     pub reads_gives : (o : Option (List ℕ)) → Reads Edges edges 0 (nodes - 1) o → ProgramGives c sheet tables row g o

@@ -5,7 +5,6 @@ ghost use Rattle.fill_arena.specs.declared.entry.Edge.{Edge as Listed};
 ghost use Rattle.fill_eval.specs.Piece.{IsWithin, piece_text};
 ghost use Rattle.fill_doubt.specs.Answers.{PiecesHave};
 ghost use Rattle.fill_doubt.specs.Known.{AreEdgesOn, AreKnown, EdgeAnswers, IsOnRow};
-
 ghost use Rattle.fill_doubt.specs.Walks.{Agrees, AreLaid, Clashes, Differs, EdgeAgrees, EdgeClashes, IsAt, KeepsLengths, Reads};
 ghost use Rattle.fill_doubt.specs.declared.row.OnRow.{OnRow};
 

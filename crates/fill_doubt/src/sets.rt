@@ -181,11 +181,7 @@ fn condition_parts<'a>(
 
 /// The texts of the atoms of a set that are no constants.
 #[cycle(sets)]
-fn parts_of<'a>(
-    on: &OnRow<'a>,
-    known: &mut Known<'a>,
-    s: AtomSet,
-) -> Result<Pieces<'a>, NoMemory>
+fn parts_of<'a>(on: &OnRow<'a>, known: &mut Known<'a>, s: AtomSet) -> Result<Pieces<'a>, NoMemory>
     requires set { IsAtomSet on.now.arena.now s }
     requires row { IsOnRow on.now }
     requires known { AreKnown on.now known.old }
@@ -202,11 +198,7 @@ fn parts_of<'a>(
 }
 
 #[cycle(sets)]
-fn scan_parts<'a>(
-    on: &OnRow<'a>,
-    known: &mut Known<'a>,
-    s: AtomSet,
-) -> Result<Pieces<'a>, NoMemory>
+fn scan_parts<'a>(on: &OnRow<'a>, known: &mut Known<'a>, s: AtomSet) -> Result<Pieces<'a>, NoMemory>
     requires set { IsAtomSet on.now.arena.now s }
     requires row { IsOnRow on.now }
     requires known { AreKnown on.now known.old }

@@ -44,8 +44,8 @@ returns c =
       (λ h. some.1 (⊎_elim
           (λ l. absurd (false≢true (sym c.if-parts.false ∙ l.0)))
           (λ r. ⊎_elim
-              (λ k. absurd (absent c.args.constant.now (sym c.is_some-2.ensures ∙ c.if-is_some.false) k.0 k.1))
-              (λ lt. lt)
-              (choices_first c.args.constant.now c.args.parts.now r.1 c.if-parts.false))
+          (λ k. absurd (absent c.args.constant.now (sym c.is_some-2.ensures ∙ c.if-is_some.false) k.0 k.1))
+          (λ lt. lt)
+          (choices_first c.args.constant.now c.args.parts.now r.1 c.if-parts.false))
           h)),
     )

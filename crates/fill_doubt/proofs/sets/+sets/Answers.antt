@@ -134,8 +134,8 @@ longer_rows-returns-clause-exact n c =
     let R = RowsHave c.args.rows.now in
     let parts = c.in_ok-parts.parts in
     if_ok c.put_in_front.result c.put_in_front.ensures (λ made h is are o.
-        let by = rows_by on c.requires.row i is parts R c.in_ok-parts.ensures.exact are o in
-        ((λ g. by.0 ((h o).0 g)), (λ g. (h o).1 (by.1 g))))
+    let by = rows_by on c.requires.row i is parts R c.in_ok-parts.ensures.exact are o in
+    ((λ g. by.0 ((h o).0 g)), (λ g. (h o).1 (by.1 g))))
 
 pub put_lookups-returns-clause-gains : goal.put_lookups-returns-clause-gains
 put_lookups-returns-clause-gains n c =

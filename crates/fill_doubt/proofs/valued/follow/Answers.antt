@@ -12,12 +12,12 @@ pub returns-then-len-eq0-clause-follows : goal.returns-then-len-eq0-clause-follo
 returns-then-len-eq0-clause-follows c =
     let xs = c.in_ok-found.found.pieces in
     follows_none (EdgeAnswers c.args.on.now) c.args.e.now c.args.marks.now (λ t g.
-        let h = (c.in_ok-found.ensures.exact (Some t)).1 g in
-        let w = slice_get_within xs.items h.1.0 h.0 h.1.1 in
-        let n = xs.ok.0 in
-        let l = c.len.ensures in
-        let z = c.if-len-eq0.true in
-        omega arith)
+    let h = (c.in_ok-found.ensures.exact (Some t)).1 g in
+    let w = slice_get_within xs.items h.1.0 h.0 h.1.1 in
+    let n = xs.ok.0 in
+    let l = c.len.ensures in
+    let z = c.if-len-eq0.true in
+    omega arith)
 
 pub returns-clause-follows : goal.returns-clause-follows
 returns-clause-follows c =
