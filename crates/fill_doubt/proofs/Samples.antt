@@ -1,8 +1,16 @@
 -- The sets and the graph of a small arena.
-use Rattle.std.proofs.Common.{◌≡◌, ℕ, zero, suc, ◌+◌, ◌-◌, ◌<◌, ◌≤◌, List, [], ◌∷◌, length, slice_get, Some, refl, sym, ap, subst, arith}
+use Rattle.std.proofs.Common.{◌≡◌, ℕ, zero, suc, ◌+◌, ◌-◌, ◌<◌, ◌≤◌, inl, List, [], ◌∷◌, length, slice_get, None, Some, refl, sym, ap, subst, arith}
 use Rattle.std.proofs.lemmas.Option.{slice_get_within}
 use Rattle.fill_arena.specs.Contents.{In, EachIn, IsPlaceSet, IsSourceSet, IsAtomSet, Extends}
-use Rattle.fill_arena.specs.WellMade.{AreAtoms, IsAtomItem, IsEdge, IsGraphOf, OlderPlaces, OlderSources, Path}
+use Rattle.fill_tree.specs.Grammar.{source_depth, atom_depth}
+use Rattle.fill_tree.specs.Tree.{SourceTree, AtomTree, col, select, constant, whole, sub, end, more}
+use Rattle.fill_arena.specs.Stands.{AtomFits, ConditionFits, SourceFits}
+use Rattle.fill_arena.specs.WellMade.{AreAtoms, AreSources, IsAtomItem, IsConditionItem, IsEdge, IsGraphOf, IsSourceItem, OlderAtoms, OlderPlaces, OlderSources, Path}
+use Rattle.fill_arena.specs.declared.entry.AtomItem.TheVariants.{Const, Whole, Sub}
+use Rattle.fill_arena.specs.declared.entry.ConditionItem.{ConditionItem}
+use Rattle.fill_arena.specs.declared.entry.SelectItem.{SelectItem}
+use Rattle.fill_arena.specs.declared.entry.SourceItem.{SourceItem}
+use Rattle.fill_arena.specs.declared.entry.SourceItem.TheVariants.{Col, Select}
 use Rattle.fill_arena.specs.declared.entry.AtomItem.{AtomItem}
 use Rattle.fill_arena.specs.declared.entry.Edge.{Edge}
 use Rattle.fill_arena.specs.declared.entry.Entry.{Entry}
@@ -20,6 +28,11 @@ older_sources c s live = (live, slice_get_within c s (kind.Sources live.0) live.
 
 pub older_places : (c : List Entry) (s : ℕ) → IsPlaceSet c s → OlderPlaces c (length c) s
 older_places c s live = (live, slice_get_within c s (kind.Places live.0) live.1)
+
+pub sample_whole : (c : List Entry) (s : ℕ) → IsSourceSet c s → AreAtoms c (length c) (Whole s ∷ [])
+sample_whole c s live =
+    let P = IsAtomItem c (length c) in
+    record { some = omega arith; each = each_cons P (Whole s) [] (older_sources c s live) (each_nil P) }
 
 pub sample_pair : (c : List Entry) (x y : AtomItem) → IsAtomItem c (length c) x → IsAtomItem c (length c) y → AreAtoms c (length c) (x ∷ y ∷ [])
 sample_pair c x y first second =
@@ -90,3 +103,70 @@ sources_later c d s f live = (live.0, f s (kind.Sources live.0) live.1)
 
 pub atoms_later : (c d : List Entry) (s : ℕ) → Extends c d → IsAtomSet c s → IsAtomSet d s
 atoms_later c d s f live = (live.0, f s (kind.Atoms live.0) live.1)
+
+-- the lookup by the whole of column 1
+abbrev by_column : ℕ → SelectItem
+by_column set = record { column = 2; table = 1; key = 1; conditions = (record { constant = None; atoms = Some set }) ∷ [] }
+
+module _ (c : List Entry) (column set : ℕ) (lists : slice_get c column ≡ Some (kind.Sources (Col 1 ∷ []))) (wholes : slice_get c set ≡ Some (kind.Atoms (Whole column ∷ []))) where
+  abbrev condition : ConditionItem
+  condition = record { constant = None; atoms = Some set }
+
+  only_column : (s : SourceTree) (items : List SourceItem) (k : ℕ) (i : SourceItem) → slice_get c column ≡ Some (kind.Sources items) → slice_get items k ≡ Some i → SourceFits s c i → source_depth s ≡ 0
+  only_column (col m) items k i there at fits = refl
+  only_column (select n t q cs) items k i there at fits =
+      let same : items ≡ Col 1 ∷ [] = cc in
+      absurd (none k (subst (λ (xs : List SourceItem). slice_get xs k ≡ Some i) same at))
+    where
+      none : (j : ℕ) → slice_get (Col 1 ∷ []) j ≡ Some i → ⊥
+      none zero e = let same : i ≡ Col 1 = cc in subst (λ (x : SourceItem). SourceFits (select n t q cs) c x) same fits
+      none (suc j) e = absurd cc
+
+  only_whole : (a : AtomTree) (items : List AtomItem) (k : ℕ) (i : AtomItem) → slice_get c set ≡ Some (kind.Atoms items) → slice_get items k ≡ Some i → AtomFits a c i → atom_depth a ≡ 0
+  only_whole (constant t) items k i there at fits = refl
+  only_whole (whole s) items k i there at fits =
+      let same : items ≡ Whole column ∷ [] = cc in
+      by k (subst (λ (xs : List AtomItem). slice_get xs k ≡ Some i) same at)
+    where
+      by : (j : ℕ) → slice_get (Whole column ∷ []) j ≡ Some i → source_depth s ≡ 0
+      by zero e =
+          let same : i ≡ Whole column = cc in
+          let f = subst (λ (x : AtomItem). AtomFits (whole s) c x) same fits in
+          only_column s f.0 f.2.1.0 f.2.0 f.1 f.2.1.1 f.2.2
+      by (suc j) e = absurd cc
+  only_whole (sub s p q) items k i there at fits =
+      let same : items ≡ Whole column ∷ [] = cc in
+      absurd (none k (subst (λ (xs : List AtomItem). slice_get xs k ≡ Some i) same at))
+    where
+      none : (j : ℕ) → slice_get (Whole column ∷ []) j ≡ Some i → ⊥
+      none zero e = let same : i ≡ Whole column = cc in subst (λ (x : AtomItem). AtomFits (sub s p q) c x) same fits
+      none (suc j) e = absurd cc
+
+  flat : (a : AtomTree) → ConditionFits a c condition (AtomFits a c) → atom_depth a ≡ 0
+  flat (constant t) h = refl
+  flat (whole s) h = let e = h.1 in let same : h.0 ≡ set = cc in only_whole (whole s) h.2.0 h.2.2.1.0 h.2.2.0 (subst (λ n. slice_get c n ≡ Some (kind.Atoms h.2.0)) same h.2.1) h.2.2.1.1 h.2.2.2
+  flat (sub s p q) h = let e = h.1 in let same : h.0 ≡ set = cc in only_whole (sub s p q) h.2.0 h.2.2.1.0 h.2.2.0 (subst (λ n. slice_get c n ≡ Some (kind.Atoms h.2.0)) same h.2.1) h.2.2.1.1 h.2.2.2
+
+  shallow : (s : SourceTree) → SourceFits s c (Select (by_column set)) → source_depth s ≤ 3
+  shallow (col m) fits = absurd fits
+  shallow (select n t q end) fits = absurd fits.4
+  shallow (select n t q (more a end)) fits = let zero_deep = flat a fits.4.0 in rw zero_deep (omega arith)
+  shallow (select n t q (more a (more b rest))) fits = absurd fits.4.1
+
+  pub sample_lookup : AreSources c (length c) (Select (by_column set) ∷ [])
+  sample_lookup =
+      let within = slice_get_within c set (kind.Atoms (Whole column ∷ [])) wholes in
+      let older : OlderAtoms c (length c) set = ((Whole column ∷ [], wholes), within) in
+      record {
+        some = omega arith;
+        each = each_cons (IsSourceItem c (length c)) (Select (by_column set)) [] (record {
+          some = omega arith;
+          few = omega arith;
+          older = each_cons (IsConditionItem c (length c)) condition [] older (each_nil (IsConditionItem c (length c)));
+          filled = (
+            select 2 1 1 (more (whole (col 1)) end),
+            (refl, refl, refl, inl tt, ((set, refl, (Whole column ∷ [], wholes, (Whole column, (0, refl), (Col 1 ∷ [], lists, (Col 1, (0, refl), refl))))), tt)),
+          );
+          shallow = shallow;
+        }) (each_nil (IsSourceItem c (length c)));
+      }

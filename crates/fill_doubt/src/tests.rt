@@ -1,11 +1,14 @@
 //! What small sets and graphs, made by hand, answer on the first row of small sheets.
-ghost use Rattle.std.specs.Prelude.{◌≡◌, ◌≤◌, List as Items, [], ◌∷◌, length, IfOk};
+ghost use Rattle.std.specs.Prelude.{◌≡◌, ◌≤◌, List as Items, [], ◌∷◌, length, slice_get, None, Some, IfOk};
 ghost use Rattle.fill_arena.specs.Contents.{Extends, IsAtomSet, IsGraph, IsPlaceSet, IsSourceSet};
 ghost use Rattle.fill_arena.specs.WellMade.{IsAtomItem};
 ghost use Rattle.fill_arena.specs.declared.entry.Entry.{Entry as Kept};
 
 use crate::*;
-use fill_arena::{Arena, AtomItem, AtomSet, Edge, GraphId, PlaceSet, SourceItem, SourceSet};
+use fill_arena::{
+    Arena, AtomItem, AtomSet, ConditionItem, Edge, GraphId, PlaceSet, SelectItem, SourceItem,
+    SourceSet,
+};
 use fill_edge::{Ledger, Steps};
 use fill_sheet::Sheet;
 use fill_tables::Tables;
@@ -23,12 +26,15 @@ enum Listed {
     Whole,
     /// The piece of column 1 from the start to place 2.
     Piece,
+    /// The month whose number is column 1.
+    Month,
 }
 
-/// The sets that atoms name: column 1, the start, and place 2.
+/// The sets that atoms name: column 1, the months by the whole of it, the start, and place 2.
 #[derive(Clone, Copy)]
 struct Sets {
     column: SourceSet,
+    months: SourceSet,
     start: PlaceSet,
     stop: PlaceSet,
 }
@@ -41,14 +47,62 @@ fn sources(alloc: Global) -> Result<List<SourceItem>, NoMemory>
     Ok(items)
 }
 
+/// The whole of the column.
+fn wholes(alloc: Global, column: SourceSet) -> Result<List<AtomItem>, NoMemory>
+    ensures { IfOk result (λ made. made ≡ AtomItem.Whole column ∷ []) }
+{
+    let mut items = List::new(alloc);
+    items.push(AtomItem::Whole(column))?;
+    Ok(items)
+}
+
+/// The condition that is one of the atoms.
+fn condition(alloc: Global, atoms: AtomSet) -> Result<List<ConditionItem>, NoMemory>
+    ensures { IfOk result (λ made. made ≡ (record { constant = None; atoms = Some atoms }) ∷ []) }
+{
+    let mut conditions = List::new(alloc);
+    conditions.push(ConditionItem {
+        constant: None,
+        atoms: Some(atoms),
+    })?;
+    Ok(conditions)
+}
+
+/// The months by this condition.
+fn lookups(alloc: Global, conditions: List<ConditionItem>) -> Result<List<SourceItem>, NoMemory>
+    ensures { IfOk result (λ made. made ≡ SourceItem.Select (record { column = 2; table = 1; key = 1; conditions = conditions }) ∷ []) }
+{
+    let mut items = List::new(alloc);
+    items.push(SourceItem::Select(SelectItem {
+        column: 2,
+        table: 1,
+        key: 1,
+        conditions,
+    }))?;
+    Ok(items)
+}
+
+/// The months by the whole of column 1.
+fn months(alloc: Global, arena: &mut Arena, column: SourceSet) -> Result<SourceSet, NoMemory>
+    requires { slice_get arena.old column ≡ Some (Kept.Sources (SourceItem.Col 1 ∷ [])) }
+    ensures months { IfOk result (IsSourceSet arena.new) }
+    ensures kept { Extends arena.old arena.new }
+{
+    let whole = arena.intern_atoms(wholes(alloc, column)?)?;
+    let conditions = condition(alloc, whole)?;
+    arena.intern_sources(lookups(alloc, conditions)?)
+}
+
 fn named(alloc: Global, arena: &mut Arena) -> Result<Sets, NoMemory>
-    ensures { IfOk result (λ sets. IsSourceSet arena.new sets.column × IsPlaceSet arena.new sets.start × IsPlaceSet arena.new sets.stop) }
+    ensures { IfOk result (λ sets. IsSourceSet arena.new sets.column × IsSourceSet arena.new sets.months × IsPlaceSet arena.new sets.start × IsPlaceSet arena.new sets.stop) }
 {
     let start = arena.intern_places(&[Place::CPos(0)])?;
     let stop = arena.intern_places(&[Place::CPos(2)])?;
     let column = arena.intern_sources(sources(alloc)?)?;
+    let months = months(alloc, arena, column)?;
     Ok(Sets {
         column,
+        months,
         start,
         stop,
     })
@@ -66,11 +120,12 @@ fn constant(alloc: Global, characters: &str) -> Result<Text, Fail>
 }
 
 fn item(alloc: Global, sets: Sets, listed: Listed) -> Result<AtomItem, Fail>
-    ensures { IfOk result (λ made. (c : Items Kept) → IsSourceSet c sets.column → IsPlaceSet c sets.start → IsPlaceSet c sets.stop → IsAtomItem c (length c) made) }
+    ensures { IfOk result (λ made. (c : Items Kept) → IsSourceSet c sets.column → IsSourceSet c sets.months → IsPlaceSet c sets.start → IsPlaceSet c sets.stop → IsAtomItem c (length c) made) }
 {
     match listed {
         Listed::Constant(characters) => Ok(AtomItem::Const(constant(alloc, characters)?)),
         Listed::Whole => Ok(AtomItem::Whole(sets.column)),
+        Listed::Month => Ok(AtomItem::Whole(sets.months)),
         Listed::Piece => Ok(AtomItem::Sub(sets.column, sets.start, sets.stop)),
     }
 }
@@ -93,6 +148,7 @@ fn atoms(
     other: Listed,
 ) -> Result<AtomSet, Fail>
     requires column { IsSourceSet arena.old sets.column }
+    requires months { IsSourceSet arena.old sets.months }
     requires start { IsPlaceSet arena.old sets.start }
     requires stop { IsPlaceSet arena.old sets.stop }
     ensures set { IfOk result (IsAtomSet arena.new) }
@@ -170,7 +226,7 @@ fn doubted(
 
 #[test]
 fn equal_answers_are_no_doubt(rt: HostRuntime) -> Result<(), Fail> {
-    use Listed::{Constant, Piece, Whole};
+    use Listed::{Constant, Month, Piece, Whole};
     let alloc = rt.alloc();
     let z = (Constant("z"), Constant("z"));
     assert_eq!(rt;
@@ -178,6 +234,11 @@ fn equal_answers_are_no_doubt(rt: HostRuntime) -> Result<(), Fail> {
         Some(false)
     );
     assert_eq!(rt; doubted(alloc, "ab", (Piece, Whole), z)?, Some(false));
+    assert_eq!(rt;
+        doubted(alloc, "01", (Month, Constant("Jan")), z)?,
+        Some(false)
+    );
+    assert_eq!(rt; doubted(alloc, "07", (Month, Month), z)?, Some(false));
     assert_eq!(rt; doubted(alloc, "a", (Piece, Piece), z)?, Some(false));
     assert_eq!(rt;
         doubted(alloc, "a", (Piece, Piece), (Constant("a"), Constant("b")))?,
@@ -188,12 +249,16 @@ fn equal_answers_are_no_doubt(rt: HostRuntime) -> Result<(), Fail> {
 
 #[test]
 fn different_answers_are_doubt(rt: HostRuntime) -> Result<(), Fail> {
-    use Listed::{Constant, Piece, Whole};
+    use Listed::{Constant, Month, Piece, Whole};
     let alloc = rt.alloc();
     let z = (Constant("z"), Constant("z"));
     assert_eq!(rt; doubted(alloc, "b", (Constant("a"), Whole), z)?, Some(true));
     assert_eq!(rt; doubted(alloc, "abc", (Piece, Whole), z)?, Some(true));
     assert_eq!(rt; doubted(alloc, "a", (Constant("a"), Piece), z)?, Some(true));
+    assert_eq!(rt;
+        doubted(alloc, "07", (Month, Constant("Jan")), z)?,
+        Some(true)
+    );
     assert_eq!(rt; doubted(alloc, "a", z, (Piece, Constant("a")))?, Some(true));
     assert_eq!(rt;
         doubted(

@@ -38,3 +38,6 @@ returns-in-None-clause-says c =
       rest = stands.0;
       stands = stands.1;
     }
+
+pub returns-in-None-clause-keeps : goal.returns-in-None-clause-keeps
+returns-in-None-clause-keeps c = keeps_set c.args.lengths.now c.args.to _ (free c)
