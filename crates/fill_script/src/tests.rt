@@ -1,6 +1,6 @@
 //! Session files, each form of a line and its near misses.
 use super::*;
-use fill_tree::{Constants, Edit};
+use fill_tree::{Constants, Edit, Settings};
 use std::alloc::Global;
 use std::test::Fail;
 
@@ -191,60 +191,82 @@ fn the_thousandth_line(rt: HostRuntime) -> Result<(), Fail> {
     Ok(())
 }
 
+/// Whether the line adds the table `t` of `t.csv`, as the first line.
+fn adds_table(line: &TableLine) -> bool {
+    match line {
+        TableLine::Table { number, name, file } => {
+            *number == 1 && name.as_str() == "t" && file.as_str() == "t.csv"
+        }
+        TableLine::Key { .. } => false,
+    }
+}
+
+/// Whether the line adds a key of two columns to `t`, as the third line.
+fn adds_key(line: &TableLine) -> bool {
+    match line {
+        TableLine::Table { .. } => false,
+        TableLine::Key {
+            number,
+            name,
+            columns,
+        } => *number == 3 && name.as_str() == "t" && columns.as_slice() == [2, 1].as_slice(),
+    }
+}
+
+/// Whether the entry gives row 2 the text, as an addition or as a correction.
+fn gives(entry: &Entry, correction: bool, expected: &[char]) -> bool {
+    match entry {
+        Entry::Edit(Edit::Add { row, text }) => {
+            !correction && *row == 2 && text.as_slice() == expected
+        }
+        Entry::Edit(Edit::Correct { row, text }) => {
+            correction && *row == 2 && text.as_slice() == expected
+        }
+        _ => false,
+    }
+}
+
+/// Whether the entry is the one of this place in the whole script, from 0.
+fn is_entry(place: usize, entry: &Entry) -> bool {
+    match place {
+        0 => gives(entry, false, &['x']),
+        1 => gives(entry, true, &[]),
+        2 => matches!(entry, Entry::Edit(Edit::Retract { row: 2 })),
+        3 => matches!(entry, Entry::Edit(Edit::Clear)),
+        4 => matches!(entry, Entry::Programs),
+        5 => matches!(entry, Entry::Switch),
+        6 => matches!(entry, Entry::Fill),
+        7 => matches!(entry, Entry::Count),
+        _ => matches!(entry, Entry::Answer { row: 7 }),
+    }
+}
+
+fn are_entries(entries: &[Entry]) -> bool {
+    for i in 0..entries.len() {
+        if !is_entry(i, &entries[i]) {
+            return false;
+        }
+    }
+    entries.len() == 9
+}
+
 #[test]
 fn a_whole_script(rt: HostRuntime) -> Result<(), Fail> {
     let bytes =
         b"table,t,t.csv\nprofile,2\nkey,t,2,1\nheader\noutput,3\ndepth,3\ninputs,2,1\nconstants,separators\nsheet,s.csv\nbegin\nadd,2,x\ncorrect,2,\nretract,2\nclear\nprograms\nswitch\nfill\ncount\nanswer,7\n";
     let script = Script::read(rt.alloc(), bytes)?;
     assert_eq!(rt; script.sheet.as_str(), "s.csv");
-    assert!(rt; script.header);
-    assert_eq!(rt; script.inputs.as_slice(), [2, 1].as_slice());
+    assert!(rt; script.header && script.inputs.as_slice() == [2, 1].as_slice());
     assert_eq!(rt; script.output, Some(3));
-    assert_eq!(rt; script.settings.depth, 3);
-    assert_eq!(rt; script.settings.profile, 2);
-    assert_eq!(rt; script.settings.constants, Constants::Separators);
-    match script.tables.as_slice() {
-        [
-            TableLine::Table {
-                number: 1,
-                name,
-                file,
-            },
-            TableLine::Key {
-                number: 3,
-                name: keyed,
-                columns,
-            },
-        ] => {
-            assert_eq!(rt; name.as_str(), "t");
-            assert_eq!(rt; file.as_str(), "t.csv");
-            assert_eq!(rt; keyed.as_str(), "t");
-            assert_eq!(rt; columns.as_slice(), [2, 1].as_slice());
-        }
-        _ => assert!(rt; false, "tables"),
-    }
-    match script.entries.as_slice() {
-        [
-            Entry::Edit(Edit::Add { row: 2, text }),
-            Entry::Edit(
-                Edit::Correct {
-                    row: 2,
-                    text: other,
-                },
-            ),
-            Entry::Edit(Edit::Retract { row: 2 }),
-            Entry::Edit(Edit::Clear),
-            Entry::Programs,
-            Entry::Switch,
-            Entry::Fill,
-            Entry::Count,
-            Entry::Answer { row: 7 },
-        ] => {
-            assert_eq!(rt; text.as_slice(), ['x'].as_slice());
-            assert_eq!(rt; other.len(), 0);
-        }
-        _ => assert!(rt; false, "entries"),
-    }
+    let settings = Settings {
+        depth: 3,
+        constants: Constants::Separators,
+        profile: 2,
+    };
+    assert_eq!(rt; script.settings, settings);
+    let tables = script.tables.as_slice();
+    assert!(rt; tables.len() == 2 && adds_table(&tables[0]) && adds_key(&tables[1]));
+    assert!(rt; are_entries(script.entries.as_slice()));
     Ok(())
 }
 
