@@ -73,65 +73,82 @@ fn has_key(tables: &Tables, table: u32, key: u32, expected: &[u32]) -> bool {
     tables.key(table, key) == expected
 }
 
+/// Prices by item and month.
+const PRICES: &[u8] =
+    b"\xef\xbb\xbfItem,Date,\"Price, in $\"\r\nStroller,10/2010,145.67\r\nStroller,11/2010\r\n\"Bib\n\"\"x\"\"\",10/2010,3.56";
+
 #[test]
-fn a_table_and_its_keys(rt: HostRuntime) -> Result<(), Fail> {
-    let alloc = rt.alloc();
-    let mut tables = Tables::new(alloc);
-    let bytes =
-        b"\xef\xbb\xbfItem,Date,\"Price, in $\"\r\nStroller,10/2010,145.67\r\nStroller,11/2010\r\n\"Bib\n\"\"x\"\"\",10/2010,3.56";
-    tables.add_table("prices", bytes)?;
-    assert_eq!(rt; tables.count(), 1);
+fn rows_of_a_table(rt: HostRuntime) -> Result<(), Fail> {
+    let mut tables = Tables::new(rt.alloc());
+    tables.add_table("prices", PRICES)?;
     assert!(rt; tables.count() == 1);
-    assert_eq!(rt; tables.rows(1), 4);
-    assert_eq!(rt; tables.width(1), 3);
-    assert!(rt; has_row(&tables, 1, 1, &["Item", "Date", "Price, in $"]));
-    assert!(rt; has_row(&tables, 1, 2, &["Stroller", "10/2010", "145.67"]));
-    assert!(rt; has_row(&tables, 1, 3, &["Stroller", "11/2010", ""]));
-    assert!(rt; has_row(&tables, 1, 4, &["Bib\n\"x\"", "10/2010", "3.56"]));
-    assert_eq!(rt;
-        tables.add_key("prices", &[4]).err(),
-        Some(TableError::NoSuchColumn { columns: 3 })
-    );
-    assert_eq!(rt;
-        tables.add_key("costs", &[1]).err(),
-        Some(TableError::NoSuchTable)
-    );
-    assert_eq!(rt;
-        tables.add_key("prices", &[1]).err(),
-        Some(TableError::NotAKey { row1: 2, row2: 3 })
-    );
-    assert_eq!(rt;
-        tables.add_key("prices", &[2]).err(),
-        Some(TableError::NotAKey { row1: 2, row2: 4 })
-    );
+    assert!(rt; tables.rows(1) == 4 && tables.width(1) == 3);
+    for (row, cells) in [
+        (1, ["Item", "Date", "Price, in $"]),
+        (2, ["Stroller", "10/2010", "145.67"]),
+        (3, ["Stroller", "11/2010", ""]),
+        (4, ["Bib\n\"x\"", "10/2010", "3.56"]),
+    ] {
+        assert!(rt; has_row(&tables, 1, row, &cells), "{row}");
+    }
+    Ok(())
+}
+
+#[test]
+fn keys_that_are_refused(rt: HostRuntime) -> Result<(), Fail> {
+    let mut tables = Tables::new(rt.alloc());
+    tables.add_table("prices", PRICES)?;
+    let past = tables.add_key("prices", &[4]).err();
+    assert_eq!(rt; past, Some(TableError::NoSuchColumn { columns: 3 }));
+    let unknown = tables.add_key("costs", &[1]).err();
+    assert_eq!(rt; unknown, Some(TableError::NoSuchTable));
+    let items = tables.add_key("prices", &[1]).err();
+    assert_eq!(rt; items, Some(TableError::NotAKey { row1: 2, row2: 3 }));
+    let months = tables.add_key("prices", &[2]).err();
+    assert_eq!(rt; months, Some(TableError::NotAKey { row1: 2, row2: 4 }));
+    assert!(rt; tables.count() == 1);
     assert_eq!(rt; tables.keys(1), 0);
+    assert!(rt; !tables.is_key(1, &[1]) && tables.is_key(1, &[1, 2]));
+    Ok(())
+}
+
+#[test]
+fn the_first_rows_that_agree(rt: HostRuntime) -> Result<(), Fail> {
+    let mut tables = Tables::new(rt.alloc());
+    tables.add_table("letters", b"b\na\nc\na\nb\na\n")?;
+    let letters = tables.add_key("letters", &[1]).err();
+    assert_eq!(rt; letters, Some(TableError::NotAKey { row1: 2, row2: 4 }));
+    Ok(())
+}
+
+/// The table of prices with a key of two columns and one of one.
+fn keyed_prices(alloc: Global) -> Result<Tables, Fail> {
+    let mut tables = Tables::new(alloc);
+    tables.add_table("prices", PRICES)?;
     tables.add_key("prices", &[2, 1])?;
     tables.add_key("prices", &[3])?;
-    assert!(rt; tables.count() == 1);
-    assert_eq!(rt; tables.keys(1), 2);
+    Ok(tables)
+}
+
+#[test]
+fn rows_by_their_keys(rt: HostRuntime) -> Result<(), Fail> {
+    let tables = keyed_prices(rt.alloc())?;
     assert!(rt; has_key(&tables, 1, 1, &[2, 1]));
     assert!(rt; has_key(&tables, 1, 2, &[3]));
-    assert_eq!(rt;
-        found(&tables, alloc, 1, 1, &["11/2010", "Stroller"])?,
-        Some(3)
-    );
-    assert_eq!(rt;
-        found(&tables, alloc, 1, 1, &["10/2010", "Stroller"])?,
-        Some(2)
-    );
-    assert_eq!(rt; found(&tables, alloc, 1, 1, &["11/2010", "Bib"])?, None);
-    assert_eq!(rt; found(&tables, alloc, 1, 1, &["11/2010"])?, None);
-    let four = ["11/2010", "Stroller", "", ""];
-    assert_eq!(rt; found(&tables, alloc, 1, 1, &four)?, None);
-    assert_eq!(rt; found(&tables, alloc, 1, 2, &["3.56"])?, Some(4));
-    assert!(rt; tables.count() == 1);
-    assert!(rt; !tables.is_key(1, &[1]));
-    assert!(rt; tables.is_key(1, &[1, 2]));
-    tables.add_table("letters", b"b\na\nc\na\nb\na\n")?;
-    assert_eq!(rt;
-        tables.add_key("letters", &[1]).err(),
-        Some(TableError::NotAKey { row1: 2, row2: 4 })
-    );
+    for (key, cells, row) in [
+        (1, ["11/2010", "Stroller"].as_slice(), Some(3)),
+        (1, ["10/2010", "Stroller"].as_slice(), Some(2)),
+        (1, ["11/2010", "Bib"].as_slice(), None),
+        (1, ["11/2010"].as_slice(), None),
+        (1, ["11/2010", "Stroller", "", ""].as_slice(), None),
+        (2, ["3.56"].as_slice(), Some(4)),
+    ] {
+        assert_eq!(rt;
+            found(&tables, rt.alloc(), 1, key, cells)?,
+            row,
+            "{cells:?}"
+        );
+    }
     Ok(())
 }
 
@@ -154,36 +171,31 @@ fn each_line_end_ends_a_row(rt: HostRuntime) -> Result<(), Fail> {
 }
 
 #[test]
-fn names_and_numbers_of_tables(rt: HostRuntime) -> Result<(), Fail> {
+fn names_of_tables(rt: HostRuntime) -> Result<(), Fail> {
     let mut tables = Tables::new(rt.alloc());
     tables.add_table("rates", b"1\n")?;
     tables.add_table("prices", b"")?;
-    assert_eq!(rt;
-        tables.add_table("prices", b"\xff").err(),
-        Some(TableError::SameName { first: 2 })
-    );
+    let again = tables.add_table("prices", b"\xff").err();
+    assert_eq!(rt; again, Some(TableError::SameName { first: 2 }));
     for name in ["a", "b", "c", "d", "e", "f"] {
         tables.add_table(name, b"1\n1\n")?;
     }
-    assert_eq!(rt;
-        tables.add_table("prices", b"").err(),
-        Some(TableError::TooManyTables { limit: 8 })
-    );
-    assert_eq!(rt; tables.count(), 8);
+    let ninth = tables.add_table("prices", b"").err();
+    assert_eq!(rt; ninth, Some(TableError::TooManyTables { limit: 8 }));
     assert!(rt; tables.count() == 8);
-    assert_eq!(rt; tables.rows(2), 0);
-    assert_eq!(rt; tables.width(2), 0);
+    assert!(rt; tables.rows(2) == 0 && tables.width(2) == 0);
+    Ok(())
+}
+
+#[test]
+fn numbers_of_keys(rt: HostRuntime) -> Result<(), Fail> {
+    let mut tables = Tables::new(rt.alloc());
+    tables.add_table("rates", b"1\n")?;
     for _ in 0..4 {
         tables.add_key("rates", &[1])?;
     }
-    assert_eq!(rt;
-        tables.add_key("rates", &[1]).err(),
-        Some(TableError::TooManyKeys { limit: 4 })
-    );
-    assert_eq!(rt;
-        tables.add_key("f", &[1]).err(),
-        Some(TableError::NotAKey { row1: 1, row2: 2 })
-    );
+    let fifth = tables.add_key("rates", &[1]).err();
+    assert_eq!(rt; fifth, Some(TableError::TooManyKeys { limit: 4 }));
     Ok(())
 }
 
