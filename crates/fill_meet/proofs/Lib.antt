@@ -10,8 +10,13 @@ pub mod Selects
 pub mod Listed
 pub mod Memories
 pub mod Products
+pub mod Chains
+pub mod Knots
+pub mod Nets
+pub mod Streams
+pub mod Seams
+pub mod Trials
 pub mod WalksOn
 pub mod Meets
-pub mod Rows
 mod Samples
 pub mod Selves

@@ -40,27 +40,27 @@ module _ {A I : Type 0} (L : List Entry → List I → A → Type 0) (kind : Lis
         some = λ d o. (let r = some d o in (r.0, (zs, o m (kind zs) hm, r.1)));
       }
 
-  set_apart : (c : List Entry) (s t : ℕ) (xs ys : List I) → slice_get c s ≡ Some (kind xs) → slice_get c t ≡ Some (kind ys)
+  pub set_apart : (c : List Entry) (s t : ℕ) (xs ys : List I) → slice_get c s ≡ Some (kind xs) → slice_get c t ≡ Some (kind ys)
       → ((d : List Entry) → Extends c d → (a : A) → L d xs a → L d ys a → ⊥) → AreApart Stands c s t
   set_apart c s t xs ys hs ht none = λ d o a p q.
       none d o a ((stands_is d s a xs (o s (kind xs) hs)).0 p) ((stands_is d t a ys (o t (kind ys) ht)).0 q)
 
-one_places : (xs ys : List Place) → Some (Places xs) ≡ Some (Places ys) → xs ≡ ys
+pub one_places : (xs ys : List Place) → Some (Places xs) ≡ Some (Places ys) → xs ≡ ys
 one_places xs ys e = cc
 
-one_sources : (xs ys : List SourceItem) → Some (Sources xs) ≡ Some (Sources ys) → xs ≡ ys
+pub one_sources : (xs ys : List SourceItem) → Some (Sources xs) ≡ Some (Sources ys) → xs ≡ ys
 one_sources xs ys e = cc
 
-one_atoms : (xs ys : List AtomItem) → Some (Atoms xs) ≡ Some (Atoms ys) → xs ≡ ys
+pub one_atoms : (xs ys : List AtomItem) → Some (Atoms xs) ≡ Some (Atoms ys) → xs ≡ ys
 one_atoms xs ys e = cc
 
-abbrev ListsPlace : List Entry → List Place → Place → Type 0
+abbrev pub ListsPlace : List Entry → List Place → Place → Type 0
 ListsPlace d places p = In p places
 
-abbrev ListsSource : List Entry → List SourceItem → SourceTree → Type 0
+abbrev pub ListsSource : List Entry → List SourceItem → SourceTree → Type 0
 ListsSource d items x = SomeIn (λ i. SourceIn d i x) items
 
-abbrev ListsAtom : List Entry → List AtomItem → AtomTree → Type 0
+abbrev pub ListsAtom : List Entry → List AtomItem → AtomTree → Type 0
 ListsAtom d items a = SomeIn (λ i. AtomIn d i a) items
 
 -- places, in the arena c; the set is new in d

@@ -1,5 +1,5 @@
 -- The programs of the product's walks are those of both graphs.
-use Rattle.std.proofs.Common.{◌≡◌, ◌↔◌, ℕ, zero, suc, ◌+◌, ◌-◌, ◌*◌, ◌<◌, ◌≤◌, inl, List, length, Option, Some, None, Result, Ok, Err, slice_get, refl, sym, subst, arith}
+use Rattle.std.proofs.Common.{◌≡◌, ◌↔◌, ℕ, zero, suc, ◌+◌, ◌-◌, ◌*◌, ◌<◌, ◌≤◌, List, length, Option, Some, None, Result, Ok, Err, slice_get, refl, sym, subst, arith}
 use Rattle.std.specs.Prelude.{IfOk, MatchOption}
 use Rattle.fill_text.specs.declared.error.NoMemory.{NoMemory}
 use Rattle.std.proofs.Math.Nat.{suc-mul}
@@ -21,7 +21,7 @@ use Rattle.fill_meet.specs.Walked.{IsWalked}
 use Rattle.fill_meet.proofs.Grows.{atoms_within}
 use Rattle.fill_meet.proofs.Products.{product_stays}
 use Rattle.fill_trim.proofs.Programs.{walk_sets, trimmed_walks}
-use Rattle.fill_meet.proofs.WalksOn.{product_walks, walks_product, product_short, corner}
+use Rattle.fill_meet.proofs.WalksOn.{product_walks, product_short, corner}
 
 pub graph_edges : (c : List Entry) (n nodes : ℕ) (edges : List Edge) → IsGraphOf c n nodes edges → AreEdges nodes edges
 graph_edges c n nodes edges g = record { onward = λ k e h. (let x = g.each k e h in (x.onward, x.within)); ordered = g.ordered }
@@ -52,24 +52,23 @@ module _ (c : List Entry) (a b height width : ℕ) (xs ys : List Edge) (made : I
       let stay = programs_stay c e made o g p (nodes, edges, h) in
       (λ w. stay.1 (now.0 w), λ s. now.1 (stay.0 s))
 
-  module _ (d : List Entry) (o : Extends c d) (edges : List Edge) (product : IsProduct d width xs ys edges) where
+  module _ (d : List Entry) (o : Extends c d) (edges : List Edge) (product : IsProduct d height width xs ys edges) where
     product_stands : (e : List Entry) → Extends d e → (p : Atoms) → Walks p e edges (height * width - 1) 0 ↔ (ProgramStands c a p × ProgramStands c b p)
     product_stands e q p =
         let oe : Extends c e = λ n x h. q n x (o n x h) in
         let ga = made a (kind.Graph height xs) ha in
         let gb = made b (kind.Graph width ys) hb in
-        let ah = ga.some in
-        let bw = gb.some in
-        let whole = product_stays d e q width xs ys edges product in
         let ey = graph_edges c b width ys gb in
-        let at : height * width - 1 ≡ (height - 1) * width + (width - 1) = corner height width ah bw in
+        let bw = gb.some in
+        let now = product_stays d e q height width xs ys edges product in
+        let at : height * width - 1 ≡ (height - 1) * width + (width - 1) = corner height width ga.some bw in
         let start : 0 ≡ 0 * width + 0 = omega arith in
         let sa = stands_by_walk e oe a height xs ha p in
         let sb = stands_by_walk e oe b width ys hb p in (
           λ w.
-              let both = product_walks e width xs ys edges ey whole p 0 0 (height - 1) (width - 1) 0 bw (omega arith) start (subst (λ n. Walks p e edges n 0) at w) in
+              let both = product_walks e width xs ys edges ey now.sound p 0 0 (height - 1) (width - 1) 0 bw (omega arith) start (subst (λ n. Walks p e edges n 0) at w) in
               (sa.0 both.0, sb.0 both.1),
-          λ h. subst (λ n. Walks p e edges n 0) (sym at) (walks_product e width xs ys edges ey whole p 0 0 (height - 1) (width - 1) 0 start (inl refl) (sa.1 h.0) (sb.1 h.1)),
+          λ h. product.whole e q p (sa.1 h.0) (sb.1 h.1),
         )
 
     pub none_stands : HasNoWalk (height * width) edges → NoneInBoth c a b
@@ -82,14 +81,14 @@ module _ (c : List Entry) (a b height width : ℕ) (xs ys : List Edge) (made : I
       trimmed_graph =
           let ga = made a (kind.Graph height xs) ha in
           let gb = made b (kind.Graph width ys) hb in
-          let short = product_short d width xs ys edges (graph_edges c b width ys gb) product ga.short in
+          let short = product_short d width xs ys edges (graph_edges c b width ys gb) product.sound ga.short in
           record {
             some = trimmed.some;
             each = λ k e h.
                 (let on = trimmed.are.onward k e h in
                 let f = trimmed.kept k e h in
                 let s = product.sound f.1.0 f.0 f.1.1 in
-                let set = (s.4.2.met.some d (λ n x i. i)).1 in
+                let set = (s.2.2.met.some d (λ n x i. i)).1 in
                 record { onward = on.0; within = on.1; atoms = subst (λ n. OlderAtoms d (length d) n) f.2 (atoms_within d f.0.atoms (set.0, set.1)) });
             from_first = trimmed.from_first;
             to_last = trimmed.to_last;

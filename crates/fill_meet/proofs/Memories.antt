@@ -18,9 +18,8 @@ right_stays c d o memo r =
 pair_same : (x y : ℕ × ℕ) → pair_eq x y ≡ true → (x.0 ≡ y.0) × (x.1 ≡ y.1)
 pair_same x y h = search rules
 
-module _ {S : Type 0} (Meet : ℕ → ℕ → Option ℕ → Type 0) (old new : HashMap (ℕ × ℕ) (Option ℕ) S) (s t : ℕ) (made : Option ℕ) where
-  put_step : (k : ℕ × ℕ) (m : Option ℕ) (b : Bool) → pair_eq (s, t) k ≡ b → get pair_eq new k ≡ cond b (Some made) (get pair_eq old k) → get pair_eq new k ≡ Some m
-      → Meet s t made → AreRight Meet old → Meet k.0 k.1 m
+module _ {S V : Type 0} (Meet : ℕ → ℕ → V → Type 0) (old new : HashMap (ℕ × ℕ) V S) (s t : ℕ) (made : V) where
+  put_step : (k : ℕ × ℕ) (m : V) (b : Bool) → pair_eq (s, t) k ≡ b → get pair_eq new k ≡ cond b (Some made) (get pair_eq old k) → get pair_eq new k ≡ Some m → Meet s t made → AreRight Meet old → Meet k.0 k.1 m
   put_step k m true e u h g r =
       let p = pair_same (s, t) k e in
       let q : Some made ≡ Some m = sym u ∙ h in

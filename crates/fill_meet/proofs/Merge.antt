@@ -9,7 +9,7 @@ use Rattle.std.proofs.lemmas.Option.{slice_get_within, slice_get-get_or, get_or_
 use Rattle.fill_tokens.specs.Place.{place_cmp}
 use Rattle.fill_tokens.specs.declared.place.Place.{Place}
 use Rattle.fill_tokens.proofs.PlaceLaws.{place_antisymm, place_trans, exact_places}
-use Rattle.fill_arena.specs.Contents.{In}
+use Rattle.fill_arena.specs.Contents.{In, SomeIn}
 use Rattle.fill_arena.proofs.Orders.{place_same}
 use Rattle.fill_meet.proofs.Lists.{same_value, in_empty, in_pushed, in_last, in_more}
 
@@ -144,3 +144,7 @@ pub all_common : (P : Place → Type 0) (xs both : List Place) → ((p : Place) 
 all_common P xs both back all = λ k d lt.
     let there = back (get_or both k d) (k, slice_get-get_or both k d lt) in
     subst P (get_or_from_slice_get xs there.0 (get_or both k d) d there.1) (all there.0 d (slice_get_within xs there.0 (get_or both k d) there.1))
+
+-- the same place in both lists
+pub shared_place : (xs ys : List Place) (i j : ℕ) (x y : Place) → slice_get xs i ≡ Some x → slice_get ys j ≡ Some y → place_cmp x y ≡ Equal → SomeIn (λ p. In p ys) xs
+shared_place xs ys i j x y hx hy e = (x, (i, hx), (j, hy ∙ ap Some (sym (exact_places x y e))))

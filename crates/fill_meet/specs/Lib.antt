@@ -1,5 +1,9 @@
+pub mod Joins
 pub mod Meet
 pub mod Memory
+pub mod Outs
 pub mod Product
 pub mod Sets
+pub mod Ties
+pub mod Tried
 pub mod Walked

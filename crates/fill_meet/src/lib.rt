@@ -6,11 +6,15 @@
 //! 2012), section 4.
 #![tactic(auto)]
 
+mod apart;
 mod copy;
 pub mod meet;
 mod memo;
+mod outs;
 mod places;
 mod product;
 mod sets;
+mod ties;
+mod tried;
 #[cfg(test)]
 mod tests;

@@ -6,7 +6,6 @@ ghost use Rattle.fill_arena.specs.Stands.{ProgramStands};
 ghost use Rattle.fill_meet.specs.Meet.{IsMeet, NoneInBoth};
 ghost use Rattle.fill_meet.specs.Walked.{IsWalked};
 
-use crate::memo::Memo;
 use crate::product::pair_edges;
 use fill_arena::{Arena, Edge, GraphId};
 use fill_edge::{Ledger, Steps};
@@ -107,8 +106,8 @@ fn meet_walks(
     let Some(nodes) = height.checked_mul(width) else {
         return Err(NoMemory);
     };
-    let mut memo = Memo::new(alloc);
-    let edges = pair_edges(arena, &mut memo, width, nodes, xs.as_slice(), ys.as_slice())?;
+    let (first, second) = (xs.as_slice(), ys.as_slice());
+    let edges = pair_edges(alloc, arena, height, width, nodes, first, second)?;
     trim(alloc, nodes, edges.as_slice())
 }
 

@@ -1,110 +1,149 @@
 //! The edges of two graphs in pairs.
-ghost use Rattle.std.specs.Prelude.{◌≡◌, ◌<◌, ℕ, ◌+◌, ◌*◌, length, IfOk, OnOk};
+ghost use Rattle.std.specs.Prelude.{◌≡◌, ◌<◌, ◌*◌, length, IfOk, OnOk};
 ghost use Rattle.fill_arena.specs.Contents.{Extends, IsAtomSet};
+ghost use Rattle.fill_trim.specs.Marks.{spread};
 ghost use Rattle.fill_trim.specs.Trim.{AreEdges};
+ghost use Rattle.fill_meet.specs.Joins.{AreClosed, AreJoined, AreLive, IsJoinedTo};
 ghost use Rattle.fill_meet.specs.Memory.{IsRight};
-ghost use Rattle.fill_meet.specs.Product.{ArePairable, AreReached, IsPaired, IsProduct, ProductState};
+ghost use Rattle.fill_meet.specs.Product.{ArePairable, IsProduct};
+ghost use Rattle.fill_meet.specs.Sets.{AtomSetsMeet};
+ghost use Rattle.fill_meet.specs.Ties.{AreRising, NameSets};
 
 use crate::memo::Memo;
-use crate::sets::meet_atoms;
-use fill_arena::{Arena, Edge};
+use crate::sets::make_atoms;
+use crate::ties::{Tie, find_ties};
+use fill_arena::{Arena, AtomSet, Edge};
 use fill_text::{List, NoMemory};
+use std::alloc::Global;
 
-/// Edges between pairs of nodes, and for each pair whether node 0 or an edge leads to it.
+/// The edges that pair an edge of each graph and have the atoms of both, those that some walk from the first pair of nodes
+/// to the last one may take.
 ///
-/// The pair of the nodes `i` and `j` has the number `i * width + j`.
-#[derive(Drop)]
-pub(crate) struct Product {
-    pub(crate) width: usize,
-    pub(crate) reached: Vec<bool>,
-    pub(crate) edges: List<Edge>,
-}
-
-/// The edges that pair an edge of each graph and have the atoms of both, as far as walks from the first pair of nodes lead.
-///
-/// The edges into a node stand before those out of it, so what leads to a pair is known once its edges' turn comes.
+/// First the pairs that may have an atom in common are found, which makes no set; then those of them that lead to the last
+/// pair get their sets.
 pub(crate) fn pair_edges(
+    alloc: Global,
     arena: &mut Arena,
-    memo: &mut Memo,
+    height: usize,
     width: usize,
     nodes: usize,
     xs: &[Edge],
     ys: &[Edge],
 ) -> Result<List<Edge>, NoMemory>
-    requires memo { IsRight arena.old memo.old }
     requires some { 0 < nodes }
-    requires edges { (height : ℕ) × (nodes ≡ height * width) × ArePairable arena.old height width xs.now ys.now }
+    requires nodes { nodes ≡ height * width }
+    requires edges { ArePairable arena.old height width xs.now ys.now }
     ensures kept { Extends arena.old arena.new }
-    ensures product { IfOk result (IsProduct arena.new width xs.now ys.now) }
+    ensures product { IfOk result (IsProduct arena.new height width xs.now ys.now) }
     ensures edges { IfOk result (AreEdges nodes) }
 {
-    let mut reached = vec![in memo.alloc; false; nodes]?;
-    reached[0] = true;
-    let mut product = Product {
-        width,
-        reached,
-        edges: List::new(memo.alloc),
-    };
-    for i in 0..xs.len() {
-        pair_row(arena, memo, xs, i, ys, &mut product)?;
-    }
-    Ok(product.edges)
+    let ties = find_ties(alloc, arena, height, width, nodes, xs, ys)?;
+    let found = ties.as_slice();
+    let live = leading_to_last(alloc, nodes, found)?;
+    join_ties(alloc, arena, live.as_slice(), found)
 }
 
-/// Pairs edge `i` of the first graph with each of the other's.
-fn pair_row(
-    arena: &mut Arena,
-    memo: &mut Memo,
-    xs: &[Edge],
-    i: usize,
-    ys: &[Edge],
-    product: &mut Product,
-) -> Result<(), NoMemory>
-    requires memo { IsRight arena.old memo.old }
-    requires within { i < length xs.now }
-    requires state { ProductState arena.old xs.now ys.now i 0 product.old }
-    ensures kept { Extends arena.old arena.new }
-    ensures memo { OnOk result (IsRight arena.new memo.new) }
-    ensures state { OnOk result (ProductState arena.new xs.now ys.now (i + 1) 0 product.new) }
-    ensures width { OnOk result (product.new.width ≡ product.old.width) }
-    ensures long { OnOk result (length product.new.reached.items ≡ length product.old.reached.items) }
+/// The nodes that lead to the last one, found by a pass from the back.
+fn leading_to_last(alloc: Global, nodes: usize, ties: &[Tie]) -> Result<Vec<bool>, NoMemory>
+    requires some { 0 < nodes }
+    requires ties { AreRising nodes ties.now }
+    ensures { IfOk result (λ marks. AreLive nodes ties.now marks.items) }
 {
-    for j in 0..ys.len() {
-        pair(arena, memo, xs[i], ys[j], product)?;
-    }
-    Ok(())
+    let mut marks = vec![in alloc; false; nodes]?;
+    marks[nodes - 1] = true;
+    spread_back(marks.as_mut_slice(), ties);
+    Ok(marks)
 }
 
-/// Pairs two edges, where something leads to their pair of nodes and some atom stands in both.
-fn pair(
+/// Marks what leads to a marked node.
+fn spread_back(marks: &mut [bool], ties: &[Tie])
+    requires { AreRising (length marks.old) ties.now }
+    ensures { AreClosed ties.now marks.old marks.new }
+{
+    let mut i = ties.len();
+    while i > 0 {
+        i -= 1;
+        let tie = ties[i];
+        spread(marks, tie.to, tie.from);
+    }
+}
+
+/// Marks the second node where the first one is marked.
+fn spread(marks: &mut [bool], from: usize, to: usize)
+    requires from { from < length marks.old }
+    requires to { to < length marks.old }
+    ensures { marks.new ≡ spread marks.old from to }
+{
+    if marks[from] {
+        marks[to] = true;
+    }
+}
+
+/// The edges of the ties that lead to a live node and have an atom in common.
+fn join_ties(
+    alloc: Global,
+    arena: &mut Arena,
+    live: &[bool],
+    ties: &[Tie],
+) -> Result<List<Edge>, NoMemory>
+    requires ties { AreRising (length live.now) ties.now }
+    requires sets { NameSets arena.old ties.now }
+    ensures kept { Extends arena.old arena.new }
+    ensures joined { IfOk result (AreJoined arena.new live.now ties.now) }
+{
+    let mut memo = Memo::new(alloc);
+    let mut edges = List::new(alloc);
+    for i in 0..ties.len() {
+        let tie = ties[i];
+        if !live[tie.to] {
+            continue;
+        }
+        join(arena, &mut memo, tie, &mut edges)?;
+    }
+    Ok(edges)
+}
+
+/// Puts the tie's edge at the end, if some atom stands in both its sets.
+fn join(
     arena: &mut Arena,
     memo: &mut Memo,
-    x: Edge,
-    y: Edge,
-    product: &mut Product,
+    tie: Tie,
+    edges: &mut List<Edge>,
 ) -> Result<(), NoMemory>
     requires memo { IsRight arena.old memo.old }
-    requires first { IsAtomSet arena.old x.atoms }
-    requires second { IsAtomSet arena.old y.atoms }
-    requires from { x.from * product.old.width + y.from < length product.old.reached.items }
-    requires to { x.to * product.old.width + y.to < length product.old.reached.items }
-    requires reached { AreReached product.old.reached.items product.old.edges }
+    requires first { IsAtomSet arena.old tie.left }
+    requires second { IsAtomSet arena.old tie.right }
     ensures kept { Extends arena.old arena.new }
     ensures memo { OnOk result (IsRight arena.new memo.new) }
-    ensures width { OnOk result (product.new.width ≡ product.old.width) }
-    ensures long { OnOk result (length product.new.reached.items ≡ length product.old.reached.items) }
-    ensures reached { OnOk result (AreReached product.new.reached.items product.new.edges) }
-    ensures paired { OnOk result (IsPaired arena.new product.old.width x y product.old.edges product.new.edges) }
+    ensures joined { OnOk result (IsJoinedTo arena.new tie edges.old edges.new) }
 {
-    let from = x.from * product.width + y.from;
-    if !product.reached[from] {
-        return Ok(());
-    }
-    let Some(atoms) = meet_atoms(arena, memo, x.atoms, y.atoms)? else {
+    let Some(atoms) = edge_atoms(arena, memo, tie.left, tie.right)? else {
         return Ok(());
     };
-    let to = x.to * product.width + y.to;
-    product.edges.push(Edge { from, to, atoms })?;
-    product.reached[to] = true;
-    Ok(())
+    edges.push(Edge {
+        from: tie.from,
+        to: tie.to,
+        atoms,
+    })
+}
+
+/// The set of the atoms that stand in both sets of edges, or none. No table keeps it, since few pairs of edges come again.
+fn edge_atoms(
+    arena: &mut Arena,
+    memo: &mut Memo,
+    s: AtomSet,
+    t: AtomSet,
+) -> Result<Option<AtomSet>, NoMemory>
+    requires memo { IsRight arena.old memo.old }
+    requires first { IsAtomSet arena.old s }
+    requires second { IsAtomSet arena.old t }
+    ensures kept { Extends arena.old arena.new }
+    ensures memo { OnOk result (IsRight arena.new memo.new) }
+    ensures met { IfOk result (AtomSetsMeet arena.new s t) }
+{
+    if s == t {
+        arena.keeps_made();
+        return Ok(Some(s));
+    }
+    make_atoms(arena, memo, s, t)
 }

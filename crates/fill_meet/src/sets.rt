@@ -14,7 +14,7 @@ use fill_text::{List, NoMemory, Text};
 
 /// The set of the atoms that stand in both sets, or none where there are none.
 #[cycle(meet)]
-pub(crate) fn meet_atoms(
+fn meet_atoms(
     arena: &mut Arena,
     memo: &mut Memo,
     s: AtomSet,
@@ -39,8 +39,9 @@ pub(crate) fn meet_atoms(
     Ok(made)
 }
 
+/// The same, where the sets are two, and with no table for the pair.
 #[cycle(meet)]
-fn make_atoms(
+pub(crate) fn make_atoms(
     arena: &mut Arena,
     memo: &mut Memo,
     s: AtomSet,
@@ -405,7 +406,7 @@ fn is_part_item(item: &AtomItem) -> bool
     !matches!(item, AtomItem::Const(_))
 }
 
-fn have_same_numbers(x: &SelectItem, y: &SelectItem) -> bool
+pub(crate) fn have_same_numbers(x: &SelectItem, y: &SelectItem) -> bool
     ensures { IsTrue result ↔ HaveSameNumbers x.now y.now }
 {
     x.column == y.column && x.table == y.table && x.key == y.key

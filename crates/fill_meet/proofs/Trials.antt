@@ -1,0 +1,43 @@
+-- Sets that are apart, by what they list.
+use Rattle.std.proofs.Common.{◌≡◌, ℕ, List, Some, Result, Ok, Err, slice_get, sym, ◌∙◌}
+use Rattle.std.specs.Prelude.{IfOk}
+use Rattle.fill_text.specs.declared.error.NoMemory.{NoMemory}
+use Rattle.fill_tokens.specs.declared.place.Place.{Place}
+use Rattle.fill_tree.specs.Tree.{SourceTree, col, select}
+use Rattle.fill_arena.specs.Contents.{In, SomeIn, EachIn}
+use Rattle.fill_arena.specs.Stands.{PlaceStands, SourceStands, AtomStands}
+use Rattle.fill_arena.specs.declared.entry.Entry.{Entry}
+use Rattle.fill_arena.specs.declared.entry.Entry.TheVariants.{Places, Sources, Atoms}
+use Rattle.fill_arena.specs.declared.entry.AtomItem.{AtomItem}
+use Rattle.fill_arena.specs.declared.entry.SourceItem.{SourceItem}
+use Rattle.fill_arena.specs.declared.entry.SourceItem.TheVariants.{Col, Select}
+use Rattle.fill_meet.specs.Meet.{AreApart}
+use Rattle.fill_meet.specs.Sets.{AtomIn, SourceIn}
+use Rattle.fill_meet.specs.Tried.{AreAlike}
+use Rattle.fill_meet.proofs.Listed.{set_apart, ListsPlace, ListsSource, ListsAtom, one_places, one_sources, one_atoms}
+
+-- two items that one source stands in
+like_items : (d : List Entry) (a : SourceTree) (x y : SourceItem) → SourceIn d x a → SourceIn d y a → AreAlike x y
+like_items d (col n) (Col u) (Col v) f g = f ∙ sym g
+like_items d (col n) (Col u) (Select y) f g = g
+like_items d (col n) (Select x) y f g = absurd f
+like_items d (select column table key row) (Col u) y f g = absurd f
+like_items d (select column table key row) (Select x) (Col v) f g = g
+like_items d (select column table key row) (Select x) (Select y) f g = (f.0 ∙ sym g.0, f.1 ∙ sym g.1, f.2 ∙ sym g.2)
+
+module _ (c : List Entry) (s t : ℕ) where
+  pub places_unshared : (xs ys : List Place) → slice_get c s ≡ Some (Places xs) → slice_get c t ≡ Some (Places ys) → (SomeIn (λ p. In p ys) xs → ⊥) → AreApart PlaceStands c s t
+  places_unshared xs ys hs ht none = set_apart ListsPlace Places one_places c s t xs ys hs ht (λ d o p f g. none (p, f, g))
+
+  pub sources_unlike : (xs ys : List SourceItem) → slice_get c s ≡ Some (Sources xs) → slice_get c t ≡ Some (Sources ys) → (SomeIn (λ x. SomeIn (AreAlike x) ys) xs → ⊥) → AreApart SourceStands c s t
+  sources_unlike xs ys hs ht none =
+      set_apart ListsSource Sources one_sources c s t xs ys hs ht (λ d o a f g. none (f.0, f.1, (g.0, g.1, like_items d a f.0 g.0 f.2 g.2)))
+
+  pub atoms_unshared : (xs ys : List AtomItem) → slice_get c s ≡ Some (Atoms xs) → slice_get c t ≡ Some (Atoms ys) → EachIn (λ x. EachIn (AreApart AtomIn c x) ys) xs → AreApart AtomStands c s t
+  atoms_unshared xs ys hs ht all =
+      set_apart ListsAtom Atoms one_atoms c s t xs ys hs ht (λ d o a f g. all f.1.0 f.0 f.1.1 g.1.0 g.0 g.1.1 d o a f.2 g.2)
+
+-- what is known of a result by what is known of it otherwise
+pub ok_map : {A : Type 0} (r : Result A NoMemory) (P Q : A → Type 0) → ((x : A) → P x → Q x) → IfOk r P → IfOk r Q
+ok_map (Ok x) P Q f h = f x h
+ok_map (Err e) P Q f h = h

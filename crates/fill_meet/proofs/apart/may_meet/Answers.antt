@@ -1,0 +1,29 @@
+use Rattle.fill_arena.specs.Contents.{EachIn}
+use Rattle.fill_arena.specs.declared.entry.Entry.TheVariants.{Atoms}
+use Rattle.fill_meet.specs.Meet.{AreApart}
+use Rattle.fill_meet.specs.Sets.{AtomIn}
+use Rattle.fill_meet.proofs.Lists.{here, all_more, all_end}
+use Rattle.fill_meet.proofs.Trials.{atoms_unshared}
+use Rattle.fill_meet.proofs.apart.may_meet.Goals as goal
+
+pub meets_some-requires-clause-first : goal.meets_some-requires-clause-first
+meets_some-requires-clause-first c = (
+  c.args.s,
+  (c.keeps_made.ensures c.args.s (Atoms c.atoms-xs.result.now) c.atoms-xs.ensures).each c.loop-i.i c.index-xs-i.result (here _ _ _ c.loop-i-test.true c.index-xs-i.is),
+)
+
+pub meets_some-requires-clause-second : goal.meets_some-requires-clause-second
+meets_some-requires-clause-second c = (c.args.t, (c.keeps_made.ensures c.args.t (Atoms c.atoms-ys.result.now) c.atoms-ys.ensures).each)
+
+pub loop-i-preserved : goal.loop-i-preserved
+loop-i-preserved c =
+    record {
+      tried = c.in_ok-meets_some.ensures.tried;
+      apart = all_more (λ x. EachIn (AreApart AtomIn c.args.arena.now x) c.atoms-ys.result.now) _ _ _ (here _ _ _ c.loop-i-test.true c.index-xs-i.is) c.loop-i.invariant.apart
+          (c.in_ok-meets_some.ensures.apart c.if-branch.false);
+    }
+
+pub returns-clause-apart : goal.returns-clause-apart
+returns-clause-apart c = λ e.
+    atoms_unshared c.args.arena.now c.args.s c.args.t _ _ c.atoms-xs.ensures c.atoms-ys.ensures
+    (all_end (λ x. EachIn (AreApart AtomIn c.args.arena.now x) c.atoms-ys.result.now) _ _ c.loop-i-test.false c.loop-i.invariant.apart)

@@ -1,0 +1,46 @@
+use Rattle.std.proofs.Common.{◌≡◌, ℕ, ◌+◌, ◌*◌, ◌/◌, ◌%◌, ◌<◌, ◌≤◌, length, refl, ap, sym, ◌∙◌, subst, arith}
+use Rattle.fill_arena.proofs.Lists.{get_there}
+use Rattle.fill_meet.proofs.Chains.{first_is, next_is}
+use Rattle.fill_meet.proofs.Nets.{net_node_on, net_node_end}
+use Rattle.fill_meet.proofs.Products.{row_within, row_and_column}
+use Rattle.fill_meet.proofs.ties.tie_nodes.Goals as goal
+
+pub loop-k-init : goal.loop-k-init
+loop-k-init c =
+    let state = c.requires.state in
+    let w = c.args.net.now.width in
+    let is = row_and_column c.args.at w c.requires.wide in
+    let row = row_within state.height w (c.args.at / w) (c.args.at % w) (subst (λ n. n < state.height * w) is.0 (subst (λ n. c.args.at < n) state.tied.long c.requires.within)) in
+    let first = first_is state.height c.args.xs.now state.firsts (c.args.at / w) c.first-k.result row c.first-k.ensures in
+    record {
+      state = net_node_on c.args.arena.now c.args.xs.now c.args.ys.now c.args.at 0 c.args.net.now state (c.args.at / w) (c.args.at % w) is.0 is.1 c.first-k.result first;
+      from = (is.1, λ x hx. is.0 ∙ ap (λ n. n * w + c.args.at % w) (sym (first.here x hx)));
+      width = refl;
+      long = refl;
+    }
+
+pub loop-k-smaller : goal.loop-k-smaller
+loop-k-smaller c =
+    let x = get_there c.args.xs.now.edges.now c.loop-k.k c.loop-k-test.true in
+    let past = (next_is _ _ c.loop-k.invariant.state.firsts c.loop-k.k c.next-k.result x.0 x.1 c.next-k.ensures).past in
+    let test = c.loop-k-test.true in
+    omega arith
+
+pub loop-k-preserved : goal.loop-k-preserved
+loop-k-preserved c =
+    let inv = c.loop-k.invariant in
+    let done = c.in_ok-tie_row.ensures in
+    let node = c.args.at % c.args.net.now.width in
+    let x = get_there c.args.xs.now.edges.now c.loop-k.k c.loop-k-test.true in
+    let next = next_is _ _ inv.state.firsts c.loop-k.k c.next-k.result x.0 x.1 c.next-k.ensures in
+    let at : c.args.at ≡ x.0.from * c.tie_row.new.net.width + node = subst (λ w. c.args.at ≡ x.0.from * w + node) (sym done.width) (inv.from.1 x.0 x.1) in
+    let lt : node < c.tie_row.new.net.width = subst (λ w. node < w) (sym done.width) inv.from.0 in
+    record {
+      state = net_node_on c.args.arena.now c.args.xs.now c.args.ys.now c.args.at (c.loop-k.k + 1) c.tie_row.new.net done.state x.0.from node at lt c.next-k.result next;
+      from = (lt, λ y hy. at ∙ ap (λ n. n * c.tie_row.new.net.width + node) (sym (next.here y hy)));
+      width = done.width ∙ inv.width;
+      long = done.long ∙ inv.long;
+    }
+
+pub returns-clause-state : goal.returns-clause-state
+returns-clause-state c = net_node_end c.args.arena.now c.args.xs.now c.args.ys.now c.args.at c.loop-k.k 0 c.loop-k.net c.loop-k.invariant.state c.loop-k-test.false

@@ -1,0 +1,72 @@
+//! The edges of a graph by the nodes that they come from.
+ghost use Rattle.std.specs.Prelude.{◌≡◌, ◌<◌, ℕ, length, get_or, IfOk};
+ghost use Rattle.fill_arena.specs.Contents.{EachIn};
+ghost use Rattle.fill_meet.specs.Outs.{AreChainedFrom, AreOuts};
+
+use fill_arena::Edge;
+use fill_text::NoMemory;
+use std::alloc::Global;
+
+/// Edges, for each node the place of the first edge out of it, and for each edge that of the next one out of its node.
+///
+/// Where there is none, it is a place past the last edge.
+#[derive(Drop)]
+pub(crate) struct Outs<'a> {
+    pub(crate) edges: &'a [Edge],
+    pub(crate) firsts: Vec<usize>,
+    pub(crate) nexts: Vec<usize>,
+}
+
+impl<'a> Outs<'a> {
+    /// The edges of so many nodes, gone through once from the back.
+    pub(crate) fn new(
+        alloc: Global,
+        nodes: usize,
+        edges: &'a [Edge],
+    ) -> Result<Outs<'a>, NoMemory>
+        requires { EachIn (λ e. e.from < nodes) edges.now }
+        ensures outs { IfOk result (AreOuts nodes) }
+        ensures edges { IfOk result (λ outs. outs.edges.now ≡ edges.now) }
+    {
+        let mut firsts = vec![in alloc; edges.len(); nodes]?;
+        let mut nexts = vec![in alloc; edges.len(); edges.len()]?;
+        chain(firsts.as_mut_slice(), nexts.as_mut_slice(), edges);
+        Ok(Outs {
+            edges,
+            firsts,
+            nexts,
+        })
+    }
+
+    /// The place of the first edge out of the node.
+    pub(crate) fn first(&self, node: usize) -> usize
+        requires { node < length self.now.firsts.items }
+        ensures { result ≡ get_or self.now.firsts.items node 0 }
+    {
+        self.firsts[node]
+    }
+
+    /// The place of the next edge out of the node of the edge at this place.
+    pub(crate) fn next(&self, place: usize) -> usize
+        requires { place < length self.now.nexts.items }
+        ensures { result ≡ get_or self.now.nexts.items place 0 }
+    {
+        self.nexts[place]
+    }
+}
+
+/// Puts each edge before the later ones out of its node, where no node has an edge yet.
+fn chain(firsts: &mut [usize], nexts: &mut [usize], edges: &[Edge])
+    requires within { EachIn (λ e. e.from < length firsts.old) edges.now }
+    requires long { length nexts.old ≡ length edges.now }
+    requires none { (n : ℕ) → n < length firsts.old → get_or firsts.old n 0 ≡ length edges.now }
+    ensures { AreChainedFrom 0 edges.now firsts.new nexts.new }
+{
+    let mut i = edges.len();
+    while i > 0 {
+        i -= 1;
+        let from = edges[i].from;
+        nexts[i] = firsts[from];
+        firsts[from] = i;
+    }
+}

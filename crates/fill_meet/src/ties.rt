@@ -1,0 +1,146 @@
+//! The pairs of edges that may have an atom in common.
+ghost use Rattle.std.specs.Prelude.{◌≡◌, ◌<◌, ◌+◌, ◌*◌, length, IfOk, OnOk};
+ghost use Rattle.fill_arena.specs.Contents.{IsAtomSet};
+ghost use Rattle.fill_meet.specs.Product.{ArePairable};
+ghost use Rattle.fill_meet.specs.Ties.{AreRising, AreTies, IsOut, IsTried, NameSets, TieState};
+ghost use Rattle.fill_meet.specs.Tried.{AreTried};
+
+use crate::apart::may_meet;
+use crate::outs::Outs;
+use crate::tried::Tried;
+use fill_arena::{Arena, AtomSet, Edge};
+use fill_text::{List, NoMemory};
+use std::alloc::Global;
+
+/// Two edges that may have an atom in common, by the pairs of their nodes and their sets.
+///
+/// The pair of the nodes `i` and `j` has the number `i * width + j`.
+#[derive(Clone, Copy)]
+pub(crate) struct Tie {
+    pub(crate) from: usize,
+    pub(crate) to: usize,
+    pub(crate) left: AtomSet,
+    pub(crate) right: AtomSet,
+}
+
+/// The ties that were found, and for each pair of nodes whether node 0 or a tie leads to it.
+#[derive(Drop)]
+pub(crate) struct Net {
+    pub(crate) width: usize,
+    pub(crate) reached: Vec<bool>,
+    pub(crate) ties: List<Tie>,
+    pub(crate) tried: Tried,
+}
+
+/// The ties between pairs of nodes, as far as they lead from the first pair.
+///
+/// A tie leads to a greater pair, so what leads to a pair is known once its turn comes, and what nothing leads to costs
+/// nothing more.
+pub(crate) fn find_ties(
+    alloc: Global,
+    arena: &Arena,
+    height: usize,
+    width: usize,
+    nodes: usize,
+    xs: &[Edge],
+    ys: &[Edge],
+) -> Result<List<Tie>, NoMemory>
+    requires some { 0 < nodes }
+    requires nodes { nodes ≡ height * width }
+    requires edges { ArePairable arena.now height width xs.now ys.now }
+    ensures ties { IfOk result (AreTies arena.now width xs.now ys.now) }
+    ensures rising { IfOk result (AreRising nodes) }
+    ensures sets { IfOk result (NameSets arena.now) }
+{
+    let firsts = Outs::new(alloc, height, xs)?;
+    let seconds = Outs::new(alloc, width, ys)?;
+    let mut reached = vec![in alloc; false; nodes]?;
+    reached[0] = true;
+    let mut net = Net {
+        width,
+        reached,
+        ties: List::new(alloc),
+        tried: Tried::new(alloc),
+    };
+    for at in 0..nodes {
+        if !net.reached[at] {
+            continue;
+        }
+        tie_nodes(arena, &firsts, &seconds, at, &mut net)?;
+    }
+    Ok(net.ties)
+}
+
+/// Ties the edges out of the first node of the pair with those out of the second.
+fn tie_nodes(
+    arena: &Arena,
+    xs: &Outs<'_>,
+    ys: &Outs<'_>,
+    at: usize,
+    net: &mut Net,
+) -> Result<(), NoMemory>
+    requires wide { 0 < net.old.width }
+    requires within { at < length net.old.reached.items }
+    requires state { TieState arena.now xs.now ys.now at 0 0 net.old }
+    ensures state { OnOk result (TieState arena.now xs.now ys.now (at + 1) 0 0 net.new) }
+    ensures width { OnOk result (net.new.width ≡ net.old.width) }
+    ensures long { OnOk result (length net.new.reached.items ≡ length net.old.reached.items) }
+{
+    let node = at % net.width;
+    let mut k = xs.first(at / net.width);
+    while k < xs.edges.len() {
+        tie_row(arena, xs, k, ys, node, at, net)?;
+        k = xs.next(k);
+    }
+    Ok(())
+}
+
+/// Ties the edge at place `k` of the first graph with those out of a node of the second.
+fn tie_row(
+    arena: &Arena,
+    xs: &Outs<'_>,
+    k: usize,
+    ys: &Outs<'_>,
+    node: usize,
+    at: usize,
+    net: &mut Net,
+) -> Result<(), NoMemory>
+    requires within { k < length xs.now.edges.now }
+    requires from { IsOut xs.now.edges.now k net.old.width node at }
+    requires state { TieState arena.now xs.now ys.now at k 0 net.old }
+    ensures state { OnOk result (TieState arena.now xs.now ys.now at (k + 1) 0 net.new) }
+    ensures width { OnOk result (net.new.width ≡ net.old.width) }
+    ensures long { OnOk result (length net.new.reached.items ≡ length net.old.reached.items) }
+{
+    let mut l = ys.first(node);
+    while l < ys.edges.len() {
+        tie_edges(arena, xs.edges[k], ys.edges[l], net)?;
+        l = ys.next(l);
+    }
+    Ok(())
+}
+
+/// Ties two edges, if they may have an atom in common.
+fn tie_edges(arena: &Arena, x: Edge, y: Edge, net: &mut Net) -> Result<(), NoMemory>
+    requires tried { AreTried arena.now net.old.tried }
+    requires first { IsAtomSet arena.now x.atoms }
+    requires second { IsAtomSet arena.now y.atoms }
+    requires from { x.from * net.old.width + y.from < length net.old.reached.items }
+    requires to { x.to * net.old.width + y.to < length net.old.reached.items }
+    ensures tried { OnOk result (AreTried arena.now net.new.tried) }
+    ensures width { OnOk result (net.new.width ≡ net.old.width) }
+    ensures tied { OnOk result (IsTried arena.now x y net.old net.new) }
+{
+    if !may_meet(arena, &mut net.tried, x.atoms, y.atoms)? {
+        return Ok(());
+    }
+    let to = x.to * net.width + y.to;
+    net.ties.push(Tie {
+        from: x.from * net.width + y.from,
+        to,
+        left: x.atoms,
+        right: y.atoms,
+    })?;
+    net.reached[to] = true;
+    Ok(())
+}
