@@ -61,63 +61,63 @@ module _ (c : List Entry) (w : ℕ) (xs ys edges : List Edge) (ey : AreEdges w y
 
 -- the ties of an arena, the nodes of theirs that lead to the last one, and their edges in a later arena
 module _ (c d : List Entry) (o : Extends c d) (h w : ℕ) (xs ys : List Edge) (ties : List Tie) (t : AreTies c w xs ys ties) (marks : List Bool) (live : AreLive (h * w) ties marks) (edges : List Edge) (j : AreJoined d marks ties edges)
-    where
-  met_pair : (x y e : Edge) (u : Tie) → IsTie w x y u → IsJoined d u e → AreMet AtomStands d x.atoms y.atoms e.atoms
-  met_pair x y e u tie joined =
-      subst (λ n. AreMet AtomStands d n y.atoms e.atoms) tie.left (subst (λ n. AreMet AtomStands d u.left n e.atoms) tie.right joined.met)
+  where
+    met_pair : (x y e : Edge) (u : Tie) → IsTie w x y u → IsJoined d u e → AreMet AtomStands d x.atoms y.atoms e.atoms
+    met_pair x y e u tie joined =
+        subst (λ n. AreMet AtomStands d n y.atoms e.atoms) tie.left (subst (λ n. AreMet AtomStands d u.left n e.atoms) tie.right joined.met)
 
-  joined_sound : EachIn (IsPairOf d w xs ys) edges
-  joined_sound k e at =
-      let s = j.sound k e at in
-      let u = t.sound s.1.0 s.0 s.1.1 in
-      let tie = u.2.2 in
-      (u.0, u.1, (u.2.0, u.2.1, record { from = s.2.from ∙ tie.from; to = s.2.to ∙ tie.to; met = met_pair u.0 u.2.0 e s.0 tie s.2 }))
+    joined_sound : EachIn (IsPairOf d w xs ys) edges
+    joined_sound k e at =
+        let s = j.sound k e at in
+        let u = t.sound s.1.0 s.0 s.1.1 in
+        let tie = u.2.2 in
+        (u.0, u.1, (u.2.0, u.2.1, record { from = s.2.from ∙ tie.from; to = s.2.to ∙ tie.to; met = met_pair u.0 u.2.0 e s.0 tie s.2 }))
 
-  module _ (e : List Entry) (q : Extends d e) (m n : ℕ) (last : h * w - 1 ≡ m * w + n) where
-    -- where a program walks on over both, the pair of nodes leads to the last one
-    leads_on : (p : Atoms) (a b at : ℕ) → at ≡ a * w + b → IsTied ties at → Walks p e xs m a → Walks p e ys n b → IsMarked marks at
-    leads_on end a b at is tied u v = subst (IsMarked marks) (last ∙ ((rw (u, v) refl) ∙ sym is)) live.last
-    leads_on (more f p) a b at is tied u v =
-        let x = u.0 in
-        let y = v.0 in
-        let start : x.from * w + y.from ≡ at = rw (u.2.0, v.2.0) (sym is) in
-        elim (t.covers x y u.1 v.1 (subst (IsTied ties) (sym start) tied)) [
-          | inl s ↦
-              let tie = s.2 in
-              let rest = leads_on p x.to y.to s.0.to tie.to (inr (s.0, s.1, refl)) u.2.2 v.2.2 in
-              subst (IsMarked marks) (tie.from ∙ start) (live.closed s.1.0 s.0 s.1.1 rest)
-          | inr apart ↦ absurd (apart e (extends_on c d e o q) f u.2.1 v.2.1)
-        ]
+    module _ (e : List Entry) (q : Extends d e) (m n : ℕ) (last : h * w - 1 ≡ m * w + n) where
+      -- where a program walks on over both, the pair of nodes leads to the last one
+      leads_on : (p : Atoms) (a b at : ℕ) → at ≡ a * w + b → IsTied ties at → Walks p e xs m a → Walks p e ys n b → IsMarked marks at
+      leads_on end a b at is tied u v = subst (IsMarked marks) (last ∙ ((rw (u, v) refl) ∙ sym is)) live.last
+      leads_on (more f p) a b at is tied u v =
+          let x = u.0 in
+          let y = v.0 in
+          let start : x.from * w + y.from ≡ at = rw (u.2.0, v.2.0) (sym is) in
+          elim (t.covers x y u.1 v.1 (subst (IsTied ties) (sym start) tied)) [
+            | inl s ↦
+                let tie = s.2 in
+                let rest = leads_on p x.to y.to s.0.to tie.to (inr (s.0, s.1, refl)) u.2.2 v.2.2 in
+                subst (IsMarked marks) (tie.from ∙ start) (live.closed s.1.0 s.0 s.1.1 rest)
+            | inr apart ↦ absurd (apart e (extends_on c d e o q) f u.2.1 v.2.1)
+          ]
 
-    walks_on : (p : Atoms) (a b at : ℕ) → at ≡ a * w + b → IsTied ties at → Walks p e xs m a → Walks p e ys n b → Walks p e edges (m * w + n) at
-    walks_on end a b at is tied u v = let same : a * w + b ≡ m * w + n = rw (u, v) refl in is ∙ same
-    walks_on (more f p) a b at is tied u v =
-        let x = u.0 in
-        let y = v.0 in
-        let start : x.from * w + y.from ≡ at = rw (u.2.0, v.2.0) (sym is) in
-        elim (t.covers x y u.1 v.1 (subst (IsTied ties) (sym start) tied)) [
-          | inl s ↦
-              let tie = s.2 in
-              let on : IsTied ties s.0.to = inr (s.0, s.1, refl) in
-              elim (j.covers s.0 s.1 (leads_on p x.to y.to s.0.to tie.to on u.2.2 v.2.2)) [
-                | inl k ↦
-                    let both = ((met_pair x y k.0 s.0 tie k.2).both e q f).1 (u.2.1, v.2.1) in
-                    let rest = walks_on p x.to y.to k.0.to (k.2.to ∙ tie.to) (inr (s.0, s.1, sym k.2.to)) u.2.2 v.2.2 in
-                    (k.0, k.1, (k.2.from ∙ (tie.from ∙ start), both, rest))
-                | inr apart ↦ absurd (apart e q f (subst (λ r. AtomStands e r f) (sym tie.left) u.2.1) (subst (λ r. AtomStands e r f) (sym tie.right) v.2.1))
-              ]
-          | inr apart ↦ absurd (apart e (extends_on c d e o q) f u.2.1 v.2.1)
-        ]
+      walks_on : (p : Atoms) (a b at : ℕ) → at ≡ a * w + b → IsTied ties at → Walks p e xs m a → Walks p e ys n b → Walks p e edges (m * w + n) at
+      walks_on end a b at is tied u v = let same : a * w + b ≡ m * w + n = rw (u, v) refl in is ∙ same
+      walks_on (more f p) a b at is tied u v =
+          let x = u.0 in
+          let y = v.0 in
+          let start : x.from * w + y.from ≡ at = rw (u.2.0, v.2.0) (sym is) in
+          elim (t.covers x y u.1 v.1 (subst (IsTied ties) (sym start) tied)) [
+            | inl s ↦
+                let tie = s.2 in
+                let on : IsTied ties s.0.to = inr (s.0, s.1, refl) in
+                elim (j.covers s.0 s.1 (leads_on p x.to y.to s.0.to tie.to on u.2.2 v.2.2)) [
+                  | inl k ↦
+                      let both = ((met_pair x y k.0 s.0 tie k.2).both e q f).1 (u.2.1, v.2.1) in
+                      let rest = walks_on p x.to y.to k.0.to (k.2.to ∙ tie.to) (inr (s.0, s.1, sym k.2.to)) u.2.2 v.2.2 in
+                      (k.0, k.1, (k.2.from ∙ (tie.from ∙ start), both, rest))
+                  | inr apart ↦ absurd (apart e q f (subst (λ r. AtomStands e r f) (sym tie.left) u.2.1) (subst (λ r. AtomStands e r f) (sym tie.right) v.2.1))
+                ]
+            | inr apart ↦ absurd (apart e (extends_on c d e o q) f u.2.1 v.2.1)
+          ]
 
-  pub joined_product : 0 < h → 0 < w → IsProduct d h w xs ys edges
-  joined_product sh sw =
-      record {
-        sound = joined_sound;
-        whole = λ e q p u v.
-            (let at = corner h w sh sw in
-            let start : 0 ≡ 0 * w + 0 = omega arith in
-            subst (λ n. Walks p e edges n 0) (sym at) (walks_on e q (h - 1) (w - 1) at p 0 0 0 start (inl refl) u v));
-      }
+    pub joined_product : 0 < h → 0 < w → IsProduct d h w xs ys edges
+    joined_product sh sw =
+        record {
+          sound = joined_sound;
+          whole = λ e q p u v.
+              (let at = corner h w sh sw in
+              let start : 0 ≡ 0 * w + 0 = omega arith in
+              subst (λ n. Walks p e edges n 0) (sym at) (walks_on e q (h - 1) (w - 1) at p 0 0 0 start (inl refl) u v));
+        }
 
 -- edges that have their ties' nodes
 pub joined_edges : (c : List Entry) (marks : List Bool) (n : ℕ) (ties : List Tie) (edges : List Edge) → AreRising n ties → AreJoined c marks ties edges → AreEdges n edges

@@ -1,6 +1,6 @@
 -- What is told of pairs of sets without a new set.
 use Rattle.std.specs.Prelude.{◌≡◌, ℕ, List, Bool, false}
-use Rattle.fill_arena.specs.Stands.{PlaceStands, SourceStands}
+use Rattle.fill_arena.specs.Stands.{PlaceStands, SourceStands, AtomStands}
 use Rattle.fill_arena.specs.declared.entry.Entry.{Entry}
 use Rattle.fill_arena.specs.declared.entry.SourceItem.{SourceItem}
 use Rattle.fill_arena.specs.declared.entry.SourceItem.TheVariants.{Col, Select}
@@ -16,10 +16,14 @@ PlacesTried c s t may = may ≡ false → AreApart PlaceStands c s t
 abbrev pub SourcesTried : List Entry → ℕ → ℕ → Bool → Type 0
 SourcesTried c s t may = may ≡ false → AreApart SourceStands c s t
 
+abbrev pub AtomsTried : List Entry → ℕ → ℕ → Bool → Type 0
+AtomsTried c s t may = may ≡ false → AreApart AtomStands c s t
+
 -- what the tables tell is so in the arena
 pub record AreTried (c : List Entry) (tried : Tried) : Type 0 where
   pub places : AreRight (PlacesTried c) tried.places
   pub sources : AreRight (SourcesTried c) tried.sources
+  pub atoms : AreRight (AtomsTried c) tried.atoms
 
 -- the same column, or lookups with the same numbers
 abbrev pub AreAlike : SourceItem → SourceItem → Type 0

@@ -8,13 +8,20 @@ ghost use Rattle.fill_meet.specs.Sets.{AtomIn};
 ghost use Rattle.fill_meet.specs.Tried.{AreAlike, AreTried};
 
 use crate::sets::have_same_numbers;
-use crate::tried::{Tried, tell_places, tell_sources, told_places, told_sources};
+use crate::tried::{
+    Tried, tell_atoms, tell_places, tell_sources, told_atoms, told_places, told_sources,
+};
 use fill_arena::{Arena, AtomItem, AtomSet, PlaceSet, SourceItem, SourceSet};
 use fill_text::NoMemory;
 use fill_tokens::Place;
 use std::cmp::Ordering;
 
+/// How many pairs of items are few.
+const FEW_PAIRS: usize = 16;
+
 /// Whether some atom may stand in both sets: where it tells no, none does.
+///
+/// A table keeps what was told of sets with many items: where a text repeats a pattern, they stand on many edges.
 pub(crate) fn may_meet(
     arena: &Arena,
     tried: &mut Tried,
@@ -30,6 +37,38 @@ pub(crate) fn may_meet(
     if s == t {
         return Ok(true);
     }
+    if !are_many(arena, s, t) {
+        return items_may_meet(arena, tried, s, t);
+    }
+    if let Some(may) = told_atoms(&tried.atoms, s, t) {
+        return Ok(may);
+    }
+    let may = items_may_meet(arena, tried, s, t)?;
+    tell_atoms(&mut tried.atoms, s, t, may)?;
+    Ok(may)
+}
+
+/// Whether the two sets' items make many pairs.
+pub(crate) fn are_many(arena: &Arena, s: AtomSet, t: AtomSet) -> bool
+    requires first { IsAtomSet arena.now s }
+    requires second { IsAtomSet arena.now t }
+{
+    arena.atoms(s).len().saturating_mul(arena.atoms(t).len()) > FEW_PAIRS
+}
+
+/// Whether some item of the one set may have an atom in common with one of the other.
+fn items_may_meet(
+    arena: &Arena,
+    tried: &mut Tried,
+    s: AtomSet,
+    t: AtomSet,
+) -> Result<bool, NoMemory>
+    requires tried { AreTried arena.now tried.old }
+    requires first { IsAtomSet arena.now s }
+    requires second { IsAtomSet arena.now t }
+    ensures tried { OnOk result (AreTried arena.now tried.new) }
+    ensures apart { IfOk result (λ may. may ≡ false → AreApart AtomStands arena.now s t) }
+{
     arena.keeps_made();
     let xs = arena.atoms(s);
     let ys = arena.atoms(t);
@@ -55,7 +94,7 @@ fn meets_some(
     ensures apart { IfOk result (λ may. may ≡ false → EachIn (AreApart AtomIn arena.now x.now) ys.now) }
 {
     for j in 0..ys.len() {
-        if items_may_meet(arena, tried, x, &ys[j])? {
+        if pair_may_meet(arena, tried, x, &ys[j])? {
             return Ok(true);
         }
     }
@@ -63,7 +102,9 @@ fn meets_some(
 }
 
 /// Whether some atom may be of both items.
-fn items_may_meet(
+///
+/// The ends are tried first: pairs of nodes that something leads to mostly have a start in common.
+fn pair_may_meet(
     arena: &Arena,
     tried: &mut Tried,
     x: &AtomItem,
@@ -79,10 +120,10 @@ fn items_may_meet(
         (AtomItem::Const(u), AtomItem::Const(v)) => Ok(u.same(v)),
         (AtomItem::Whole(s), AtomItem::Whole(t)) => sources_may_meet(arena, tried, *s, *t),
         (AtomItem::Sub(s, p, q), AtomItem::Sub(t, u, v)) => {
-            if !places_may_meet(arena, tried, *p, *u)? {
+            if !places_may_meet(arena, tried, *q, *v)? {
                 return Ok(false);
             }
-            if !places_may_meet(arena, tried, *q, *v)? {
+            if !places_may_meet(arena, tried, *p, *u)? {
                 return Ok(false);
             }
             sources_may_meet(arena, tried, *s, *t)

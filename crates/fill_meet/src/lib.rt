@@ -14,7 +14,7 @@ mod outs;
 mod places;
 mod product;
 mod sets;
-mod ties;
-mod tried;
 #[cfg(test)]
 mod tests;
+mod ties;
+mod tried;

@@ -19,11 +19,7 @@ pub(crate) struct Outs<'a> {
 
 impl<'a> Outs<'a> {
     /// The edges of so many nodes, gone through once from the back.
-    pub(crate) fn new(
-        alloc: Global,
-        nodes: usize,
-        edges: &'a [Edge],
-    ) -> Result<Outs<'a>, NoMemory>
+    pub(crate) fn new(alloc: Global, nodes: usize, edges: &'a [Edge]) -> Result<Outs<'a>, NoMemory>
         requires { EachIn (λ e. e.from < nodes) edges.now }
         ensures outs { IfOk result (AreOuts nodes) }
         ensures edges { IfOk result (λ outs. outs.edges.now ≡ edges.now) }

@@ -9,8 +9,9 @@ ghost use Rattle.fill_meet.specs.Product.{ArePairable, IsProduct};
 ghost use Rattle.fill_meet.specs.Sets.{AtomSetsMeet};
 ghost use Rattle.fill_meet.specs.Ties.{AreRising, NameSets};
 
+use crate::apart::are_many;
 use crate::memo::Memo;
-use crate::sets::make_atoms;
+use crate::sets::{make_atoms, meet_atoms};
 use crate::ties::{Tie, find_ties};
 use fill_arena::{Arena, AtomSet, Edge};
 use fill_text::{List, NoMemory};
@@ -127,7 +128,9 @@ fn join(
     })
 }
 
-/// The set of the atoms that stand in both sets of edges, or none. No table keeps it, since few pairs of edges come again.
+/// The set of the atoms that stand in both sets of edges, or none.
+///
+/// A table keeps it only where the sets have many items: few pairs of other sets come again.
 fn edge_atoms(
     arena: &mut Arena,
     memo: &mut Memo,
@@ -144,6 +147,9 @@ fn edge_atoms(
     if s == t {
         arena.keeps_made();
         return Ok(Some(s));
+    }
+    if are_many(arena, s, t) {
+        return meet_atoms(arena, memo, s, t);
     }
     make_atoms(arena, memo, s, t)
 }

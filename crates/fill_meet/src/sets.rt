@@ -14,7 +14,7 @@ use fill_text::{List, NoMemory, Text};
 
 /// The set of the atoms that stand in both sets, or none where there are none.
 #[cycle(meet)]
-fn meet_atoms(
+pub(crate) fn meet_atoms(
     arena: &mut Arena,
     memo: &mut Memo,
     s: AtomSet,

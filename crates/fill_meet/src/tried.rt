@@ -5,7 +5,7 @@ ghost use Rattle.fill_arena.specs.declared.entry.Entry.{Entry};
 ghost use Rattle.fill_meet.specs.Memory.{pair_eq};
 ghost use Rattle.fill_meet.specs.Tried.{AreTried};
 
-use fill_arena::{PlaceSet, SourceSet};
+use fill_arena::{AtomSet, PlaceSet, SourceSet};
 use fill_text::NoMemory;
 use std::alloc::Global;
 use std::collections::HashMap;
@@ -15,6 +15,7 @@ use std::collections::HashMap;
 pub(crate) struct Tried {
     pub(crate) places: HashMap<(PlaceSet, PlaceSet), bool>,
     pub(crate) sources: HashMap<(SourceSet, SourceSet), bool>,
+    pub(crate) atoms: HashMap<(AtomSet, AtomSet), bool>,
 }
 
 impl Tried {
@@ -25,6 +26,7 @@ impl Tried {
         Tried {
             places: HashMap::new(alloc),
             sources: HashMap::new(alloc),
+            atoms: HashMap::new(alloc),
         }
     }
 }
@@ -75,6 +77,34 @@ pub(crate) fn tell_sources(
     table: &mut HashMap<(SourceSet, SourceSet), bool>,
     s: SourceSet,
     t: SourceSet,
+    may: bool,
+) -> Result<(), NoMemory>
+    ensures { OnOk result (Updates pair_eq table.old table.new (s, t) (Some may)) }
+{
+    match table.insert((s, t), may) {
+        Ok(_) => Ok(()),
+        Err(_) => Err(NoMemory),
+    }
+}
+
+/// What was told of the pair.
+pub(crate) fn told_atoms(
+    table: &HashMap<(AtomSet, AtomSet), bool>,
+    s: AtomSet,
+    t: AtomSet,
+) -> Option<bool>
+    ensures { IfSome result (λ may. get pair_eq table.now (s, t) ≡ Some may) }
+{
+    match table.get(&(s, t)) {
+        Some(may) => Some(*may),
+        None => None,
+    }
+}
+
+pub(crate) fn tell_atoms(
+    table: &mut HashMap<(AtomSet, AtomSet), bool>,
+    s: AtomSet,
+    t: AtomSet,
     may: bool,
 ) -> Result<(), NoMemory>
     ensures { OnOk result (Updates pair_eq table.old table.new (s, t) (Some may)) }

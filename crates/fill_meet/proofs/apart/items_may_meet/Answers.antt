@@ -1,40 +1,29 @@
-use Rattle.std.proofs.Common.{◌≡◌, false, sym, ◌∙◌}
-use Rattle.std.proofs.lemmas.Bool.{false≢true}
+use Rattle.fill_arena.specs.Contents.{EachIn}
+use Rattle.fill_arena.specs.declared.entry.Entry.TheVariants.{Atoms}
 use Rattle.fill_meet.specs.Meet.{AreApart}
 use Rattle.fill_meet.specs.Sets.{AtomIn}
-use Rattle.fill_meet.specs.Tried.{SourcesTried}
-use Rattle.fill_meet.proofs.AtomPairs as atoms
-use Rattle.fill_meet.proofs.Trials.{ok_map}
+use Rattle.fill_meet.proofs.Lists.{here, all_more, all_end}
+use Rattle.fill_meet.proofs.Trials.{atoms_unshared}
 use Rattle.fill_meet.proofs.apart.items_may_meet.Goals as goal
 
-pub returns-then-not-branch-clause-apart : goal.returns-then-not-branch-clause-apart
-returns-then-not-branch-clause-apart c = λ e.
-    rw (c.in-Sub-Sub.is-0, c.in-Sub-Sub.is-1) (atoms.sub_apart_left _ _ _ _ _ _ _ (c.in_ok-places_may_meet-in-Sub-Sub.ensures.apart c.if-not-branch.true))
+pub meets_some-requires-clause-first : goal.meets_some-requires-clause-first
+meets_some-requires-clause-first c = (
+  c.args.s,
+  (c.keeps_made.ensures c.args.s (Atoms c.atoms-xs.result.now) c.atoms-xs.ensures).each c.loop-i.i c.index-xs-i.result (here _ _ _ c.loop-i-test.true c.index-xs-i.is),
+)
 
-pub returns-then-not-branch-2-clause-apart : goal.returns-then-not-branch-2-clause-apart
-returns-then-not-branch-2-clause-apart c = λ e.
-    rw (c.in-Sub-Sub.is-0, c.in-Sub-Sub.is-1) (atoms.sub_apart_right _ _ _ _ _ _ _ (c.in_ok-places_may_meet-in-Sub-Sub-2.ensures.apart c.if-not-branch-2.true))
+pub meets_some-requires-clause-second : goal.meets_some-requires-clause-second
+meets_some-requires-clause-second c = (c.args.t, (c.keeps_made.ensures c.args.t (Atoms c.atoms-ys.result.now) c.atoms-ys.ensures).each)
 
-pub returns-in-Const-Const-clause-apart : goal.returns-in-Const-Const-clause-apart
-returns-in-Const-Const-clause-apart c = λ e.
-    rw (c.in-Const-Const.is-0, c.in-Const-Const.is-1) (atoms.const_apart _ _ _ (λ same. false≢true (sym e ∙ c.same.ensures.1 same)))
+pub loop-i-preserved : goal.loop-i-preserved
+loop-i-preserved c =
+    record {
+      tried = c.in_ok-meets_some.ensures.tried;
+      apart = all_more (λ x. EachIn (AreApart AtomIn c.args.arena.now x) c.atoms-ys.result.now) _ _ _ (here _ _ _ c.loop-i-test.true c.index-xs-i.is) c.loop-i.invariant.apart
+          (c.in_ok-meets_some.ensures.apart c.if-branch.false);
+    }
 
-pub returns-in-Whole-Whole-clause-apart : goal.returns-in-Whole-Whole-clause-apart
-returns-in-Whole-Whole-clause-apart c =
-    ok_map c.sources_may_meet.result (SourcesTried c.args.arena.now c.in-Whole-Whole.s c.in-Whole-Whole.t) (λ may. may ≡ false → AreApart AtomIn c.args.arena.now c.args.x.now c.args.y.now)
-    (λ may apart e. rw (c.in-Whole-Whole.is-0, c.in-Whole-Whole.is-1) (atoms.whole_apart _ _ _ (apart e))) c.sources_may_meet.ensures.apart
-
-pub returns-else-not-branch-2-clause-apart : goal.returns-else-not-branch-2-clause-apart
-returns-else-not-branch-2-clause-apart c =
-    ok_map c.sources_may_meet-in-Sub-Sub.result (SourcesTried c.args.arena.now c.in-Sub-Sub.s c.in-Sub-Sub.t) (λ may. may ≡ false → AreApart AtomIn c.args.arena.now c.args.x.now c.args.y.now)
-    (λ may apart e. rw (c.in-Sub-Sub.is-0, c.in-Sub-Sub.is-1) (atoms.sub_apart_source _ _ _ _ _ _ _ (apart e))) c.sources_may_meet-in-Sub-Sub.ensures.apart
-
-pub returns-in_default : goal.returns-in_default
-returns-in_default c = record { tried = c.requires.tried; apart = λ e. atoms.not_const _ _ _ c.in_default.field-0-0 c.in_default.is-0 c.in_default.not-Const-1 }
-
-pub returns-in_default-2 : goal.returns-in_default-2
-returns-in_default-2 c = record { tried = c.requires.tried; apart = λ e. atoms.not_whole _ _ _ c.in_default.field-0-0 c.in_default.is-0 c.in_default.not-Whole-1 }
-
-pub returns-in_default-3 : goal.returns-in_default-3
-returns-in_default-3 c =
-    record { tried = c.requires.tried; apart = λ e. atoms.not_sub _ _ _ c.in_default.field-0-0 c.in_default.field-1-0 c.in_default.field-2-0 c.in_default.is-0 c.in_default.not-Sub-1 }
+pub returns-clause-apart : goal.returns-clause-apart
+returns-clause-apart c = λ e.
+    atoms_unshared c.args.arena.now c.args.s c.args.t _ _ c.atoms-xs.ensures c.atoms-ys.ensures
+    (all_end (λ x. EachIn (AreApart AtomIn c.args.arena.now x) c.atoms-ys.result.now) _ _ c.loop-i-test.false c.loop-i.invariant.apart)

@@ -1,29 +1,15 @@
-use Rattle.fill_arena.specs.Contents.{EachIn}
-use Rattle.fill_arena.specs.declared.entry.Entry.TheVariants.{Atoms}
-use Rattle.fill_meet.specs.Meet.{AreApart}
-use Rattle.fill_meet.specs.Sets.{AtomIn}
-use Rattle.fill_meet.proofs.Lists.{here, all_more, all_end}
-use Rattle.fill_meet.proofs.Trials.{atoms_unshared}
+use Rattle.fill_meet.specs.Tried.{AtomsTried}
+use Rattle.fill_meet.proofs.Memories.{right_put}
 use Rattle.fill_meet.proofs.apart.may_meet.Goals as goal
 
-pub meets_some-requires-clause-first : goal.meets_some-requires-clause-first
-meets_some-requires-clause-first c = (
-  c.args.s,
-  (c.keeps_made.ensures c.args.s (Atoms c.atoms-xs.result.now) c.atoms-xs.ensures).each c.loop-i.i c.index-xs-i.result (here _ _ _ c.loop-i-test.true c.index-xs-i.is),
-)
+pub returns-in-Some-clause-apart : goal.returns-in-Some-clause-apart
+returns-in-Some-clause-apart c = c.requires.tried.atoms.each (c.args.s, c.args.t) c.in-Some.may c.in-Some.ensures
 
-pub meets_some-requires-clause-second : goal.meets_some-requires-clause-second
-meets_some-requires-clause-second c = (c.args.t, (c.keeps_made.ensures c.args.t (Atoms c.atoms-ys.result.now) c.atoms-ys.ensures).each)
-
-pub loop-i-preserved : goal.loop-i-preserved
-loop-i-preserved c =
+pub returns-clause-tried : goal.returns-clause-tried
+returns-clause-tried c =
+    let tried = c.in_ok-may.ensures.tried in
     record {
-      tried = c.in_ok-meets_some.ensures.tried;
-      apart = all_more (λ x. EachIn (AreApart AtomIn c.args.arena.now x) c.atoms-ys.result.now) _ _ _ (here _ _ _ c.loop-i-test.true c.index-xs-i.is) c.loop-i.invariant.apart
-          (c.in_ok-meets_some.ensures.apart c.if-branch.false);
+      places = tried.places;
+      sources = tried.sources;
+      atoms = right_put (AtomsTried c.args.arena.now) _ _ _ _ _ c.in_ok-tell_atoms.ensures c.in_ok-may.ensures.apart tried.atoms;
     }
-
-pub returns-clause-apart : goal.returns-clause-apart
-returns-clause-apart c = λ e.
-    atoms_unshared c.args.arena.now c.args.s c.args.t _ _ c.atoms-xs.ensures c.atoms-ys.ensures
-    (all_end (λ x. EachIn (AreApart AtomIn c.args.arena.now x) c.atoms-ys.result.now) _ _ c.loop-i-test.false c.loop-i.invariant.apart)

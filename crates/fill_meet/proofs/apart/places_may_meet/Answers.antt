@@ -20,6 +20,7 @@ returns-clause-tried c =
     record {
       places = right_put (PlacesTried c.args.arena.now) _ _ _ _ _ c.in_ok-tell_places.ensures (λ e. places_unshared c.args.arena.now c.args.s c.args.t _ _ c.places.ensures c.places-2.ensures (λ s. false≢true (sym e ∙ c.share_place-may.ensures.1 s))) c.requires.tried.places;
       sources = c.requires.tried.sources;
+      atoms = c.requires.tried.atoms;
     }
 
 pub returns-clause-apart : goal.returns-clause-apart

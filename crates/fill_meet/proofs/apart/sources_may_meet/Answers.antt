@@ -13,6 +13,7 @@ returns-clause-tried c =
     record {
       places = c.requires.tried.places;
       sources = right_put (SourcesTried c.args.arena.now) _ _ _ _ _ c.in_ok-tell_sources.ensures (λ e. sources_unlike c.args.arena.now c.args.s c.args.t _ _ c.sources.ensures c.sources-2.ensures (λ s. false≢true (sym e ∙ c.share_source-may.ensures.1 s))) c.requires.tried.sources;
+      atoms = c.requires.tried.atoms;
     }
 
 pub returns-clause-apart : goal.returns-clause-apart

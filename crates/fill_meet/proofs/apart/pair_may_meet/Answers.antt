@@ -1,0 +1,40 @@
+use Rattle.std.proofs.Common.{◌≡◌, false, sym, ◌∙◌}
+use Rattle.std.proofs.lemmas.Bool.{false≢true}
+use Rattle.fill_meet.specs.Meet.{AreApart}
+use Rattle.fill_meet.specs.Sets.{AtomIn}
+use Rattle.fill_meet.specs.Tried.{SourcesTried}
+use Rattle.fill_meet.proofs.AtomPairs as atoms
+use Rattle.fill_meet.proofs.Trials.{ok_map}
+use Rattle.fill_meet.proofs.apart.pair_may_meet.Goals as goal
+
+pub returns-then-not-branch-clause-apart : goal.returns-then-not-branch-clause-apart
+returns-then-not-branch-clause-apart c = λ e.
+    rw (c.in-Sub-Sub.is-0, c.in-Sub-Sub.is-1) (atoms.sub_apart_right _ _ _ _ _ _ _ (c.in_ok-places_may_meet-in-Sub-Sub.ensures.apart c.if-not-branch.true))
+
+pub returns-then-not-branch-2-clause-apart : goal.returns-then-not-branch-2-clause-apart
+returns-then-not-branch-2-clause-apart c = λ e.
+    rw (c.in-Sub-Sub.is-0, c.in-Sub-Sub.is-1) (atoms.sub_apart_left _ _ _ _ _ _ _ (c.in_ok-places_may_meet-in-Sub-Sub-2.ensures.apart c.if-not-branch-2.true))
+
+pub returns-in-Const-Const-clause-apart : goal.returns-in-Const-Const-clause-apart
+returns-in-Const-Const-clause-apart c = λ e.
+    rw (c.in-Const-Const.is-0, c.in-Const-Const.is-1) (atoms.const_apart _ _ _ (λ same. false≢true (sym e ∙ c.same.ensures.1 same)))
+
+pub returns-in-Whole-Whole-clause-apart : goal.returns-in-Whole-Whole-clause-apart
+returns-in-Whole-Whole-clause-apart c =
+    ok_map c.sources_may_meet.result (SourcesTried c.args.arena.now c.in-Whole-Whole.s c.in-Whole-Whole.t) (λ may. may ≡ false → AreApart AtomIn c.args.arena.now c.args.x.now c.args.y.now)
+    (λ may apart e. rw (c.in-Whole-Whole.is-0, c.in-Whole-Whole.is-1) (atoms.whole_apart _ _ _ (apart e))) c.sources_may_meet.ensures.apart
+
+pub returns-else-not-branch-2-clause-apart : goal.returns-else-not-branch-2-clause-apart
+returns-else-not-branch-2-clause-apart c =
+    ok_map c.sources_may_meet-in-Sub-Sub.result (SourcesTried c.args.arena.now c.in-Sub-Sub.s c.in-Sub-Sub.t) (λ may. may ≡ false → AreApart AtomIn c.args.arena.now c.args.x.now c.args.y.now)
+    (λ may apart e. rw (c.in-Sub-Sub.is-0, c.in-Sub-Sub.is-1) (atoms.sub_apart_source _ _ _ _ _ _ _ (apart e))) c.sources_may_meet-in-Sub-Sub.ensures.apart
+
+pub returns-in_default : goal.returns-in_default
+returns-in_default c = record { tried = c.requires.tried; apart = λ e. atoms.not_const _ _ _ c.in_default.field-0-0 c.in_default.is-0 c.in_default.not-Const-1 }
+
+pub returns-in_default-2 : goal.returns-in_default-2
+returns-in_default-2 c = record { tried = c.requires.tried; apart = λ e. atoms.not_whole _ _ _ c.in_default.field-0-0 c.in_default.is-0 c.in_default.not-Whole-1 }
+
+pub returns-in_default-3 : goal.returns-in_default-3
+returns-in_default-3 c =
+    record { tried = c.requires.tried; apart = λ e. atoms.not_sub _ _ _ c.in_default.field-0-0 c.in_default.field-1-0 c.in_default.field-2-0 c.in_default.is-0 c.in_default.not-Sub-1 }
