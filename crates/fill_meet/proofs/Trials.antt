@@ -1,7 +1,8 @@
 -- Sets that are apart, by what they list.
-use Rattle.std.proofs.Common.{◌≡◌, ℕ, List, Some, Result, Ok, Err, slice_get, sym, ◌∙◌}
+use Rattle.std.proofs.Common.{◌≡◌, ◌⊎◌, inl, inr, ℕ, zero, suc, List, [], ◌∷◌, ◌++◌, take, drop, set, subst, Some, Result, Ok, Err, slice_get, sym, ◌∙◌}
 use Rattle.std.specs.Prelude.{IfOk}
 use Rattle.fill_text.specs.declared.error.NoMemory.{NoMemory}
+use Rattle.std.proofs.lemmas.Bool.{cases_eq}
 use Rattle.fill_tokens.specs.declared.place.Place.{Place}
 use Rattle.fill_tree.specs.Tree.{SourceTree, col, select}
 use Rattle.fill_arena.specs.Contents.{In, SomeIn, EachIn}
@@ -11,6 +12,8 @@ use Rattle.fill_arena.specs.declared.entry.Entry.TheVariants.{Places, Sources, A
 use Rattle.fill_arena.specs.declared.entry.AtomItem.{AtomItem}
 use Rattle.fill_arena.specs.declared.entry.SourceItem.{SourceItem}
 use Rattle.fill_arena.specs.declared.entry.SourceItem.TheVariants.{Col, Select}
+use Rattle.fill_arena.proofs.Lists.{get_of_taken}
+use Rattle.fill_trim.proofs.Ranks.{set_other}
 use Rattle.fill_meet.specs.Meet.{AreApart}
 use Rattle.fill_meet.specs.Sets.{AtomIn, SourceIn}
 use Rattle.fill_meet.specs.Tried.{AreAlike}
@@ -41,3 +44,35 @@ module _ (c : List Entry) (s t : ℕ) where
 pub ok_map : {A : Type 0} (r : Result A NoMemory) (P Q : A → Type 0) → ((x : A) → P x → Q x) → IfOk r P → IfOk r Q
 ok_map (Ok x) P Q f h = f x h
 ok_map (Err e) P Q f h = h
+
+set_there : {A : Type 0} (xs : List A) (at : ℕ) (x y : A) → slice_get (set xs at x) at ≡ Some y → x ≡ y
+set_there [] at x y h = absurd cc
+set_there (z ∷ xs) zero x y h = cc
+set_there (z ∷ xs) (suc at) x y h = set_there xs at x y h
+
+-- what is told with one answer more
+pub kept_told : {A : Type 0} (P : A → Type 0) (xs ys : List A) (at : ℕ) (x : A) → (ys ≡ xs) ⊎ (ys ≡ set xs at x) → P x → EachIn P xs → EachIn P ys
+kept_told P xs ys at x h p all = elim h [
+  | inl e ↦ subst (EachIn P) (sym e) all
+  | inr e ↦ subst (EachIn P) (sym e) (λ k y there. elim (cases_eq k at) [
+    | inl same ↦ (let q = subst (λ n. slice_get (set xs at x) n ≡ Some y) same there in subst P (set_there xs at x y q) p)
+    | inr other ↦ all k y (sym (set_other xs at k x other) ∙ there)
+  ])
+]
+
+in_append : {A : Type 0} (xs ys : List A) (k : ℕ) (x : A) → slice_get (xs ++ ys) k ≡ Some x → In x xs ⊎ In x ys
+in_append [] ys k x h = inr (k, h)
+in_append (z ∷ xs) ys zero x h = inl (0, h)
+in_append (z ∷ xs) ys (suc k) x h = elim (in_append xs ys k x h) [ inl a ↦ inl (suc a.0, a.1) | inr b ↦ inr b ]
+
+in_drop : {A : Type 0} (m : ℕ) (ys : List A) (k : ℕ) (x : A) → slice_get (drop m ys) k ≡ Some x → In x ys
+in_drop zero ys k x h = (k, h)
+in_drop (suc m) [] k x h = absurd cc
+in_drop (suc m) (y ∷ ys) k x h = let r = in_drop m ys k x h in (suc r.0, r.1)
+
+-- what a list has that was lent and came back
+pub each_lent : {A : Type 0} (P : A → Type 0) (n m : ℕ) (new old : List A) → EachIn P new → EachIn P old → EachIn P (take n (new ++ drop m old))
+each_lent P n m new old a b k x h = elim (in_append new (drop m old) k x (get_of_taken n (new ++ drop m old) k x h).1) [
+  | inl q ↦ a q.0 x q.1
+  | inr q ↦ (let r = in_drop m old q.0 x q.1 in b r.0 x r.1)
+]

@@ -1,5 +1,6 @@
 -- What is told of pairs of sets without a new set.
-use Rattle.std.specs.Prelude.{◌≡◌, ℕ, List, Bool, false}
+use Rattle.std.specs.Prelude.{◌≡◌, ℕ, List, Bool, false, Option, IfSome}
+use Rattle.fill_arena.specs.Contents.{EachIn}
 use Rattle.fill_arena.specs.Stands.{PlaceStands, SourceStands, AtomStands}
 use Rattle.fill_arena.specs.declared.entry.Entry.{Entry}
 use Rattle.fill_arena.specs.declared.entry.SourceItem.{SourceItem}
@@ -7,6 +8,7 @@ use Rattle.fill_arena.specs.declared.entry.SourceItem.TheVariants.{Col, Select}
 use Rattle.fill_meet.specs.Meet.{AreApart}
 use Rattle.fill_meet.specs.Memory.{AreRight}
 use Rattle.fill_meet.specs.Sets.{HaveSameNumbers}
+use Rattle.fill_meet.specs.declared.tried.Told.{Told}
 use Rattle.fill_meet.specs.declared.tried.Tried.{Tried}
 
 -- where it is told that nothing is in both, nothing is
@@ -19,8 +21,13 @@ SourcesTried c s t may = may ≡ false → AreApart SourceStands c s t
 abbrev pub AtomsTried : List Entry → ℕ → ℕ → Bool → Type 0
 AtomsTried c s t may = may ≡ false → AreApart AtomStands c s t
 
+-- what was last told is so
+abbrev pub IsTold : List Entry → Option Told → Type 0
+IsTold c r = IfSome r (λ told. PlacesTried c told.s told.t told.may)
+
 -- what the tables tell is so in the arena
 pub record AreTried (c : List Entry) (tried : Tried) : Type 0 where
+  pub recent : EachIn (IsTold c) tried.recent.items
   pub places : AreRight (PlacesTried c) tried.places
   pub sources : AreRight (SourcesTried c) tried.sources
   pub atoms : AreRight (AtomsTried c) tried.atoms

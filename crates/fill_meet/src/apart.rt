@@ -5,11 +5,13 @@ ghost use Rattle.fill_arena.specs.Stands.{AtomStands, PlaceStands, SourceStands}
 ghost use Rattle.fill_arena.specs.WellMade.{ArePlaces, IsAtomItem};
 ghost use Rattle.fill_meet.specs.Meet.{AreApart};
 ghost use Rattle.fill_meet.specs.Sets.{AtomIn};
-ghost use Rattle.fill_meet.specs.Tried.{AreAlike, AreTried};
+ghost use Rattle.fill_meet.specs.Tried.{AreAlike, AreTried, PlacesTried};
 
 use crate::sets::have_same_numbers;
+use crate::ties::Tie;
 use crate::tried::{
-    Tried, tell_atoms, tell_places, tell_sources, told_atoms, told_places, told_sources,
+    Told, Tried, keep, recall, tell_atoms, tell_places, tell_sources, told_atoms, told_places,
+    told_sources,
 };
 use fill_arena::{Arena, AtomItem, AtomSet, PlaceSet, SourceItem, SourceSet};
 use fill_text::NoMemory;
@@ -22,28 +24,24 @@ const FEW_PAIRS: usize = 16;
 /// Whether some atom may stand in both sets: where it tells no, none does.
 ///
 /// A table keeps what was told of sets with many items: where a text repeats a pattern, they stand on many edges.
-pub(crate) fn may_meet(
-    arena: &Arena,
-    tried: &mut Tried,
-    s: AtomSet,
-    t: AtomSet,
-) -> Result<bool, NoMemory>
+pub(crate) fn may_meet(arena: &Arena, tried: &mut Tried, tie: &Tie) -> Result<bool, NoMemory>
     requires tried { AreTried arena.now tried.old }
-    requires first { IsAtomSet arena.now s }
-    requires second { IsAtomSet arena.now t }
+    requires first { IsAtomSet arena.now tie.now.left }
+    requires second { IsAtomSet arena.now tie.now.right }
     ensures tried { OnOk result (AreTried arena.now tried.new) }
-    ensures apart { IfOk result (λ may. may ≡ false → AreApart AtomStands arena.now s t) }
+    ensures apart { IfOk result (λ may. may ≡ false → AreApart AtomStands arena.now tie.now.left tie.now.right) }
 {
+    let (s, t) = (tie.left, tie.right);
     if s == t {
         return Ok(true);
     }
     if !are_many(arena, s, t) {
-        return items_may_meet(arena, tried, s, t);
+        return items_may_meet(arena, tried, tie);
     }
     if let Some(may) = told_atoms(&tried.atoms, s, t) {
         return Ok(may);
     }
-    let may = items_may_meet(arena, tried, s, t)?;
+    let may = items_may_meet(arena, tried, tie)?;
     tell_atoms(&mut tried.atoms, s, t, may)?;
     Ok(may)
 }
@@ -57,23 +55,18 @@ pub(crate) fn are_many(arena: &Arena, s: AtomSet, t: AtomSet) -> bool
 }
 
 /// Whether some item of the one set may have an atom in common with one of the other.
-fn items_may_meet(
-    arena: &Arena,
-    tried: &mut Tried,
-    s: AtomSet,
-    t: AtomSet,
-) -> Result<bool, NoMemory>
+fn items_may_meet(arena: &Arena, tried: &mut Tried, tie: &Tie) -> Result<bool, NoMemory>
     requires tried { AreTried arena.now tried.old }
-    requires first { IsAtomSet arena.now s }
-    requires second { IsAtomSet arena.now t }
+    requires first { IsAtomSet arena.now tie.now.left }
+    requires second { IsAtomSet arena.now tie.now.right }
     ensures tried { OnOk result (AreTried arena.now tried.new) }
-    ensures apart { IfOk result (λ may. may ≡ false → AreApart AtomStands arena.now s t) }
+    ensures apart { IfOk result (λ may. may ≡ false → AreApart AtomStands arena.now tie.now.left tie.now.right) }
 {
     arena.keeps_made();
-    let xs = arena.atoms(s);
-    let ys = arena.atoms(t);
+    let xs = arena.atoms(tie.left);
+    let ys = arena.atoms(tie.right);
     for i in 0..xs.len() {
-        if meets_some(arena, tried, &xs[i], ys)? {
+        if meets_some(arena, tried, tie, &xs[i], ys)? {
             return Ok(true);
         }
     }
@@ -84,6 +77,7 @@ fn items_may_meet(
 fn meets_some(
     arena: &Arena,
     tried: &mut Tried,
+    tie: &Tie,
     x: &AtomItem,
     ys: &[AtomItem],
 ) -> Result<bool, NoMemory>
@@ -94,7 +88,7 @@ fn meets_some(
     ensures apart { IfOk result (λ may. may ≡ false → EachIn (AreApart AtomIn arena.now x.now) ys.now) }
 {
     for j in 0..ys.len() {
-        if pair_may_meet(arena, tried, x, &ys[j])? {
+        if pair_may_meet(arena, tried, tie, x, &ys[j])? {
             return Ok(true);
         }
     }
@@ -107,6 +101,7 @@ fn meets_some(
 fn pair_may_meet(
     arena: &Arena,
     tried: &mut Tried,
+    tie: &Tie,
     x: &AtomItem,
     y: &AtomItem,
 ) -> Result<bool, NoMemory>
@@ -120,10 +115,10 @@ fn pair_may_meet(
         (AtomItem::Const(u), AtomItem::Const(v)) => Ok(u.same(v)),
         (AtomItem::Whole(s), AtomItem::Whole(t)) => sources_may_meet(arena, tried, *s, *t),
         (AtomItem::Sub(s, p, q), AtomItem::Sub(t, u, v)) => {
-            if !places_may_meet(arena, tried, *q, *v)? {
+            if !places_may_meet(arena, tried, tie.to, *q, *v)? {
                 return Ok(false);
             }
-            if !places_may_meet(arena, tried, *p, *u)? {
+            if !places_may_meet(arena, tried, tie.from, *p, *u)? {
                 return Ok(false);
             }
             sources_may_meet(arena, tried, *s, *t)
@@ -132,8 +127,33 @@ fn pair_may_meet(
     }
 }
 
-/// Whether some place stands in both sets.
+/// Whether some place stands in both sets, which are asked for at a pair of nodes.
 fn places_may_meet(
+    arena: &Arena,
+    tried: &mut Tried,
+    at: usize,
+    s: PlaceSet,
+    t: PlaceSet,
+) -> Result<bool, NoMemory>
+    requires tried { AreTried arena.now tried.old }
+    requires first { IsPlaceSet arena.now s }
+    requires second { IsPlaceSet arena.now t }
+    ensures tried { OnOk result (AreTried arena.now tried.new) }
+    ensures apart { IfOk result (λ may. PlacesTried arena.now s t may) }
+{
+    if s == t {
+        return Ok(true);
+    }
+    if let Some(may) = recall(tried.recent.as_slice(), at, s, t) {
+        return Ok(may);
+    }
+    let may = places_looked_up(arena, tried, s, t)?;
+    keep(tried.recent.as_mut_slice(), at, Told { s, t, may });
+    Ok(may)
+}
+
+/// The same, by the table of all pairs.
+fn places_looked_up(
     arena: &Arena,
     tried: &mut Tried,
     s: PlaceSet,
@@ -143,11 +163,8 @@ fn places_may_meet(
     requires first { IsPlaceSet arena.now s }
     requires second { IsPlaceSet arena.now t }
     ensures tried { OnOk result (AreTried arena.now tried.new) }
-    ensures apart { IfOk result (λ may. may ≡ false → AreApart PlaceStands arena.now s t) }
+    ensures apart { IfOk result (λ may. PlacesTried arena.now s t may) }
 {
-    if s == t {
-        return Ok(true);
-    }
     if let Some(may) = told_places(&tried.places, s, t) {
         return Ok(may);
     }

@@ -56,11 +56,12 @@ pub(crate) fn find_ties(
     let seconds = Outs::new(alloc, width, ys)?;
     let mut reached = vec![in alloc; false; nodes]?;
     reached[0] = true;
+    let tried = Tried::new(alloc, nodes)?;
     let mut net = Net {
         width,
         reached,
         ties: List::new(alloc),
-        tried: Tried::new(alloc),
+        tried,
     };
     for at in 0..nodes {
         if !net.reached[at] {
@@ -131,16 +132,17 @@ fn tie_edges(arena: &Arena, x: Edge, y: Edge, net: &mut Net) -> Result<(), NoMem
     ensures width { OnOk result (net.new.width ≡ net.old.width) }
     ensures tied { OnOk result (IsTried arena.now x y net.old net.new) }
 {
-    if !may_meet(arena, &mut net.tried, x.atoms, y.atoms)? {
-        return Ok(());
-    }
     let to = x.to * net.width + y.to;
-    net.ties.push(Tie {
+    let tie = Tie {
         from: x.from * net.width + y.from,
         to,
         left: x.atoms,
         right: y.atoms,
-    })?;
+    };
+    if !may_meet(arena, &mut net.tried, &tie)? {
+        return Ok(());
+    }
+    net.ties.push(tie)?;
     net.reached[to] = true;
     Ok(())
 }

@@ -1,27 +1,25 @@
-use Rattle.std.proofs.Common.{sym, ◌∙◌}
-use Rattle.std.proofs.lemmas.Bool.{false≢true}
-use Rattle.fill_arena.specs.declared.entry.Entry.TheVariants.{Places}
-use Rattle.fill_meet.specs.Tried.{PlacesTried}
-use Rattle.fill_meet.proofs.Memories.{right_put}
-use Rattle.fill_meet.proofs.Trials.{places_unshared}
+use Rattle.std.proofs.Common.{◌≡◌, Some, slice_get, sym, subst}
+use Rattle.fill_arena.specs.Contents.{EachIn}
+use Rattle.fill_meet.specs.declared.tried.Told.{Told}
+use Rattle.fill_meet.specs.Tried.{IsTold}
+use Rattle.fill_meet.proofs.Trials.{kept_told, each_lent}
 use Rattle.fill_meet.proofs.apart.places_may_meet.Goals as goal
 
 pub returns-in-Some-clause-apart : goal.returns-in-Some-clause-apart
-returns-in-Some-clause-apart c = c.requires.tried.places.each (c.args.s, c.args.t) c.in-Some.may c.in-Some.ensures
-
-pub share_place-may-requires-clause-first : goal.share_place-may-requires-clause-first
-share_place-may-requires-clause-first c = c.keeps_made.ensures c.args.s (Places c.places.result.now) c.places.ensures
-
-pub share_place-may-requires-clause-second : goal.share_place-may-requires-clause-second
-share_place-may-requires-clause-second c = c.keeps_made.ensures c.args.t (Places c.places-2.result.now) c.places-2.ensures
+returns-in-Some-clause-apart c =
+    let told : Told = record { s = c.args.s; t = c.args.t; may = c.in-Some.may } in
+    let there = c.in-Some.ensures in
+    c.requires.tried.recent there.0 (Some told) (subst (λ l. slice_get l there.0 ≡ Some (Some told)) c.as_slice.ensures.value there.1)
 
 pub returns-clause-tried : goal.returns-clause-tried
 returns-clause-tried c =
+    let told : Told = record { s = c.args.s; t = c.args.t; may = c.in_ok-may.may } in
+    let tried = c.in_ok-may.ensures.tried in
+    let old = subst (EachIn (IsTold c.args.arena.now)) (sym c.as_mut_slice.ensures.value) tried.recent in
     record {
-      places = right_put (PlacesTried c.args.arena.now) _ _ _ _ _ c.in_ok-tell_places.ensures (λ e. places_unshared c.args.arena.now c.args.s c.args.t _ _ c.places.ensures c.places-2.ensures (λ s. false≢true (sym e ∙ c.share_place-may.ensures.1 s))) c.requires.tried.places;
-      sources = c.requires.tried.sources;
-      atoms = c.requires.tried.atoms;
+      recent = each_lent (IsTold c.args.arena.now) _ _ c.keep.new.recent _
+          (kept_told (IsTold c.args.arena.now) c.as_mut_slice.result.now c.keep.new.recent c.args.at (Some told) c.keep.ensures c.in_ok-may.ensures.apart old) tried.recent;
+      places = tried.places;
+      sources = tried.sources;
+      atoms = tried.atoms;
     }
-
-pub returns-clause-apart : goal.returns-clause-apart
-returns-clause-apart c = λ e. places_unshared c.args.arena.now c.args.s c.args.t _ _ c.places.ensures c.places-2.ensures (λ s. false≢true (sym e ∙ c.share_place-may.ensures.1 s))

@@ -19,8 +19,8 @@ loop-at-init c =
         able = able;
         firsts = c.in_ok-firsts.ensures.outs;
         seconds = c.in_ok-seconds.ensures.outs;
-        told = c.new-4.ensures c.args.arena.now;
-        tied = tied_start c.args.arena.now c.in_ok-firsts.firsts.edges.now c.in_ok-seconds.seconds.edges.now c.args.height c.args.width able marks c.new-3.result (wide ∙ c.requires.nodes) c.new-3.ensures
+        told = c.in_ok-tried.ensures c.args.arena.now;
+        tied = tied_start c.args.arena.now c.in_ok-firsts.firsts.edges.now c.in_ok-seconds.seconds.edges.now c.args.height c.args.width able marks c.new-4.result (wide ∙ c.requires.nodes) c.new-4.ensures
             (set_same c.in_ok-reached.reached.items 0 true (subst (λ n. 0 < n) (sym long) c.requires.some));
       };
       width = refl;
