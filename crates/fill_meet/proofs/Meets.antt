@@ -1,5 +1,5 @@
 -- The programs of the product's walks are those of both graphs.
-use Rattle.std.proofs.Common.{◌≡◌, ◌↔◌, ℕ, zero, suc, ◌+◌, ◌-◌, ◌*◌, ◌<◌, ◌≤◌, List, length, Option, Some, None, Result, Ok, Err, slice_get, refl, sym, subst, arith}
+use Rattle.std.proofs.Common.{◌≡◌, ◌↔◌, ℕ, zero, suc, ◌+◌, ◌-◌, ◌*◌, ◌<◌, ◌≤◌, List, length, Option, Some, None, Result, Ok, Err, slice_get, sym, subst, arith}
 use Rattle.std.specs.Prelude.{IfOk, MatchOption}
 use Rattle.fill_text.specs.declared.error.NoMemory.{NoMemory}
 use Rattle.std.proofs.Math.Nat.{suc-mul}

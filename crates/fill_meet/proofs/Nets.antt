@@ -1,18 +1,15 @@
 -- The state of the loops over pairs of nodes and of edges, step by step.
-use Rattle.std.proofs.Common.{◌≡◌, ℕ, ◌+◌, ◌*◌, ◌/◌, ◌%◌, ◌<◌, ◌≤◌, inl, inr, true, List, [], ◌++◌, ◌∷◌, length, get_or, set, Some, slice_get, sym, ap, ◌∙◌, subst, arith, length-set}
+use Rattle.std.proofs.Common.{◌≡◌, ℕ, ◌+◌, ◌*◌, ◌<◌, ◌≤◌, inl, inr, true, List, length, set, Some, slice_get, sym, ap, ◌∙◌, subst, arith, length-set}
 use Rattle.fill_arena.specs.declared.entry.Entry.{Entry}
 use Rattle.fill_arena.specs.declared.entry.Edge.{Edge}
-use Rattle.fill_arena.proofs.Lists.{get_there}
 use Rattle.fill_trim.specs.Marks.{IsMarked}
 use Rattle.fill_meet.specs.Outs.{IsFirstFrom, AreOuts}
 use Rattle.fill_meet.specs.Product.{ArePairable}
-use Rattle.fill_meet.specs.Ties.{IsTried, IsOut, AreTies, AreRising, NameSets, TiedSoFar, TieState}
+use Rattle.fill_meet.specs.Ties.{IsTried, AreTies, AreRising, NameSets, TiedSoFar, TieState}
 use Rattle.fill_meet.specs.Tried.{AreTried}
 use Rattle.fill_meet.specs.declared.outs.Outs.{Outs}
 use Rattle.fill_meet.specs.declared.ties.Net.{Net}
-use Rattle.fill_meet.proofs.Chains.{first_is, next_is}
 use Rattle.fill_meet.proofs.Knots.{pair_onward, row_end, node_end, node_skip, row_on, node_on, tied_skip, tied_push, tied_end, tied_sets}
-use Rattle.fill_meet.proofs.Products.{row_within}
 
 pub tried_long : (c : List Entry) (x y : Edge) (p q : Net) → IsTried c x y p q → length q.reached.items ≡ length p.reached.items
 tried_long c x y p q h = elim h [

@@ -12,10 +12,10 @@ use Rattle.fill_trim.specs.Marks.{IsMarked}
 use Rattle.fill_trim.specs.Trim.{AreEdges}
 use Rattle.fill_meet.specs.Meet.{AreMet}
 use Rattle.fill_meet.specs.Joins.{IsJoined, AreJoined, AreLive}
-use Rattle.fill_meet.specs.Product.{IsPair, IsPairOf, IsProduct, ArePairable}
+use Rattle.fill_meet.specs.Product.{IsPairOf, IsProduct}
 use Rattle.fill_meet.specs.Ties.{IsTied, IsTie, AreTies, AreRising}
 use Rattle.fill_meet.specs.declared.ties.Tie.{Tie}
-use Rattle.fill_meet.proofs.Products.{same_row, within_product, onward_product}
+use Rattle.fill_meet.proofs.Products.{same_row}
 
 pub corner : (h w : ℕ) → 0 < h → 0 < w → h * w - 1 ≡ (h - 1) * w + (w - 1)
 corner zero w a b = absurd (omega arith)

@@ -12,7 +12,7 @@ use std::alloc::Global;
 use std::collections::HashMap;
 
 /// How many places of recent answers are kept at most.
-const MOST_RECENT: usize = 65_536;
+const MOST_RECENT: usize = 262_144;
 
 /// What was told of a pair of sets of places.
 #[derive(Clone, Copy)]

@@ -1,4 +1,4 @@
-use Rattle.std.proofs.Common.{◌≡◌, ◌*◌, ◌<◌, sym, subst}
+use Rattle.std.proofs.Common.{◌<◌, sym, subst}
 use Rattle.fill_meet.specs.Joins.{AreJoined, AreLive}
 use Rattle.fill_meet.specs.Product.{IsProduct}
 use Rattle.fill_meet.specs.Ties.{AreTies}

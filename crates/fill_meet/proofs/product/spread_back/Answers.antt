@@ -1,6 +1,5 @@
-use Rattle.std.proofs.Common.{◌≡◌, ◌+◌, ◌-◌, ◌<◌, ◌≤◌, length, sym, subst, arith}
+use Rattle.std.proofs.Common.{◌≡◌, ◌+◌, ◌-◌, ◌<◌, length, sym, subst, arith}
 use Rattle.std.proofs.lemmas.Option.{slice_get_within}
-use Rattle.fill_trim.specs.Marks.{IsMarked}
 use Rattle.fill_meet.proofs.Lists.{here}
 use Rattle.fill_meet.proofs.Streams.{ClosedFrom, close_spread, kept_spread}
 use Rattle.fill_meet.proofs.product.spread_back.Goals as goal

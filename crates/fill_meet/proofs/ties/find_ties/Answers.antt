@@ -1,4 +1,4 @@
-use Rattle.std.proofs.Common.{rules, ◌≡◌, ◌*◌, ◌<◌, ◌≤◌, true, length, set, refl, sym, ◌∙◌, subst, arith, length-set}
+use Rattle.std.proofs.Common.{rules, ◌≡◌, ◌<◌, ◌≤◌, true, length, set, refl, sym, ◌∙◌, subst, length-set}
 use Rattle.std.proofs.lemmas.Option.{get_or_from_slice_get}
 use Rattle.fill_trim.proofs.Ranks.{set_same}
 use Rattle.fill_meet.specs.Product.{ArePairable}

@@ -1,4 +1,4 @@
-use Rattle.std.proofs.Common.{◌≡◌, ℕ, ◌+◌, ◌*◌, ◌/◌, ◌%◌, ◌<◌, ◌≤◌, length, refl, ap, sym, ◌∙◌, subst, arith}
+use Rattle.std.proofs.Common.{◌≡◌, ◌+◌, ◌*◌, ◌/◌, ◌%◌, ◌<◌, refl, ap, sym, ◌∙◌, subst, arith}
 use Rattle.fill_arena.proofs.Lists.{get_there}
 use Rattle.fill_meet.proofs.Chains.{first_is, next_is}
 use Rattle.fill_meet.proofs.Nets.{net_node_on, net_node_end}
