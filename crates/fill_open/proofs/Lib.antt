@@ -1,0 +1,4 @@
+pub mod Binds
+pub mod MadeLines
+pub mod Refusals
+pub mod Replays

@@ -1,0 +1,6 @@
+pub mod Made
+pub mod Opened
+pub mod Command
+pub mod Lines
+pub mod Stops
+pub mod Steps

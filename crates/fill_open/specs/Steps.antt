@@ -1,0 +1,99 @@
+-- The steps of a command: which files it reads, in what order they are checked, and what they open.
+use Rattle.std.specs.Prelude.{ℕ, nat_lt, Bool, if◌then◌else◌, List, [], ◌∷◌, length, codes, Option, Some, None, encode_utf8_all}
+use Rattle.fill_text.specs.Data.{SheetData, TableData}
+use Rattle.fill_sheet.specs.Sheet.{read_sheet}
+use Rattle.fill_tables.specs.Tables.{add_table_to, add_key_to}
+use Rattle.fill_script.specs.Script.{read_script}
+use Rattle.fill_script.specs.declared.script.Script.{Script}
+use Rattle.fill_script.specs.declared.script.TableLine.{TableLine}
+use Rattle.fill_script.specs.declared.script.TableLine.TheVariants.{Table, Key}
+use Rattle.fill_open.specs.Command.{CommandData, replay, made, command_in}
+use Rattle.fill_open.specs.Lines.{long_line, script_line, sheet_line, table_line, key_line}
+use Rattle.fill_open.specs.Made.{made_session, made_sheet}
+use Rattle.fill_open.specs.Opened.{Held, Opened, Opening, NotACommand, Unread, Refused, Passed, at_once, and_then, checked}
+use Rattle.fill_open.specs.declared.session.Ready.{Ready}
+
+-- a file has more bytes than one may have
+abbrev pub is_too_long : List ℕ → Bool
+is_too_long bytes = nat_lt 16777216 (length bytes)
+
+-- the bytes of a file that is there and not too long
+abbrev pub bytes_of : List ℕ → Option (List ℕ) → Opened (List ℕ)
+bytes_of name None = Unread name
+bytes_of name (Some bytes) = if is_too_long bytes then Refused (long_line name) else Passed bytes
+
+-- the file of this name is read
+abbrev pub file_opens : Held → List ℕ → Opening (List ℕ)
+file_opens held name = record { reads = name ∷ []; outcome = bytes_of name (held name) }
+
+-- the script of a session's bytes
+abbrev pub script_in : List ℕ → List ℕ → Opened Script
+script_in session bytes = checked (script_line session) (read_script bytes)
+
+-- the session file is read and checked
+abbrev pub script_opens : Held → List ℕ → Opening Script
+script_opens held session = and_then (file_opens held session) (λ bytes. at_once (script_in session bytes))
+
+-- the sheet of a script in the bytes of its file
+abbrev pub sheet_in : Script → List ℕ → Opened SheetData
+sheet_in script bytes = checked (sheet_line (encode_utf8_all script.sheet)) (read_sheet script.header script.inputs script.output bytes)
+
+-- the sheet's file is read and checked
+abbrev pub sheet_opens : Held → Script → Opening SheetData
+sheet_opens held script = and_then (file_opens held (encode_utf8_all script.sheet)) (λ bytes. at_once (sheet_in script bytes))
+
+-- the tables with the one of a file's bytes, which a line of the session names
+abbrev pub table_in : List ℕ → ℕ → List ℕ → List ℕ → List TableData → List ℕ → Opened (List TableData)
+table_in session number file name tables bytes = checked (table_line session number file) (add_table_to tables name bytes)
+
+-- the tables after a line: for a table its file is read, and then the table is added; for a key nothing is read
+abbrev pub line_opens : Held → List ℕ → List TableData → TableLine → Opening (List TableData)
+line_opens held session tables (Table number name file) =
+    and_then (file_opens held (encode_utf8_all file)) (λ bytes. at_once (table_in session number (encode_utf8_all file) name tables bytes))
+line_opens held session tables (Key number name columns) = at_once (checked (key_line session number) (add_key_to tables name columns))
+
+-- the tables after lines, one after the other
+abbrev pub tables_open : Held → List ℕ → List TableData → List TableLine → Opening (List TableData)
+tables_open held session tables [] = at_once (Passed tables)
+tables_open held session tables (line ∷ more) = and_then (line_opens held session tables line) (λ after. tables_open held session after more)
+
+-- a script and its sheet, and then its tables and keys
+abbrev pub from_sheet : Held → List ℕ → Script → SheetData → Opening Ready
+from_sheet held name script sheet =
+    and_then (tables_open held name [] script.tables) (λ tables. at_once (Passed (record { script = script; sheet = sheet; tables = tables })))
+
+-- a script, and then its sheet and the rest
+abbrev pub from_script : Held → List ℕ → Script → Opening Ready
+from_script held name script = and_then (sheet_opens held script) (from_sheet held name script)
+
+-- a session file, its sheet, and then its tables and keys
+abbrev pub replay_opens : Held → List ℕ → Opening Ready
+replay_opens held name = and_then (script_opens held name) (from_script held name)
+
+-- the name that a generated session file would have
+abbrev pub made_name : List ℕ
+made_name = codes "made"
+
+-- the generated session and its sheet, for which no file is read; it has no tables
+abbrev pub made_opens : ℕ → Opening Ready
+made_opens n =
+    and_then (at_once (script_in made_name made_session)) (λ script.
+    and_then (at_once (sheet_in script (made_sheet n))) (λ sheet.
+    at_once (Passed (record { script = script; sheet = sheet; tables = [] }))))
+
+-- the steps of a command, in their order
+abbrev pub command_opens : CommandData → Held → Opening Ready
+command_opens (replay name) held = replay_opens held name
+command_opens (made n) held = made_opens n
+
+-- the steps of what words ask for
+abbrev pub asked_opens : Option CommandData → Held → Opening Ready
+asked_opens None held = at_once NotACommand
+asked_opens (Some command) held = command_opens command held
+
+abbrev pub opening : List (List ℕ) → Held → Opening Ready
+opening words held = asked_opens (command_in words) held
+
+-- how far the steps of these words come
+abbrev pub opened : List (List ℕ) → Held → Opened Ready
+opened words held = (opening words held).outcome

@@ -1,0 +1,45 @@
+-- Why steps stop before all of them passed.
+use Rattle.std.specs.Prelude.{◌≡◌, ◌⊎◌, ℕ, List, Some, None, Contains, string_bytes, ⊤}
+use Rattle.fill_edge.specs.Outside.{Files, Rose}
+use Rattle.fill_open.specs.Lines.{unread_line, memory_line}
+use Rattle.fill_open.specs.Opened.{Held, Told, Opened, Opening, Unread, Refused}
+use Rattle.fill_open.specs.declared.stop.Stop.{Stop}
+use Rattle.fill_open.specs.declared.stop.Stop.TheVariants as stop
+
+-- the counts of failed reads, by name
+abbrev pub Counts : Type 0
+Counts = List ℕ → ℕ
+
+-- a read of the name failed in this call: its count rose, and where files are told, the steps come to the name
+abbrev pub ReadFails : {A : Type 0} → (Held → Opening A) → Files → Counts → Counts → List ℕ → Type 0
+ReadFails steps None before now name = Rose (before name) (now name)
+ReadFails steps (Some held) before now name = Contains (steps held).reads name × Rose (before name) (now name)
+
+-- the file of the name is the next to read, and is not there
+abbrev pub IsUnread : {A : Type 0} → (Held → Opening A) → Files → List ℕ → Type 0
+IsUnread steps None name = ⊥
+IsUnread steps (Some held) name = (steps held).outcome ≡ Unread name
+
+-- what may stop steps that read files; want of memory is free
+abbrev pub Stops : {A : Type 0} → (Held → Opening A) → Files → Counts → Counts → Stop → Type 0
+Stops steps files before now (stop.Unread name) = IsUnread steps files (string_bytes name) ⊎ ReadFails steps files before now (string_bytes name)
+Stops steps files before now (stop.Refused line) = Told files (λ held. (steps held).outcome ≡ Refused (string_bytes line))
+Stops steps files before now stop.NoMemory = ⊤
+
+-- what may stop a check of bytes that were read; want of memory is free
+abbrev pub Refuses : {A : Type 0} → Opened A → Stop → Type 0
+Refuses o (stop.Unread name) = ⊥
+Refuses o (stop.Refused line) = o ≡ Refused (string_bytes line)
+Refuses o stop.NoMemory = ⊤
+
+-- no file is missing or can't be read
+abbrev pub ReadsAll : Stop → Type 0
+ReadsAll (stop.Unread name) = ⊥
+ReadsAll (stop.Refused line) = ⊤
+ReadsAll stop.NoMemory = ⊤
+
+-- the line of a stop
+abbrev pub stop_line : Stop → List ℕ
+stop_line (stop.Unread name) = unread_line (string_bytes name)
+stop_line (stop.Refused line) = string_bytes line
+stop_line stop.NoMemory = memory_line

@@ -1,0 +1,20 @@
+//! Opening: from the words of a command and its files to a session that is ready.
+#![tactic(auto)]
+
+mod command;
+mod file;
+mod generator;
+mod lines;
+mod script;
+mod session;
+mod sheet;
+mod stop;
+mod tables;
+
+pub use command::{Command, command_of};
+pub use generator::{MadeFiles, made};
+pub use session::{Ready, open_session};
+pub use stop::Stop;
+
+#[cfg(test)]
+mod tests;

@@ -1,0 +1,104 @@
+//! The session of a command.
+ghost use Rattle.std.specs.Prelude.{◌≡◌, ◌≤◌, ℕ, IfOk, IfErr};
+ghost use Rattle.fill_edge.specs.Outside.{NoneFell};
+ghost use Rattle.fill_script.specs.Script.{IsScript};
+ghost use Rattle.fill_open.specs.Command.{IsCommand, command_data, made};
+ghost use Rattle.fill_open.specs.Opened.{Told, Passed};
+ghost use Rattle.fill_open.specs.Steps.{command_opens, made_opens, replay_opens};
+ghost use Rattle.fill_open.specs.Stops.{ReadsAll, Refuses, Stops};
+
+use crate::script::{open_script, script_in};
+use crate::sheet::{open_sheet, sheet_in};
+use crate::tables::open_tables;
+use crate::{Command, Stop, made};
+use fill_edge::Cabinet;
+use fill_script::Script;
+use fill_sheet::Sheet;
+use fill_tables::Tables;
+use fill_text::NoMemory;
+use std::alloc::Global;
+
+/// All that a session begins with.
+#[derive(Debug, Drop)]
+pub struct Ready {
+    pub script: Script,
+    pub sheet: Sheet,
+    pub tables: Tables,
+}
+
+/// Opens the session of a command.
+///
+/// The files are read and checked in this order: the session, the sheet, and then for each `table` line its file. The
+/// first thing that fails decides. For a generated session nothing is read.
+pub fn open_session<C: Cabinet>(
+    alloc: Global,
+    cabinet: &mut C,
+    command: &Command<'_>,
+) -> Result<Ready, Stop>
+    requires { IsCommand (command_data command.now) }
+    ensures ready { IfOk result (λ ready. Told (C.files cabinet.old) (λ held. (command_opens (command_data command.now) held).outcome ≡ Passed ready)) }
+    ensures proper { IfOk result (λ ready. IsScript ready.script) }
+    ensures stopped { IfErr result (Stops (command_opens (command_data command.now)) (C.files cabinet.old) (C.faults cabinet.old) (C.faults cabinet.new)) }
+    ensures files { C.files cabinet.new ≡ C.files cabinet.old }
+    ensures later { NoneFell (C.faults cabinet.old) (C.faults cabinet.new) }
+    ensures made { (n : ℕ) → command_data command.now ≡ made n → (cabinet.new ≡ cabinet.old) × IfErr result ReadsAll }
+{
+    match command {
+        Command::Replay { session } => open_replay(alloc, cabinet, session),
+        Command::Made { n } => open_made(alloc, *n),
+    }
+}
+
+/// The session in the file of a name.
+fn open_replay<C: Cabinet>(alloc: Global, cabinet: &mut C, session: &str) -> Result<Ready, Stop>
+    ensures ready { IfOk result (λ ready. Told (C.files cabinet.old) (λ held. (replay_opens held session.now).outcome ≡ Passed ready)) }
+    ensures proper { IfOk result (λ ready. IsScript ready.script) }
+    ensures stopped { IfErr result (Stops (λ held. replay_opens held session.now) (C.files cabinet.old) (C.faults cabinet.old) (C.faults cabinet.new)) }
+    ensures files { C.files cabinet.new ≡ C.files cabinet.old }
+    ensures later { NoneFell (C.faults cabinet.old) (C.faults cabinet.new) }
+{
+    let script = match open_script(alloc, cabinet, session) {
+        Ok(script) => script,
+        Err(stop) => return Err(stop),
+    };
+    let sheet = match open_sheet(alloc, cabinet, &script) {
+        Ok(sheet) => sheet,
+        Err(stop) => return Err(stop),
+    };
+    let tables = match open_tables(alloc, cabinet, session, script.tables.as_slice()) {
+        Ok(tables) => tables,
+        Err(stop) => return Err(stop),
+    };
+    Ok(Ready {
+        script,
+        sheet,
+        tables,
+    })
+}
+
+/// The generated session over so many lines.
+fn open_made(alloc: Global, n: u32) -> Result<Ready, Stop>
+    requires first { 1 ≤ n }
+    requires last { n ≤ 2000 }
+    ensures ready { IfOk result (λ ready. (made_opens n).outcome ≡ Passed ready) }
+    ensures proper { IfOk result (λ ready. IsScript ready.script) }
+    ensures stopped { IfErr result (Refuses (made_opens n).outcome) }
+{
+    let files = match made(alloc, n) {
+        Ok(files) => files,
+        Err(NoMemory) => return Err(Stop::NoMemory),
+    };
+    let script = match script_in(alloc, "made", files.session.as_slice()) {
+        Ok(script) => script,
+        Err(stop) => return Err(stop),
+    };
+    let sheet = match sheet_in(alloc, &script, files.sheet.as_slice()) {
+        Ok(sheet) => sheet,
+        Err(stop) => return Err(stop),
+    };
+    Ok(Ready {
+        script,
+        sheet,
+        tables: Tables::new(alloc),
+    })
+}
