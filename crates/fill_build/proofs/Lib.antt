@@ -1,0 +1,9 @@
+pub mod Allowed
+pub mod PieceEdges
+pub mod Finds
+pub mod Graphs
+pub mod Items
+pub mod Lists
+pub mod Readers
+pub mod Together
+pub mod Walks

@@ -1,0 +1,4 @@
+pub mod Build
+pub mod Edges
+pub mod Hits
+pub mod Pieces

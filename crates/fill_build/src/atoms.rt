@@ -1,0 +1,135 @@
+//! The atoms that give a piece of the example's text.
+ghost use Rattle.std.specs.Prelude.{◌≡◌, ℕ, ◌+◌, ◌<◌, ◌≤◌, List, length, Some, slice_get, IfOk, OnOk};
+ghost use Rattle.fill_arena.specs.Contents.{EachIn, Extends};
+ghost use Rattle.fill_arena.specs.WellMade.{IsAtomItem};
+ghost use Rattle.fill_sources.specs.Gives.{IsOnRow};
+ghost use Rattle.fill_sources.specs.Sets.{AreKnown, texts_of};
+ghost use Rattle.fill_build.specs.Pieces.{AddsAtoms, AreConstants, AreItemsOf, IsReadable, ReadsBetween, ReadsHit, ReadsWhole, IsPiece, IsWithin, piece_rest, piece_text};
+ghost use Rattle.fill_build.specs.Hits.{AreHits};
+
+use crate::hits::Hit;
+use crate::piece::Piece;
+use fill_arena::{Arena, AtomItem};
+use fill_sources::{Known, OnRow};
+use fill_text::{List, NoMemory};
+use std::alloc::Global;
+
+/// The items of exactly the atoms that give the piece on the row.
+pub(crate) fn piece_atoms<'a>(
+    alloc: Global,
+    on: &OnRow<'a>,
+    known: &mut Known<'a>,
+    arena: &mut Arena,
+    piece: &Piece<'_>,
+    hits: &[Hit],
+) -> Result<List<AtomItem>, NoMemory>
+    requires on { IsOnRow on.now }
+    requires known { AreKnown on.now arena.old known.old }
+    requires piece { IsPiece on.now.settings.constants piece.now }
+    requires hits { AreHits (texts_of known.old) (piece_rest piece.now) piece.now.width hits.now }
+    ensures items { IfOk result (AreItemsOf on.now arena.new (piece_text piece.now)) }
+    ensures known { OnOk result (AreKnown on.now arena.new known.new) }
+    ensures texts { texts_of known.new ≡ texts_of known.old }
+    ensures kept { Extends arena.old arena.new }
+{
+    let mut items = piece_constants(alloc, piece)?;
+    for i in 0..hits.len() {
+        put_readers(alloc, on, known, arena, hits[i], piece.width, &mut items)?;
+    }
+    Ok(items)
+}
+
+/// The constant, where the piece may be one.
+fn piece_constants(alloc: Global, piece: &Piece<'_>) -> Result<List<AtomItem>, NoMemory>
+    requires { IsWithin piece.now }
+    ensures { IfOk result (AreConstants piece.now) }
+{
+    piece.text.keeps_scalars();
+    let mut items = List::new(alloc);
+    if piece.constant {
+        items.push(AtomItem::Const(piece.text.piece(piece.from, piece.from + piece.width)?))?;
+    }
+    Ok(items)
+}
+
+/// Puts what reads the characters of the known text where it was hit.
+fn put_readers<'a>(
+    alloc: Global,
+    on: &OnRow<'a>,
+    known: &mut Known<'a>,
+    arena: &mut Arena,
+    hit: Hit,
+    width: usize,
+    items: &mut List<AtomItem>,
+) -> Result<(), NoMemory>
+    requires on { IsOnRow on.now }
+    requires known { AreKnown on.now arena.old known.old }
+    requires within { IsReadable (texts_of known.old) hit width }
+    ensures adds { OnOk result (AddsAtoms arena.old arena.new items.old items.new (ReadsHit on.now (texts_of known.old) hit width)) }
+    ensures known { OnOk result (AreKnown on.now arena.new known.new) }
+    ensures texts { texts_of known.new ≡ texts_of known.old }
+    ensures kept { Extends arena.old arena.new }
+{
+    put_whole(alloc, on, known, arena, hit, width, items)?;
+    put_between(alloc, on, known, arena, hit, width, items)
+}
+
+/// Puts the sources' whole texts, where the characters are a whole text.
+fn put_whole<'a>(
+    alloc: Global,
+    on: &OnRow<'a>,
+    known: &mut Known<'a>,
+    arena: &mut Arena,
+    hit: Hit,
+    width: usize,
+    items: &mut List<AtomItem>,
+) -> Result<(), NoMemory>
+    requires on { IsOnRow on.now }
+    requires known { AreKnown on.now arena.old known.old }
+    requires within { IsReadable (texts_of known.old) hit width }
+    ensures adds { OnOk result (AddsAtoms arena.old arena.new items.old items.new (ReadsWhole on.now (texts_of known.old) hit width)) }
+    ensures known { OnOk result (AreKnown on.now arena.new known.new) }
+    ensures texts { texts_of known.new ≡ texts_of known.old }
+    ensures kept { Extends arena.old arena.new }
+{
+    if known.text(hit.text).len() != width {
+        return Ok(());
+    }
+    let sources = known.sources(alloc, on, arena, hit.text)?;
+    arena.keeps_made();
+    items.push(AtomItem::Whole(sources))
+}
+
+/// Puts the pieces of the sources' texts between the places at the two ends, where both ends have some.
+fn put_between<'a>(
+    alloc: Global,
+    on: &OnRow<'a>,
+    known: &mut Known<'a>,
+    arena: &mut Arena,
+    hit: Hit,
+    width: usize,
+    items: &mut List<AtomItem>,
+) -> Result<(), NoMemory>
+    requires on { IsOnRow on.now }
+    requires known { AreKnown on.now arena.old known.old }
+    requires within { IsReadable (texts_of known.old) hit width }
+    ensures adds { OnOk result (AddsAtoms arena.old arena.new items.old items.new (ReadsBetween on.now (texts_of known.old) hit width)) }
+    ensures known { OnOk result (AreKnown on.now arena.new known.new) }
+    ensures texts { texts_of known.new ≡ texts_of known.old }
+    ensures kept { Extends arena.old arena.new }
+{
+    // The end fits a number, since a text's length does.
+    let _long = known.text(hit.text).len();
+    let end = hit.at + width;
+    let Some(left) = known.places(alloc, on, arena, hit.text, hit.at)? else {
+        return Ok(());
+    };
+    arena.keeps_made();
+    let Some(right) = known.places(alloc, on, arena, hit.text, end)? else {
+        return Ok(());
+    };
+    arena.keeps_made();
+    let sources = known.sources(alloc, on, arena, hit.text)?;
+    arena.keeps_made();
+    items.push(AtomItem::Sub(sources, left, right))
+}

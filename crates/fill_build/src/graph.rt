@@ -1,0 +1,59 @@
+//! The graph of an example.
+ghost use Rattle.std.specs.Prelude.{◌≡◌, ◌≤◌, ◌+◌, length, IfOk, OnErr, IfNone, MatchOption};
+ghost use Rattle.fill_tree.specs.Grammar.{AreSettings};
+ghost use Rattle.fill_arena.specs.Contents.{Extends};
+ghost use Rattle.fill_build.specs.Build.{IsGraphOfExample, NoneExplains};
+
+use crate::uncut::build_uncut;
+use fill_arena::{Arena, GraphId};
+use fill_edge::{Ledger, Steps};
+use fill_sheet::Sheet;
+use fill_sources::OnRow;
+use fill_tables::Tables;
+use fill_text::{NoMemory, Text};
+use fill_tree::Settings;
+use std::alloc::Global;
+
+/// The graph of the programs that explain the example of the row with this text, or none where there are none.
+///
+/// Where it makes no graph, it leaves the arena as it was. It takes one step, whatever it answers.
+pub fn build<L: Ledger>(
+    alloc: Global,
+    arena: &mut Arena,
+    row: u32,
+    text: &Text,
+    sheet: &Sheet,
+    tables: &Tables,
+    settings: &Settings,
+    steps: &mut Steps<L>,
+) -> Result<Option<GraphId>, NoMemory>
+    requires first { 1 ≤ row }
+    requires last { row ≤ length sheet.now.rows }
+    requires short { length text.now ≤ 100 }
+    requires settings { AreSettings settings.now }
+    ensures built { IfOk result (λ made. MatchOption made (NoneExplains settings.now sheet.now tables.now row text.now) (IsGraphOfExample settings.now sheet.now tables.now row text.now arena.new)) }
+    ensures none { IfOk result (λ made. IfNone made (arena.new ≡ arena.old)) }
+    ensures kept { Extends arena.old arena.new }
+    ensures err { OnErr result (arena.new ≡ arena.old) }
+    ensures step { steps.new ≡ steps.old + 1 }
+{
+    tables.keeps_keys();
+    let on = OnRow {
+        row,
+        sheet,
+        tables,
+        settings: *settings,
+    };
+    let mark = arena.mark();
+    match build_uncut(alloc, arena, &on, text, steps) {
+        Ok(Some(made)) => Ok(Some(made)),
+        Ok(None) => {
+            arena.cut(mark);
+            Ok(None)
+        }
+        Err(e) => {
+            arena.cut(mark);
+            Err(e)
+        }
+    }
+}

@@ -1,0 +1,11 @@
+pub mod Grow
+pub mod Growing
+pub mod Lists
+pub mod Lookups
+pub mod Made
+pub mod Naming
+pub mod Origins
+pub mod Puts
+pub mod Reading
+pub mod Standing
+pub mod Steps

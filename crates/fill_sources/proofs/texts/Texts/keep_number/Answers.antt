@@ -1,0 +1,10 @@
+use Rattle.std.proofs.Common.{◌≡◌, ℕ, List, Option, Some, cond, subst}
+use Rattle.std.specs.HashMap.{get_by}
+use Rattle.std.specs.Str.{bytes_eq}
+use Rattle.fill_sources.specs.Origins.{number_in}
+use Rattle.fill_sources.proofs.texts.Texts.keep_number.Goals as goal
+
+pub returns-in-Ok-clause-numbers : goal.returns-in-Ok-clause-numbers
+returns-in-Ok-clause-numbers c v =
+    let after : Option ℕ = get_by (λ y. bytes_eq v y.now) c.insert.new.self in
+    subst (λ (w : List ℕ). after ≡ cond (bytes_eq w v) (Some c.args.k) (number_in c.args.self.now v)) c.as_slice.ensures (c.in-Ok.ensures.updates.0 (record { ref_ptr = (0, 0); now = v }))

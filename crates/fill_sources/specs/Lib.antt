@@ -1,0 +1,4 @@
+pub mod Gives
+pub mod Origins
+pub mod Readers
+pub mod Sets

@@ -1,0 +1,106 @@
+//! The texts that are known on a row.
+ghost use Rattle.std.specs.Prelude.{◌≡◌, ◌<◌, ◌≤◌, ℕ, List, length, Some, slice_get, IfOk, OnOk};
+ghost use Rattle.fill_arena.specs.Contents.{Extends};
+ghost use Rattle.fill_arena.specs.declared.entry.Entry.{Entry};
+ghost use Rattle.fill_sources.specs.Gives.{ArePlacesAt, AreSourcesOf, IsOnRow};
+ghost use Rattle.fill_sources.specs.Sets.{AreKnown, texts_of};
+
+use crate::found::find_texts;
+use crate::memo::Memo;
+use crate::places::places_at;
+use crate::row::{Look, OnRow};
+use crate::sources::sources_at;
+use crate::spots::Spot;
+use crate::texts::Texts;
+use fill_arena::{Arena, PlaceSet, SourceSet};
+use fill_text::{NoMemory, Text};
+use std::alloc::Global;
+
+/// The texts that sources of the grammar give on one row, and the sets that were made for them so far.
+#[derive(Drop)]
+pub struct Known<'a> {
+    texts: Texts<'a>,
+    memo: Memo<'a>,
+}
+
+impl<'a> Known<'a> {
+    /// Finds the texts. It makes no set.
+    pub fn new(alloc: Global, on: &OnRow<'a>) -> Result<Known<'a>, NoMemory>
+        requires { IsOnRow on.now }
+        ensures { IfOk result (λ known. (c : List Entry) → AreKnown on.now c known) }
+    {
+        let texts = find_texts(alloc, on)?;
+        Ok(Known {
+            texts,
+            memo: Memo::new(alloc),
+        })
+    }
+
+    /// How many texts are known.
+    pub fn len(&self) -> usize
+        ensures { result ≡ length (texts_of self.now) }
+    {
+        self.texts.named.as_slice().len()
+    }
+
+    /// The text of a number, counted from 0.
+    pub fn text(&self, k: usize) -> &'a Text
+        requires { k < length (texts_of self.now) }
+        ensures { slice_get (texts_of self.now) k ≡ Some result.now }
+    {
+        self.texts.named[k].text
+    }
+
+    /// The set of the sources that give the text of this number.
+    pub fn sources(
+        &mut self,
+        alloc: Global,
+        on: &OnRow<'a>,
+        arena: &mut Arena,
+        k: usize,
+    ) -> Result<SourceSet, NoMemory>
+        requires on { IsOnRow on.now }
+        requires known { AreKnown on.now arena.old self.old }
+        requires within { k < length (texts_of self.old) }
+        ensures ok { IfOk result (λ s. (v : List ℕ) → slice_get (texts_of self.new) k ≡ Some v → AreSourcesOf on.now arena.new v s) }
+        ensures known { OnOk result (AreKnown on.now arena.new self.new) }
+        ensures texts { texts_of self.new ≡ texts_of self.old }
+        ensures kept { Extends arena.old arena.new }
+    {
+        let look = Look {
+            alloc,
+            on,
+            texts: &self.texts,
+        };
+        match sources_at(&look, &mut self.memo, arena, on.settings.depth, k) {
+            Ok(Some(made)) => Ok(made),
+            Ok(None) => unreachable!(),
+            Err(e) => Err(e),
+        }
+    }
+
+    /// The set of the places whose value in that text is `at`; none where no place has it.
+    pub fn places(
+        &mut self,
+        alloc: Global,
+        on: &OnRow<'a>,
+        arena: &mut Arena,
+        k: usize,
+        at: usize,
+    ) -> Result<Option<PlaceSet>, NoMemory>
+        requires on { IsOnRow on.now }
+        requires known { AreKnown on.now arena.old self.old }
+        requires within { (v : List ℕ) × (slice_get (texts_of self.old) k ≡ Some v) × (at ≤ length v) }
+        ensures ok { IfOk result (λ made. (v : List ℕ) → slice_get (texts_of self.new) k ≡ Some v → ArePlacesAt on.now arena.new v at made) }
+        ensures known { OnOk result (AreKnown on.now arena.new self.new) }
+        ensures texts { texts_of self.new ≡ texts_of self.old }
+        ensures kept { Extends arena.old arena.new }
+    {
+        let look = Look {
+            alloc,
+            on,
+            texts: &self.texts,
+        };
+        places_at(&look, &mut self.memo, arena, Spot { text: k, at })
+    }
+}

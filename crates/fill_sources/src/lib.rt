@@ -1,0 +1,20 @@
+//! What the sources of the grammar give on one row of a sheet: their texts, and for each text the set of all sources that
+//! give it, with the sets of the places of its positions.
+//!
+//! A text stands for all that give it: the cells of the row, and the lookups of Singh and Gulwani, "Learning Semantic String
+//! Transformations from Examples" (PVLDB 5(8), 2012), section 4, of which each set is made of the sets of the sources that
+//! give the cells of the key.
+#![tactic(auto)]
+
+mod found;
+mod known;
+mod memo;
+mod parts;
+mod places;
+mod row;
+mod sources;
+mod spots;
+mod texts;
+
+pub use known::Known;
+pub use row::OnRow;

@@ -1,0 +1,4 @@
+pub mod Growing
+pub mod Joined
+pub mod Marks
+pub mod Told

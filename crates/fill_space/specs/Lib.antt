@@ -1,0 +1,4 @@
+pub mod Doubt
+pub mod Ground
+pub mod Spaces
+pub mod Weights

@@ -1,0 +1,98 @@
+//! Spaces of lists of examples: one for each example, and one for two lists joined.
+ghost use Rattle.std.specs.Prelude.{◌≤◌, length};
+ghost use Rattle.fill_space.specs.Ground.{FitsOn, WeighsOn, MayStand};
+ghost use Rattle.fill_space.specs.Spaces.{SpaceStands, first_spaces};
+ghost use Rattle.fill_space.specs.Weights.{one_weight};
+
+use crate::ground::Ground;
+use crate::space::Space;
+use crate::spaces::Spaces;
+use fill_arena::Mark;
+use fill_build::build;
+use fill_edge::{Ledger, Steps};
+use fill_meet::meet::meet;
+use fill_split::Maker;
+use fill_text::NoMemory;
+use fill_tree::Example;
+
+impl Maker for Spaces {
+    type Item = Example;
+
+    type Kept = Space;
+
+    type Mark = Mark;
+
+    type Base = Ground;
+
+    ghost base = { λ s. s.ground };
+
+    ghost fits = { λ g l. FitsOn g l };
+
+    ghost weight = { λ g l n. WeighsOn g l n };
+
+    ghost allowed = { λ g e. MayStand g e };
+
+    ghost stands = { λ s k l. SpaceStands s k l };
+
+    ghost marked = { λ s m k l. SpaceStands (first_spaces m s) k l };
+
+    ghost valid = { λ s m. m ≤ length s.arena };
+
+    ghost no_later = { λ m n. m ≤ n };
+
+    fn first<L: Ledger>(
+        &mut self,
+        item: &Example,
+        steps: &mut Steps<L>,
+    ) -> Result<Option<Space>, NoMemory> {
+        self.arena.keeps_made();
+        let ground = &self.ground;
+        Space::of_made(build(
+            self.alloc,
+            &mut self.arena,
+            item.row,
+            &item.text,
+            &ground.sheet,
+            &ground.tables,
+            &ground.settings,
+            steps,
+        ))
+    }
+
+    fn join<L: Ledger>(
+        &mut self,
+        kept: Space,
+        one: Space,
+        steps: &mut Steps<L>,
+    ) -> Result<Option<Space>, NoMemory> {
+        self.arena.keeps_made();
+        Space::of_made(meet(
+            self.alloc,
+            &mut self.arena,
+            kept.graph(),
+            one.graph(),
+            steps,
+        ))
+    }
+
+    fn mark(&self) -> Mark {
+        self.arena.mark()
+    }
+
+    fn cut(&mut self, mark: Mark) {
+        self.arena.cut(mark);
+    }
+
+    fn weight(&self, kept: Space) -> Result<u64, NoMemory> {
+        self.arena.keeps_made();
+        let program = self.least(self.alloc, kept)?;
+        let Some(cost) = program.cost() else {
+            unreachable!()
+        };
+        Ok(cost)
+    }
+
+    ghost stands_fit = { λ s k l stands. stands.some };
+
+    ghost one_weight = { one_weight };
+}

@@ -1,0 +1,133 @@
+//! Spaces, and what is asked of each.
+ghost use Rattle.std.specs.Prelude.{◌≡◌, ◌↔◌, ◌≤◌, List, length, IfOk, IsTrue};
+ghost use Rattle.fill_tree.specs.Grammar.{AreSettings};
+ghost use Rattle.fill_tree.specs.Meaning.{program_tree};
+ghost use Rattle.fill_tree.specs.declared.user.Example.{Example};
+ghost use Rattle.fill_space.specs.Doubt.{IsDoubtful};
+ghost use Rattle.fill_space.specs.Ground.{ChosenOn, ExplainsOn};
+ghost use Rattle.fill_space.specs.Spaces.{SpaceStands, no_spaces};
+
+use crate::ground::Ground;
+use crate::space::Space;
+use fill_arena::{Arena, GraphId};
+use fill_sheet::Sheet;
+use fill_tables::Tables;
+use fill_text::NoMemory;
+use fill_tree::{Program, Settings};
+use std::alloc::Global;
+use std::marker::Model;
+
+/// What programs are learned over, and the spaces that were learned.
+#[derive(Drop)]
+pub struct Spaces {
+    pub(crate) alloc: Global,
+    pub(crate) ground: Ground,
+    pub(crate) arena: Arena,
+}
+
+impl Model for Spaces {
+    ghost use Rattle.fill_tree.specs.Grammar.{AreSettings};
+    ghost use Rattle.fill_space.specs.Spaces.{SpacesData, spaces_over};
+
+    ghost Value = { SpacesData };
+
+    ghost view = { λ spaces. spaces_over spaces.ground spaces.arena };
+
+    ghost invariant = { λ spaces. AreSettings spaces.ground.settings };
+}
+
+impl Spaces {
+    /// No spaces yet. Takes no memory.
+    pub fn new(alloc: Global, sheet: Sheet, tables: Tables, settings: Settings) -> Spaces
+        requires { AreSettings settings }
+        ensures { result ≡ no_spaces (record { settings = settings; sheet = sheet; tables = tables }) }
+    {
+        Spaces {
+            alloc,
+            ground: Ground {
+                settings,
+                sheet,
+                tables,
+            },
+            arena: Arena::new(alloc),
+        }
+    }
+
+    /// The sheet that programs are learned over.
+    pub fn sheet(&self) -> &Sheet
+        ensures { result.now ≡ self.now.ground.sheet }
+    {
+        &self.ground.sheet
+    }
+
+    /// The tables that programs are learned over.
+    pub fn tables(&self) -> &Tables
+        ensures { result.now ≡ self.now.ground.tables }
+    {
+        &self.ground.tables
+    }
+
+    /// The bounds of the grammar.
+    pub fn settings(&self) -> &Settings
+        ensures same { result.now ≡ self.now.ground.settings }
+        ensures bounded { AreSettings result.now }
+        ensures kept { AreSettings self.now.ground.settings }
+    {
+        &self.ground.settings
+    }
+
+    /// The sets and graphs of all spaces.
+    pub fn arena(&self) -> &Arena
+        ensures { result.now ≡ self.now.arena }
+    {
+        &self.arena
+    }
+
+    /// The graph of a space.
+    pub fn graph(&self, s: Space) -> GraphId
+        ensures { result ≡ s }
+    {
+        s.graph()
+    }
+
+    /// The chosen program of the examples that the space stands for.
+    pub fn least(&self, alloc: Global, s: Space) -> Result<Program, NoMemory>
+        requires { (l : List Example) × SpaceStands self.now s l }
+        ensures { IfOk result (λ p. (l : List Example) → SpaceStands self.now s l → ChosenOn self.now.ground l (program_tree p)) }
+    {
+        fill_rank::least(alloc, &self.arena, s.graph())
+    }
+
+    /// Whether the program explains the examples that the space stands for.
+    pub fn holds(&self, s: Space, p: &Program) -> bool
+        requires { (l : List Example) × SpaceStands self.now s l }
+        ensures { (l : List Example) → SpaceStands self.now s l → IsTrue result ↔ ExplainsOn self.now.ground l (program_tree p.now) }
+    {
+        self.arena.holds(s.graph(), p)
+    }
+
+    /// Whether two programs that explain the examples of the space answer differently on a row. Rows count from 1.
+    pub fn doubt(&self, alloc: Global, s: Space, row: u32) -> Result<bool, NoMemory>
+        requires stands { (l : List Example) × SpaceStands self.now s l }
+        requires first { 1 ≤ row }
+        requires last { row ≤ length self.now.ground.sheet.rows }
+        ensures { IfOk result (λ b. (l : List Example) → SpaceStands self.now s l → IsTrue b ↔ IsDoubtful self.now.ground l row) }
+    {
+        let ground = &self.ground;
+        fill_doubt::doubt(
+            alloc,
+            &self.arena,
+            s.graph(),
+            row,
+            &ground.sheet,
+            &ground.tables,
+        )
+    }
+
+    /// How many sets and graphs the spaces have.
+    pub fn size(&self) -> u128
+        ensures { result ≡ length self.now.arena }
+    {
+        self.arena.size()
+    }
+}
