@@ -1,5 +1,7 @@
 pub mod Agree
 pub mod Alike
+pub mod Becoming
+pub mod Copying
 pub mod Costs
 pub mod Filled
 pub mod Folds
@@ -7,8 +9,10 @@ pub mod Grown
 pub mod Grows
 pub mod Indexed
 pub mod Lists
+pub mod Marking
 pub mod Orders
 pub mod Samples
 pub mod Scan
 pub mod Sets
 pub mod Steps
+pub mod Zips

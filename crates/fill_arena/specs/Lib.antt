@@ -1,5 +1,7 @@
 pub mod Contents
+pub mod Copied
 pub mod Hash
 pub mod Index
+pub mod Named
 pub mod Stands
 pub mod WellMade

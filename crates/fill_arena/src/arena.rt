@@ -99,7 +99,7 @@ impl Arena {
     }
 
     /// The number of the entry, which is put at the end if it has none.
-    fn intern(&mut self, entry: Entry) -> Result<usize, NoMemory>
+    pub(crate) fn intern(&mut self, entry: Entry) -> Result<usize, NoMemory>
         requires { IsEntry self.old (length self.old) entry }
         ensures interned { IfOk result (Interns self.old self.new entry) }
         ensures err { OnErr result (self.new ≡ self.old) }
@@ -108,6 +108,14 @@ impl Arena {
             Found::Known(number) => Ok(number),
             Found::Free(slot) => push(&mut self.entries, &mut self.index, entry, slot),
         }
+    }
+
+    /// What stands under a number.
+    pub(crate) fn entry(&self, number: usize) -> &Entry
+        requires { number < length self.now }
+        ensures { slice_get self.now number ≡ Some result.now }
+    {
+        &self.entries[number]
     }
 
     /// The places of a set, in order.

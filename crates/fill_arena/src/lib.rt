@@ -8,12 +8,15 @@
 #![tactic(auto)]
 
 mod arena;
+mod copy;
 mod entry;
 mod hash;
 mod holds;
 mod index;
 pub mod laws;
+mod marks;
 mod numbers;
+mod renumber;
 mod same;
 
 pub use arena::Arena;

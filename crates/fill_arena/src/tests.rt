@@ -119,6 +119,18 @@ fn programs(alloc: Global) -> Result<List<(Program, bool)>, Fail> {
     Ok(programs)
 }
 
+/// Whether those programs stand in the graph that should, and no others.
+fn stand(arena: &Arena, g: GraphId, programs: &[(Program, bool)]) -> bool
+    requires { IsGraph arena.now g }
+{
+    for (p, stands) in programs {
+        if arena.holds(g, p) != *stands {
+            return false;
+        }
+    }
+    true
+}
+
 /// Whether equal contents get one number, and after a cut a new one.
 fn shares<L: Ledger>(alloc: Global, text: &Text, steps: &mut Steps<L>) -> Result<bool, Fail>
     requires { length text.now ≤ 100 }
@@ -159,10 +171,8 @@ fn read<L: Ledger>(alloc: Global, blank: Blank) -> Result<Option<[usize; 5]>, Fa
         return Ok(None);
     }
     let made = fill(alloc, &mut arena, text, &mut steps)?;
-    for (p, stands) in programs(alloc)?.as_slice() {
-        if arena.holds(made.graph, p) != *stands {
-            return Ok(None);
-        }
+    if !stand(&arena, made.graph, programs(alloc)?.as_slice()) {
+        return Ok(None);
     }
     let counts = [
         arena.places(made.places).len(),
@@ -183,5 +193,49 @@ fn read<L: Ledger>(alloc: Global, blank: Blank) -> Result<Option<[usize; 5]>, Fa
 fn programs_stand_in_a_graph(rt: HostRuntime) -> Result<(), Fail> {
     let read = read::<Brand>(rt.alloc(), Blank::new(1))?;
     assert_eq!(rt; read, Some([1, 1, 3, 2, 1]));
+    Ok(())
+}
+
+/// The sizes of an arena of two graphs and of a copy of the second. None where another program stands in the copy than
+/// in that graph.
+fn copy_second<L: Ledger>(
+    alloc: Global,
+    first: Text,
+    second: Text,
+    steps: &mut Steps<L>,
+) -> Result<Option<[u128; 2]>, Fail>
+    requires first { length first ≤ 100 }
+    requires second { length second ≤ 100 }
+{
+    let mut arena = Arena::new(alloc);
+    let _older = fill(alloc, &mut arena, first, steps)?;
+    let mut live = [fill(alloc, &mut arena, second, steps)?.graph];
+    let made = arena.copy(alloc, &mut live)?;
+    if !stand(&made, live[0], programs(alloc)?.as_slice()) {
+        return Ok(None);
+    }
+    Ok(Some([arena.size(), made.size()]))
+}
+
+/// The sizes where the second graph is that of the text `ab`.
+fn sizes<L: Ledger>(alloc: Global, blank: Blank) -> Result<Option<[u128; 2]>, Fail>
+    requires name { blank.name ≡ L.name }
+    requires parts { blank.parts ≡ L.parts }
+    requires one { blank.parts ≡ 1 }
+{
+    let (book, share) = blank.open::<L>();
+    let mut steps: Steps<L> = Steps::new(book, share);
+    let first = Text::from_utf8(alloc, b"cd")?;
+    let second = Text::from_utf8(alloc, b"ab")?;
+    if first.len() > 100 || second.len() > 100 {
+        return Ok(None);
+    }
+    copy_second(alloc, first, second, &mut steps)
+}
+
+#[test]
+fn a_copy_has_what_its_graph_names(rt: HostRuntime) -> Result<(), Fail> {
+    let sizes = sizes::<Brand>(rt.alloc(), Blank::new(1))?;
+    assert_eq!(rt; sizes, Some([7, 5]));
     Ok(())
 }

@@ -1,5 +1,5 @@
 -- What is known stays known as the arena grows.
-use Rattle.std.proofs.Common.{ℕ, List}
+use Rattle.std.proofs.Common.{List}
 use Rattle.fill_arena.specs.Contents.{Extends}
 use Rattle.fill_arena.specs.WellMade.{IsWellMade}
 use Rattle.fill_arena.specs.declared.entry.Entry.{Entry}

@@ -1,25 +1,24 @@
 -- The sources that read a row of a table, and the items that stand for them.
-use Rattle.std.proofs.Common.{◌≡◌, ◌≢◌, ◌↔◌, ◌⊎◌, inl, inr, ℕ, zero, suc, ◌+◌, ◌-◌, ◌<◌, ◌≤◌, ◌^◌, max, cond, ◌==◌, Bool, true, false, List, [], ◌∷◌, ◌++◌, length, map, get_or, All, Contains, Option, None, Some, IfSome, slice_get, refl, sym, ap, ◌∙◌, subst, arith}
+use Rattle.std.proofs.Common.{◌≡◌, ◌↔◌, ℕ, zero, suc, ◌+◌, ◌-◌, ◌<◌, ◌≤◌, max, cond, ◌==◌, Bool, true, false, List, [], ◌∷◌, ◌++◌, length, map, All, Option, None, Some, IfSome, refl, sym, ap, ◌∙◌, subst, arith}
 use Rattle.std.specs.Char.{IsScalar}
-use Rattle.fill_text.specs.Data.{SheetData, TableData, nth, cell_at, key_at, table_cell_at, table_row_at, width_at}
+use Rattle.fill_text.specs.Data.{SheetData, TableData, nth, key_at, table_cell_at}
 use Rattle.fill_tables.specs.Keys.{AreKeyColumns, IsKey, IsKeyedRow}
 use Rattle.fill_tables.specs.Tables.{AreTables, IsTable}
 use Rattle.fill_tokens.specs.Profile.{IsPlaceOf}
 use Rattle.fill_tree.specs.Tree.{SourceTree, AtomTree, Atoms, col, select, constant, whole, sub, end, more}
 use Rattle.fill_tree.specs.Grammar as grammar
-use Rattle.fill_tree.specs.Grammar.{AreNumbersOf, AreSettings, HasPart, IsPart, IsSource, atom_depth, depth_limit, greatest_depth, number_of_atoms, source_depth}
-use Rattle.fill_tree.specs.Value.{ConditionIs, ConditionsAre, SourceIs}
+use Rattle.fill_tree.specs.Grammar.{AreNumbersOf, AreSettings, HasPart, IsSource, atom_depth, greatest_depth, number_of_atoms, source_depth}
+use Rattle.fill_tree.specs.Value.{ConditionIs, ConditionsAre}
 use Rattle.fill_tree.specs.declared.user.Settings.{Settings}
-use Rattle.fill_arena.specs.Contents.{EachIn, Extends, SomeIn}
-use Rattle.fill_arena.specs.Stands.{AtomFits, AtomStands, ConditionFits, ConditionsFit, IsPartOf, SourceFits}
-use Rattle.fill_arena.specs.WellMade.{IsConditionItem, IsSelectItem, IsSourceItem, OlderAtoms}
+use Rattle.fill_arena.specs.Contents.{EachIn, Extends}
+use Rattle.fill_arena.specs.Stands.{AtomFits, AtomStands, ConditionFits, ConditionsFit, SourceFits}
+use Rattle.fill_arena.specs.WellMade.{IsConditionItem, IsSourceItem, OlderAtoms}
 use Rattle.fill_arena.specs.declared.entry.ConditionItem.{ConditionItem}
 use Rattle.fill_arena.specs.declared.entry.Entry.{Entry}
 use Rattle.fill_arena.specs.declared.entry.Entry.TheVariants as kind
 use Rattle.fill_arena.proofs.Lists.{extends_on}
 use Rattle.std.proofs.lemmas.Option.{slice_get_within}
 use Rattle.fill_arena.specs.declared.entry.SelectItem.{SelectItem}
-use Rattle.fill_arena.specs.declared.entry.SourceItem.{SourceItem}
 use Rattle.fill_arena.specs.declared.entry.SourceItem.TheVariants as item
 use Rattle.fill_reach.specs.Reach.{IsReached, IsReachedAt, Picks}
 use Rattle.fill_reach.specs.Spots.{IsFree}
@@ -27,8 +26,7 @@ use Rattle.fill_reach.specs.declared.rows.ReachedRow.{ReachedRow}
 use Rattle.fill_reach.proofs.CellLaws.{some_same, nth_all, nth_within, width_of, key_table, same_length}
 use Rattle.fill_sources.specs.Gives.{ArePartsIn, Gives, PartGives, at_depth}
 use Rattle.fill_sources.specs.Sets.{AreConditions, AreKeyCells, IsCondition, Reads}
-use Rattle.fill_sources.specs.declared.texts.Origin.{Origin}
-use Rattle.fill_sources.specs.declared.texts.Origin.TheVariants.{Col, Cell}
+use Rattle.fill_sources.specs.declared.texts.Origin.TheVariants.{Cell}
 use Rattle.fill_sources.specs.declared.row.OnRow.{OnRow}
 
 -- the grammar of sources asks nothing of settings but their profile

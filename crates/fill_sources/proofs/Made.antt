@@ -1,5 +1,5 @@
 -- What was made stays right as the arena grows and as more is kept.
-use Rattle.std.proofs.Common.{◌≡◌, ℕ, Bool, true, false, cond, ◌&&◌, List, Option, Some, None, nat_eq, refl, sym, ap, ◌∙◌, subst, rules, arith, IfSome}
+use Rattle.std.proofs.Common.{◌≡◌, ℕ, Bool, true, false, cond, ◌&&◌, List, Option, Some, nat_eq, refl, sym, ap, ◌∙◌, subst, rules, arith}
 use Rattle.std.specs.Str.{bytes_eq}
 use Rattle.fill_arena.specs.Contents.{Extends}
 use Rattle.fill_arena.specs.declared.entry.Entry.{Entry}

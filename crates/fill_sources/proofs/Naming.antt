@@ -1,12 +1,12 @@
 -- Texts, each once, as one is put to them.
-use Rattle.std.proofs.Common.{◌≡◌, ◌↔◌, ◌⊎◌, ℕ, ◌<◌, inl, inr, Bool, true, false, cond, List, [], ◌∷◌, ◌++◌, length, Option, None, Some, slice_get, slice_set, refl, sym, ap, ◌∙◌, subst, arith}
+use Rattle.std.proofs.Common.{◌≡◌, ◌⊎◌, ℕ, inl, inr, Bool, true, false, cond, List, [], ◌∷◌, ◌++◌, length, None, Some, slice_get, slice_set, refl, sym, ap, ◌∙◌, subst, arith}
 use Rattle.std.specs.Str.{bytes_eq}
 use Rattle.std.proofs.lemmas.Bool.{cases_eq}
 use Rattle.std.proofs.lemmas.Option.{slice_get_within}
 use Rattle.std.proofs.lemmas.Slice.Eq.{bytes_eq-Decides}
-use Rattle.fill_arena.specs.Contents.{In, EachIn}
+use Rattle.fill_arena.specs.Contents.{In}
 use Rattle.fill_arena.proofs.Lists.{get_left, get_last, get_pushed}
-use Rattle.fill_sources.specs.Origins.{AreNumbered, Grown, HasOrigin, number_in}
+use Rattle.fill_sources.specs.Origins.{AreNumbered, Grown, number_in}
 use Rattle.fill_sources.specs.declared.texts.Named.{Named}
 use Rattle.fill_sources.specs.declared.texts.Origin.{Origin}
 use Rattle.fill_sources.specs.declared.texts.Texts.{Texts}

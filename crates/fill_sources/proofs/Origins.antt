@@ -1,9 +1,9 @@
 -- What texts come from, and the sources that give them.
-use Rattle.std.proofs.Common.{◌≡◌, ◌↔◌, ◌⊎◌, inl, inr, ℕ, ◌+◌, ◌<◌, ◌≤◌, ◌^◌, List, [], ◌∷◌, length, map, get_or, Contains, Some, slice_get, refl, sym, ap, ◌∙◌, subst, arith}
+use Rattle.std.proofs.Common.{◌≡◌, ◌↔◌, ◌⊎◌, inl, inr, ℕ, ◌≤◌, List, [], length, map, get_or, Contains, Some, slice_get, refl, sym, ap, ◌∙◌, subst, arith}
 use Rattle.std.proofs.lemmas.Option.{slice_get_within}
-use Rattle.fill_text.specs.Data.{TableData, cell_at, table_cell_at}
+use Rattle.fill_text.specs.Data.{table_cell_at}
 use Rattle.fill_tables.specs.Tables.{AreTables}
-use Rattle.fill_tree.specs.Tree.{SourceTree, Atoms, col, select}
+use Rattle.fill_tree.specs.Tree.{SourceTree, col, select}
 use Rattle.fill_tree.specs.Grammar.{IsSource, source_depth, number_of_atoms}
 use Rattle.fill_text.specs.Lists.{Lists}
 use Rattle.fill_arena.specs.Contents.{In, EachIn}
@@ -15,7 +15,7 @@ use Rattle.fill_reach.proofs.MapLaws.{contains_mapped, mapped_from}
 use Rattle.fill_reach.proofs.ReachLaws.{known_cell, known_input, reached_spot}
 use Rattle.fill_reach.proofs.StepLaws.{at_contains, contains_at}
 use Rattle.fill_sources.specs.Gives.{Gives, at_depth}
-use Rattle.fill_sources.specs.Origins.{AreNumbered, AreTexts, Grown, HasLeast, HasOrigin, InputsTo, IsFreeIn, IsOrigin, RowsTo, number_in, texts_in}
+use Rattle.fill_sources.specs.Origins.{AreTexts, Grown, HasLeast, HasOrigin, InputsTo, IsFreeIn, IsOrigin, RowsTo, number_in, texts_in}
 use Rattle.fill_sources.specs.Sets.{Reads}
 use Rattle.fill_sources.specs.declared.row.OnRow.{OnRow}
 use Rattle.fill_sources.specs.declared.texts.Named.{Named}

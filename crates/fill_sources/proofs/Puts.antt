@@ -1,21 +1,21 @@
 -- Items that are put to others, and the sets of them.
-use Rattle.std.proofs.Common.{◌≡◌, ◌≢◌, ◌↔◌, ◌⊎◌, inl, inr, ℕ, ◌+◌, ◌<◌, ◌≤◌, List, [], ◌∷◌, ◌++◌, length, None, Some, slice_get, refl, sym, ap, ◌∙◌, subst, arith}
+use Rattle.std.proofs.Common.{◌≡◌, ◌≢◌, ◌↔◌, ◌⊎◌, inl, inr, ℕ, ◌+◌, ◌≤◌, List, [], ◌∷◌, ◌++◌, length, None, Some, slice_get, refl, sym, ap, ◌∙◌, subst, arith}
 use Rattle.std.proofs.lemmas.Bool.{cases_lt}
 use Rattle.std.proofs.lemmas.Option.{slice_get_within}
 use Rattle.fill_tokens.specs.Value.{HasValue}
 use Rattle.fill_tokens.specs.Profile.{IsPlaceOf}
 use Rattle.fill_tree.specs.Tree.{SourceTree, AtomTree, col, select, constant, whole, sub}
-use Rattle.fill_arena.specs.Contents.{In, EachIn, Extends, SomeIn}
+use Rattle.fill_arena.specs.Contents.{EachIn, Extends, SomeIn}
 use Rattle.fill_arena.specs.Stands.{AtomFits, SourceFits}
-use Rattle.fill_arena.specs.WellMade.{IsAtomItem, IsSourceItem, OlderPlaces, OlderSources}
+use Rattle.fill_arena.specs.WellMade.{OlderSources}
 use Rattle.fill_arena.specs.declared.entry.AtomItem.{AtomItem}
-use Rattle.fill_arena.specs.declared.entry.AtomItem.TheVariants.{Const, Whole, Sub}
+use Rattle.fill_arena.specs.declared.entry.AtomItem.TheVariants.{Whole, Sub}
 use Rattle.fill_arena.specs.declared.entry.Entry.{Entry}
 use Rattle.fill_arena.specs.declared.entry.Entry.TheVariants as kind
 use Rattle.fill_arena.specs.declared.entry.SourceItem.{SourceItem}
 use Rattle.fill_arena.specs.declared.entry.SourceItem.TheVariants as item
 use Rattle.fill_arena.proofs.Lists.{extends_on, extends_same}
-use Rattle.fill_sources.specs.Gives.{ArePartsIn, AreSourcesIn, AreSourcesOf, ArePlacesAt, Gives, PartGives, at_depth}
+use Rattle.fill_sources.specs.Gives.{AreSourcesOf, ArePlacesAt, Gives, at_depth}
 use Rattle.fill_sources.specs.Origins.{AreTexts, IsOrigin}
 use Rattle.fill_sources.specs.Readers.{AddsAtoms, AddsSources, AreAtomsOf, AreSourceItemsOf, IsOldAtom, IsOldSource, Puts, ReadsBetween, ReadsFirst, ReadsSpot, ReadsWhole}
 use Rattle.fill_sources.specs.Sets.{GivesFirst, Lasts, Reads}

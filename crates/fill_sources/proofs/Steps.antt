@@ -1,19 +1,12 @@
 -- Conditions that are put together, cell by cell.
-use Rattle.std.proofs.Common.{◌≡◌, ℕ, zero, suc, ◌+◌, ◌<◌, ◌≤◌, List, [], ◌∷◌, ◌++◌, length, map, take, Option, None, Some, IfSome, slice_get, refl, sym, ap, ◌∙◌, subst, arith}
+use Rattle.std.proofs.Common.{◌≡◌, ℕ, ◌+◌, List, [], ◌∷◌, ◌++◌, map, take, Some, slice_get, sym, ap, ◌∙◌, subst, arith}
 use Rattle.std.proofs.lemmas.List.{map-append, take_more}
 use Rattle.std.proofs.lemmas.Option.{get_or_from_slice_get, slice_get_within}
-use Rattle.fill_text.specs.Data.{TableData, nth, key_at, table_cell_at, table_row_at}
-use Rattle.fill_arena.specs.Contents.{Extends}
-use Rattle.fill_arena.specs.WellMade.{IsConditionItem, OlderAtoms}
-use Rattle.fill_arena.specs.declared.entry.ConditionItem.{ConditionItem}
-use Rattle.fill_arena.specs.declared.entry.Entry.{Entry}
+use Rattle.fill_text.specs.Data.{nth, key_at, table_cell_at, table_row_at}
 use Rattle.fill_arena.specs.declared.entry.Entry.TheVariants as kind
-use Rattle.fill_arena.proofs.Lists.{extends_on}
 use Rattle.fill_reach.specs.Reach.{IsReached}
 use Rattle.fill_reach.specs.declared.rows.ReachedRow.{ReachedRow}
 use Rattle.fill_reach.proofs.CellLaws.{cell_of, some_same}
-use Rattle.fill_sources.specs.Gives.{ArePartsIn, at_depth}
-use Rattle.fill_sources.specs.Sets.{AreConditions, IsCondition, Lasts}
 use Rattle.fill_sources.specs.declared.row.OnRow.{OnRow}
 use Rattle.fill_sources.proofs.Lists.{mapped_at, mapped_from}
 

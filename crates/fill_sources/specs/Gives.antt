@@ -1,5 +1,5 @@
 -- What sources of the grammar give on a row.
-use Rattle.std.specs.Prelude.{◌≡◌, ◌↔◌, ℕ, ◌≤◌, List, length, Option, None, Some}
+use Rattle.std.specs.Prelude.{◌↔◌, ℕ, ◌≤◌, List, length, Option, None, Some}
 use Rattle.fill_tables.specs.Keys.{KeysDistinguish}
 use Rattle.fill_tokens.specs.Value.{HasValue}
 use Rattle.fill_tokens.specs.Profile.{IsPlaceOf}

@@ -1,5 +1,5 @@
 -- Where texts come from on a row: input cells, and the cells of rows that lookups reach, in columns that are free of the key.
-use Rattle.std.specs.Prelude.{◌≡◌, ◌↔◌, ◌⊎◌, ℕ, ◌<◌, ◌≤◌, ◌^◌, List, map, length, Option, Some, Contains, slice_get}
+use Rattle.std.specs.Prelude.{◌≡◌, ◌↔◌, ◌⊎◌, ℕ, ◌<◌, ◌≤◌, ◌^◌, List, map, Option, Some, Contains, slice_get}
 use Rattle.std.specs.HashMap.{get_by}
 use Rattle.std.specs.Str.{bytes_eq}
 use Rattle.fill_text.specs.Data.{TableData, cell_at, table_cell_at}

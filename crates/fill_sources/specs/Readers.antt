@@ -3,7 +3,7 @@ use Rattle.std.specs.Prelude.{◌≡◌, ◌↔◌, ◌⊎◌, ℕ, ◌+◌, ◌
 use Rattle.fill_tokens.specs.Profile.{IsPlaceOf}
 use Rattle.fill_tokens.specs.Value.{HasValue}
 use Rattle.fill_tree.specs.Tree.{SourceTree, AtomTree, constant, whole, sub}
-use Rattle.fill_arena.specs.Contents.{In, SomeIn, EachIn, Extends}
+use Rattle.fill_arena.specs.Contents.{In, SomeIn, Extends}
 use Rattle.fill_arena.specs.Stands.{AtomFits, SourceFits}
 use Rattle.fill_arena.specs.WellMade.{IsAtomItem, IsSourceItem}
 use Rattle.fill_arena.specs.declared.entry.AtomItem.{AtomItem}

@@ -1,11 +1,11 @@
 -- What is known of a row, with the sets that were made for it.
-use Rattle.std.specs.Prelude.{◌≡◌, ◌↔◌, ℕ, ◌<◌, ◌≤◌, List, [], ◌∷◌, Option, None, Some, Bool, ◌&&◌, nat_eq, Contains, slice_get, All}
+use Rattle.std.specs.Prelude.{◌≡◌, ◌↔◌, ℕ, ◌<◌, List, [], ◌∷◌, Option, Some, Bool, ◌&&◌, nat_eq, Contains, slice_get, All}
 use Rattle.std.specs.Char.{IsScalar}
 use Rattle.std.specs.HashMap.{get, get_by}
 use Rattle.std.specs.Str.{bytes_eq}
 use Rattle.fill_text.specs.Data.{TableData}
 use Rattle.fill_tables.specs.Keys.{IsKeyedRow}
-use Rattle.fill_tree.specs.Tree.{SourceTree, AtomTree, col, select}
+use Rattle.fill_tree.specs.Tree.{SourceTree, col, select}
 use Rattle.fill_arena.specs.Contents.{Extends}
 use Rattle.fill_arena.specs.declared.entry.ConditionItem.{ConditionItem}
 use Rattle.fill_arena.specs.declared.entry.Entry.{Entry}

@@ -29,3 +29,7 @@ pub record SpaceStands (s : SpacesData) (space : ℕ) (examples : List Example) 
   pub graph : IsGraph s.arena space
   pub exact : (p : Atoms) → ProgramStands s.arena space p ↔ ExplainsOn s.ground examples p
   pub some : FitsOn s.ground examples
+
+-- the second space, of the later spaces, stands for each list of examples that the first one stood for
+abbrev pub Succeeds : SpacesData → SpacesData → ℕ → ℕ → Type 0
+Succeeds before now space next = (examples : List Example) → SpaceStands before space examples → SpaceStands now next examples

@@ -1,14 +1,17 @@
 //! Spaces, and what is asked of each.
-ghost use Rattle.std.specs.Prelude.{◌≡◌, ◌↔◌, ◌≤◌, List, length, IfOk, IsTrue};
+ghost use Rattle.std.specs.Prelude.{◌≡◌, ◌↔◌, ◌<◌, ◌≤◌, ℕ, List, length, IfOk, IsTrue, OnErr, OnOk};
+ghost use Rattle.std.specs.List.{AllZip};
+ghost use Rattle.fill_arena.specs.Contents.{EachIn};
+ghost use Rattle.fill_arena.specs.Named.{IsNamed};
 ghost use Rattle.fill_tree.specs.Grammar.{AreSettings};
 ghost use Rattle.fill_tree.specs.Meaning.{program_tree};
 ghost use Rattle.fill_tree.specs.declared.user.Example.{Example};
 ghost use Rattle.fill_space.specs.Doubt.{IsDoubtful};
 ghost use Rattle.fill_space.specs.Ground.{ChosenOn, ExplainsOn};
-ghost use Rattle.fill_space.specs.Spaces.{SpaceStands, no_spaces};
+ghost use Rattle.fill_space.specs.Spaces.{SpaceStands, Succeeds, no_spaces};
 
 use crate::ground::Ground;
-use crate::space::Space;
+use crate::space::{Space, graphs_of, put_graphs};
 use fill_arena::{Arena, GraphId};
 use fill_sheet::Sheet;
 use fill_tables::Tables;
@@ -122,6 +125,25 @@ impl Spaces {
             &ground.sheet,
             &ground.tables,
         )
+    }
+
+    /// Forgets all but the listed spaces, and all that none of their graphs names.
+    ///
+    /// Each listed space is replaced by one that stands for the same examples. Other spaces, and marks that were taken
+    /// before, are void. It takes no step, and time that is linear in the sets and graphs so far.
+    pub fn compact(&mut self, alloc: Global, live: &mut [Space]) -> Result<(), NoMemory>
+        requires { EachIn (λ k. (l : List Example) × SpaceStands self.old k l) live.old }
+        ensures length { length live.new ≡ length live.old }
+        ensures ground { self.new.ground ≡ self.old.ground }
+        ensures stand { OnOk result (AllZip (Succeeds self.old self.new) live.old live.new) }
+        ensures named { OnOk result ((n : ℕ) → n < length self.new.arena → IsNamed self.new.arena live.new n) }
+        ensures err { OnErr result (self.new ≡ self.old) }
+        ensures live_err { OnErr result (live.new ≡ live.old) }
+    {
+        let mut graphs = graphs_of(alloc, live)?;
+        self.arena = self.arena.copy(alloc, graphs.as_mut_slice())?;
+        put_graphs(live, graphs.as_slice());
+        Ok(())
     }
 
     /// How many sets and graphs the spaces have.

@@ -177,3 +177,36 @@ fn a_cut_takes_spaces_away(rt: HostRuntime) -> Result<(), Fail> {
     assert!(rt; is_cut_away::<Brand>(rt.alloc(), Blank::new(1))?);
     Ok(())
 }
+
+/// The space in place of the given one where all others are forgotten.
+fn alone(alloc: Global, spaces: &mut Spaces, space: Space) -> Result<Space, Fail>
+    requires { (l : List Given) × SpaceStands spaces.old space l }
+    ensures { IfOk result (λ s. (l : List Given) × SpaceStands spaces.new s l) }
+{
+    let mut live = [space];
+    spaces.compact(alloc, &mut live)?;
+    Ok(live[0])
+}
+
+/// Whether the last word is learned from the space of two rows as before, where all others are forgotten.
+fn learns_alone<L: Ledger>(alloc: Global, blank: Blank) -> Result<bool, Fail>
+    requires name { blank.name ≡ L.name }
+    requires parts { blank.parts ≡ L.parts }
+    requires one { blank.parts ≡ 1 }
+{
+    let (book, share) = blank.open::<L>();
+    let mut steps: Steps<L> = Steps::new(book, share);
+    let mut spaces = spaces_over(alloc, "Ab Cd\nEfgh Ijk\n")?;
+    let Some(space) = joined(alloc, &mut spaces, "Cd", "Ijk", &mut steps)? else {
+        return Ok(false);
+    };
+    let size = spaces.size();
+    let space = alone(alloc, &mut spaces, space)?;
+    Ok(learned_last_word(alloc, &spaces, space)? && spaces.size() < size)
+}
+
+#[test]
+fn a_space_stays_alone(rt: HostRuntime) -> Result<(), Fail> {
+    assert!(rt; learns_alone::<Brand>(rt.alloc(), Blank::new(1))?);
+    Ok(())
+}

@@ -1,8 +1,7 @@
-use Rattle.std.proofs.Common.{◌≡◌, ◌≢◌, ℕ, ◌+◌, ◌-◌, ◌<◌, ◌≤◌, List, [], ◌∷◌, ◌++◌, length, map, get_or, Some, slice_get, sym, ap, ◌∙◌, subst, arith, rules}
+use Rattle.std.proofs.Common.{◌≡◌, ◌≢◌, ℕ, ◌+◌, ◌-◌, ◌≤◌, List, [], ◌∷◌, ◌++◌, length, get_or, Some, slice_get, sym, ap, ◌∙◌, subst, arith, rules}
 use Rattle.std.proofs.lemmas.Option.{slice_get-get_or}
 use Rattle.std.proofs.lemmas.Result.{on_ok_weaker}
 use Rattle.fill_text.specs.Data.{nth}
-use Rattle.fill_tree.specs.Tree.{SourceTree}
 use Rattle.fill_reach.proofs.CellLaws.{cell_of}
 use Rattle.fill_arena.specs.Contents.{In}
 use Rattle.fill_arena.specs.Stands.{AtomFits, SourceFits}
@@ -11,7 +10,7 @@ use Rattle.fill_arena.specs.declared.entry.SourceItem.TheVariants as item
 use Rattle.fill_arena.proofs.Lists.{extends_on, extends_same, get_there}
 use Rattle.fill_sources.specs.Gives.{AreSourcesIn, Gives, at_depth}
 use Rattle.fill_sources.specs.Origins.{IsOrigin, texts_in}
-use Rattle.fill_sources.specs.Readers.{AddsAtoms, AddsSources, IsOldAtom, IsOldSource, ReadsAny, ReadsBetween, ReadsSpot, ReadsWhole, StandsAt}
+use Rattle.fill_sources.specs.Readers.{AddsAtoms, AddsSources, IsOldAtom, IsOldSource, ReadsAny, ReadsBetween, ReadsSpot, ReadsWhole}
 use Rattle.fill_sources.specs.Sets.{AreConditions, GivesFirst, IsPartMade, IsSourceMade, Reads}
 use Rattle.fill_sources.specs.declared.spots.Spot.{Spot}
 use Rattle.fill_sources.specs.declared.texts.Named.{Named}

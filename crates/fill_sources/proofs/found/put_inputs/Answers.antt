@@ -1,4 +1,4 @@
-use Rattle.std.proofs.Common.{◌≡◌, ℕ, length, subst, get_or, arith}
+use Rattle.std.proofs.Common.{◌≡◌, length, subst, get_or, arith}
 use Rattle.std.proofs.lemmas.Option.{slice_get-get_or}
 use Rattle.fill_sources.specs.Origins.{Grown, InputsTo}
 use Rattle.fill_sources.proofs.Growing.{inputs_step}

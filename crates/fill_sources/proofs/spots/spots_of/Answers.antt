@@ -1,4 +1,4 @@
-use Rattle.std.proofs.Common.{◌↔◌, List, length, map, get_or, subst, arith}
+use Rattle.std.proofs.Common.{◌↔◌, List, map, get_or, subst, arith}
 use Rattle.std.proofs.lemmas.List.{length-map}
 use Rattle.std.proofs.lemmas.Option.{slice_get-get_or}
 use Rattle.fill_arena.specs.Contents.{In}

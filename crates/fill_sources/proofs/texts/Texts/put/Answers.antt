@@ -1,6 +1,6 @@
-use Rattle.std.proofs.Common.{◌≡◌, ℕ, List, Some, None, slice_get, subst, sym}
+use Rattle.std.proofs.Common.{◌≡◌, ℕ, List, Some, slice_get, subst, sym}
 use Rattle.std.proofs.lemmas.Result.{on_ok_weaker}
-use Rattle.fill_sources.specs.Origins.{Grown, number_in}
+use Rattle.fill_sources.specs.Origins.{Grown}
 use Rattle.fill_sources.specs.declared.texts.Named.{Named}
 use Rattle.fill_sources.proofs.Lists.{both_ok}
 use Rattle.fill_sources.proofs.Naming.{grown_new, grown_old, numbered_new, numbered_old}

@@ -1,0 +1,8 @@
+use Rattle.std.proofs.Common.{◌≡◌, take}
+use Rattle.std.specs.List.{fold, flat_map}
+use Rattle.fill_arena.specs.Copied.{marked}
+use Rattle.fill_arena.specs.Named.{condition_names}
+use Rattle.fill_arena.proofs.marks.mark_conditions.Given as goal
+
+abbrev pub invariant-loop-item : goal.invariant-loop-item
+invariant-loop-item l = l.marks ≡ fold marked l.fn.marks (flat_map condition_names (take l.item-index l.items))

@@ -1,0 +1,7 @@
+use Rattle.std.proofs.Common.{take}
+use Rattle.std.specs.List.{AllZip}
+use Rattle.fill_arena.specs.Copied.{AtomBecomes, Takes}
+use Rattle.fill_arena.proofs.renumber.renumber_atoms.Given as goal
+
+abbrev pub invariant-loop-item : goal.invariant-loop-item
+invariant-loop-item l = AllZip (AtomBecomes (Takes l.table)) (take l.item-index l.items) l.made

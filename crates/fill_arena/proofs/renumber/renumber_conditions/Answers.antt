@@ -1,0 +1,18 @@
+use Rattle.std.proofs.lemmas.List.Elements.{all_zip_more}
+use Rattle.fill_arena.specs.Copied.{ConditionBecomes, HasNew, Takes}
+use Rattle.fill_arena.specs.Named.{condition_names}
+use Rattle.fill_arena.proofs.Scan.{here}
+use Rattle.fill_arena.proofs.Zips.{each_of_flat}
+use Rattle.fill_arena.proofs.renumber.renumber_conditions.Goals as goal
+
+pub renumber_condition-requires : goal.renumber_condition-requires
+renumber_condition-requires c =
+    let items = c.args.items.now in
+    let i = c.loop-item.item-index in
+    each_of_flat (HasNew c.args.table.now) condition_names items c.requires i c.item-item.result (here items i c.item-item.result c.loop-item-test.true c.item-item.is)
+
+pub loop-item-preserved : goal.loop-item-preserved
+loop-item-preserved c =
+    rw c.in_ok-push.ensures.ok
+    (all_zip_more (ConditionBecomes (Takes c.args.table.now)) c.args.items.now c.loop-item.made c.loop-item.item-index c.item-item.result c.in_ok-renumber_condition.field-0 c.loop-item-test.true c.item-item.is c.loop-item.invariant
+    c.in_ok-renumber_condition.ensures)

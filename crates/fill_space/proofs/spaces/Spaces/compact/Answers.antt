@@ -1,0 +1,28 @@
+use Rattle.std.proofs.Common.{ℕ, List, sym, ◌∙◌, subst, arith}
+use Rattle.std.specs.List.{AllZip}
+use Rattle.fill_arena.specs.Named.{IsNamed}
+use Rattle.fill_space.specs.Spaces.{SpacesData, Succeeds, spaces_over}
+use Rattle.fill_space.proofs.Compacted.{copies_stand, lent_back}
+use Rattle.fill_space.proofs.spaces.Spaces.compact.Goals as goal
+
+pub returns-clause-stand : goal.returns-clause-stand
+returns-clause-stand c =
+    let over = c.self.inside.ground in
+    let made = c.in_ok-self-inside.field-0 in
+    let graphs = c.in_ok-graphs.graphs in
+    let first = c.as_mut_slice.result.now in
+    let new = c.copy.new.live in
+    let listed = c.as_mut_slice.ensures.value ∙ c.in_ok-graphs.ensures in
+    let put = c.put_graphs.ensures ∙ c.as_slice.ensures.value ∙ lent_back graphs.items c.as_mut_slice.result.now new graphs.len (let len = graphs.ok.0 in omega arith) c.as_mut_slice.ensures.value c.in_ok-self-inside.ensures.length in
+    subst (λ (v : SpacesData). AllZip (Succeeds v (spaces_over over made)) c.args.live.now c.put_graphs.new.spaces) c.self.view_is
+    (subst (λ (ns : List ℕ). AllZip (Succeeds (spaces_over over c.self.inside.arena) (spaces_over over made)) c.args.live.now ns) (sym put)
+    (subst (λ (ks : List ℕ). AllZip (Succeeds (spaces_over over c.self.inside.arena) (spaces_over over made)) ks new) listed
+    (copies_stand over c.self.inside.arena made first new c.in_ok-self-inside.ensures.graphs c.in_ok-self-inside.ensures.same)))
+
+pub returns-clause-named : goal.returns-clause-named
+returns-clause-named c =
+    let made = c.in_ok-self-inside.field-0 in
+    let graphs = c.in_ok-graphs.graphs in
+    let new = c.copy.new.live in
+    let put = c.put_graphs.ensures ∙ c.as_slice.ensures.value ∙ lent_back graphs.items c.as_mut_slice.result.now new graphs.len (let len = graphs.ok.0 in omega arith) c.as_mut_slice.ensures.value c.in_ok-self-inside.ensures.length in
+    λ n lt. subst (λ (ns : List ℕ). IsNamed made ns n) (sym put) (c.in_ok-self-inside.ensures.named n lt)
