@@ -1,8 +1,8 @@
 -- Each tree has one answer on a row: a value, or none.
-use Rattle.std.proofs.Common.{◌≡◌, ◌↔◌, ℕ, zero, suc, ◌+◌, ◌-◌, ◌<◌, ◌≤◌, List, [], ◌∷◌, ◌++◌, length, reverse, Bool, true, false, leb, ltb, Option, None, Some, option_and_then, position, slice_range, nat_lt, cond, pos, negsuc, ℤ, refl, sym, ap, subst, ◌∙◌, arith}
+use Rattle.std.proofs.Common.{◌≡◌, ℕ, ◌+◌, ◌-◌, ◌<◌, ◌≤◌, List, [], ◌∷◌, ◌++◌, length, reverse, true, false, leb, Option, None, Some, position, slice_range, nat_lt, cond, pos, negsuc, refl, sym, arith}
 use Rattle.std.proofs.lemmas.Bool.Decides.{nat_tests}
-use Rattle.fill_text.specs.Data.{SheetData, TableData, nth, cell_at, key_at, table_cell_at}
-use Rattle.fill_tables.specs.Keys.{IsKeyedRow, KeysDistinguish}
+use Rattle.fill_text.specs.Data.{SheetData, TableData, nth, cell_at, table_cell_at}
+use Rattle.fill_tables.specs.Keys.{KeysDistinguish}
 use Rattle.fill_tables.specs.Rows.{has_cells}
 use Rattle.fill_tables.proofs.Found.{find-None, find-Some}
 use Rattle.fill_tokens.specs.Value.{HasValue}
@@ -12,8 +12,7 @@ use Rattle.fill_tokens.proofs.CutLaws.{from_left, from_right}
 use Rattle.fill_tokens.proofs.ListsExist.{cuts_exist}
 use Rattle.fill_tokens.proofs.ValueLaws.{one_value}
 use Rattle.fill_tree.specs.Tree.{SourceTree, AtomTree, Atoms, col, select, constant, whole, sub, end, more}
-use Rattle.fill_tree.specs.Value.{IsValue, LooksUp, IsFilled, IsPieceBetween, IsHeadAndTail, IsJoined, SourceIs, AtomIs, ConditionIs, ConditionsAre, ProgramIs}
-use Rattle.fill_tree.proofs.ValueLaws.{keyed_row_one}
+use Rattle.fill_tree.specs.Value.{IsValue, LooksUp, IsFilled, IsPieceBetween, IsHeadAndTail, IsJoined, SourceIs, AtomIs, ConditionIs, ConditionsAre}
 use Rattle.fill_eval.proofs.Values.{none_is, some_is, has, only, never, alike}
 use Rattle.fill_eval.proofs.Lookups.{looked_up, no_row, no_key}
 use Rattle.fill_eval.proofs.Pieces.{filled_some, filled_none, filled_of, filled_of_none, between_some, between_none, between_apart, between_of, between_of_none, atom_filled}

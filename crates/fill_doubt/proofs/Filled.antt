@@ -1,5 +1,5 @@
 -- Something stands in each set, and what stands in a set by the set's items.
-use Rattle.std.proofs.Common.{◌≡◌, ◌↔◌, ℕ, List, Option, Some, slice_get, refl, subst}
+use Rattle.std.proofs.Common.{◌≡◌, ◌↔◌, ℕ, List, Some, slice_get, refl, subst}
 use Rattle.fill_tokens.specs.declared.place.Place.{Place}
 use Rattle.fill_tree.specs.Tree.{SourceTree, AtomTree, col, constant, whole, sub}
 use Rattle.fill_arena.specs.Contents.{In, SomeIn, IsAtomSet, IsPlaceSet}

@@ -1,5 +1,5 @@
 -- What is told of a graph's programs, by what is found on its edges.
-use Rattle.std.proofs.Common.{◌≡◌, ◌↔◌, ℕ, zero, suc, ◌-◌, ◌≤◌, List, [], ◌∷◌, ◌++◌, length, take, drop, refl, ap, Bool, true, false, Option, None, Some, Result, Ok, Err, IfOk, OnOk, IsTrue, MatchBool, MatchOption, slice_get, ◌∙◌, sym, subst, arith}
+use Rattle.std.proofs.Common.{◌≡◌, ◌↔◌, ℕ, zero, suc, ◌-◌, List, [], ◌∷◌, ◌++◌, length, take, drop, refl, ap, Bool, true, false, Option, None, Some, Result, Ok, Err, IfOk, OnOk, IsTrue, MatchBool, MatchOption, slice_get, ◌∙◌, sym, subst, arith}
 use Rattle.std.proofs.lemmas.Bool.{false≢true}
 use Rattle.std.proofs.lemmas.List.{take_all, take-append-le}
 use Rattle.fill_arena.specs.Contents.{HasEdges, HasNodes, SomeIn}
@@ -36,6 +36,14 @@ match_map false h f g = g h
 pub match_none : {A : Type 0} (P : Type 0) (Q : A → Type 0) (o : Option A) → MatchOption o P Q → o ≡ None → P
 match_none P Q None h e = h
 match_none P Q (Some x) h e = absurd cc
+
+pub match_some : {A : Type 0} (P : Type 0) (Q : A → Type 0) (o : Option A) (x : A) → MatchOption o P Q → o ≡ Some x → Q x
+match_some P Q None x h e = absurd cc
+match_some P Q (Some y) x h e = let one : y ≡ x = cc in subst Q one h
+
+pub match_option : {A P Q : Type 0} {R S : A → Type 0} (o : Option A) → MatchOption o P R → (P → Q) → ((x : A) → R x → S x) → MatchOption o Q S
+match_option None h f g = f h
+match_option (Some x) h f g = g x h
 
 -- what a slice that was lent gives back
 pub written : {A : Type 0} (new rest : List A) (n : ℕ) → n ≡ length new → take n (new ++ rest) ≡ new

@@ -3,9 +3,9 @@ use Rattle.std.proofs.Common.{◌≡◌, ◌↔◌, ◌⊎◌, inl, inr, ⊎_eli
 use Rattle.std.proofs.lemmas.Bool.{cases_lt, false≢true}
 use Rattle.std.proofs.lemmas.Bool.Decides.{nat_tests}
 use Rattle.std.proofs.lemmas.Option.{slice_get_within}
-use Rattle.fill_arena.specs.Contents.{In, SomeIn}
+use Rattle.fill_arena.specs.Contents.{SomeIn}
 use Rattle.fill_arena.proofs.Lists.{get_left, get_last, get_pushed}
-use Rattle.fill_doubt.specs.Answers.{Have, Gains, Lack, AreJoined}
+use Rattle.fill_doubt.specs.Answers.{Have, Gains, GainsSome, Lack, AreJoined}
 
 -- one of the first items has the property
 abbrev pub SomeBelow : {A : Type 0} → ℕ → List A → (A → Type 0) → Type 0
@@ -27,6 +27,18 @@ module _ {A : Type 0} where
     (λ h. (gains o).1 (⊎_elim (λ l. inl l) (λ s. inr ((same o).1 s)) h)),
   )
 
+  pub some_more : (a b c R : Option A → Type 0) → GainsSome a b R → GainsSome b c R → GainsSome a c R
+  some_more a b c R first second o h = ⊎_elim (λ l. first o l) (λ r. inr r) (second o h)
+
+  pub some_into : (a b R S : Option A → Type 0) → ((o : Option A) → R o → S o) → GainsSome a b R → GainsSome a b S
+  some_into a b R S into gains o h = ⊎_elim (λ l. inl l) (λ r. inr (into o r)) (gains o h)
+
+  pub gains_some : (a b R : Option A → Type 0) → Gains a b R → GainsSome a b R
+  gains_some a b R gains o h = (gains o).0 h
+
+  pub some_all : (a b R : Option A → Type 0) → ((o : Option A) → ¬ (a o)) → GainsSome a b R → (o : Option A) → b o → R o
+  some_all a b R none gains o h = ⊎_elim (λ l. absurd (none o l)) (λ r. r) (gains o h)
+
   -- where there were none before
   pub gains_all : (a b R : Option A → Type 0) → ((o : Option A) → ¬ (a o)) → Gains a b R → (o : Option A) → b o ↔ R o
   gains_all a b R none gains o = ((λ h. ⊎_elim (λ l. absurd (none o l)) (λ r. r) ((gains o).0 h)), (λ r. (gains o).1 (inr r)))
@@ -46,6 +58,9 @@ module _ {A : Type 0} where
               let one : h.1 ≡ x = cc in
               inr (subst (λ y. F y o) one h.4)) (cases_lt h.0 i)),
         )) (gains_then a b c (λ o. SomeBelow i xs (λ y. F y o)) (F x) first second)
+
+    pub below_some : (a b : Option A → Type 0) (i : ℕ) → Gains a b (λ o. SomeBelow i xs (λ y. F y o)) → GainsSome a b (λ o. SomeIn (λ y. F y o) xs)
+    below_some a b i gains o h = ⊎_elim (λ l. inl l) (λ r. inr (r.1, (r.0, r.3), r.4)) ((gains o).0 h)
 
     pub below_end : (a b : Option A → Type 0) (i : ℕ) → length xs ≤ i → Gains a b (λ o. SomeBelow i xs (λ y. F y o)) → Gains a b (λ o. SomeIn (λ y. F y o) xs)
     below_end a b i past gains = gains_alike a b (λ o. SomeBelow i xs (λ y. F y o)) (λ o. SomeIn (λ y. F y o) xs) (λ o. (

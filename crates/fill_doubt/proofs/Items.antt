@@ -1,5 +1,5 @@
 -- The answers of sets, by the items that the sets list.
-use Rattle.std.proofs.Common.{◌≡◌, ◌↔◌, ◌⊎◌, inl, inr, ⊎_elim, ℕ, ◌≤◌, length, List, [], ◌∷◌, Bool, true, false, ◌||◌, Option, None, Some, option_map, slice_get, refl, sym, ap, subst, ◌∙◌}
+use Rattle.std.proofs.Common.{◌≡◌, ◌↔◌, ◌⊎◌, inl, inr, ⊎_elim, ℕ, ◌≤◌, length, List, [], ◌∷◌, Bool, true, false, ◌||◌, Option, None, Some, IfSome, option_map, slice_get, refl, sym, ap, subst, ◌∙◌}
 use Rattle.std.proofs.lemmas.Bool.{false≢true}
 use Rattle.fill_text.specs.Data.{SheetData, TableData, cell_at}
 use Rattle.fill_tokens.specs.Value.{HasValue}
@@ -8,7 +8,7 @@ use Rattle.fill_tokens.proofs.ValueLaws.{value_within}
 use Rattle.fill_tree.specs.Grammar.{IsPart, HasPart}
 use Rattle.fill_tree.specs.Tree.{SourceTree, AtomTree, Atoms, col, select, constant, whole, sub, end, more}
 use Rattle.fill_tree.specs.Value.{IsValue, LooksUp, IsFilled, IsPieceBetween, IsHeadAndTail, SourceIs, AtomIs, ConditionIs, ConditionsAre}
-use Rattle.fill_arena.specs.Contents.{In, SomeIn, IsPlaceSet}
+use Rattle.fill_arena.specs.Contents.{SomeIn, IsPlaceSet}
 use Rattle.fill_arena.specs.Stands.{AtomFits, AtomStands, SourceFits, SourceStands, PlaceStands, ConditionFits, ConditionsFit}
 use Rattle.fill_arena.specs.declared.entry.AtomItem.{AtomItem}
 use Rattle.fill_arena.specs.declared.entry.AtomItem.TheVariants.{Const, Whole, Sub}
@@ -18,15 +18,17 @@ use Rattle.fill_arena.specs.declared.entry.Entry.TheVariants as kind
 use Rattle.fill_arena.specs.declared.entry.SelectItem.{SelectItem}
 use Rattle.fill_arena.specs.declared.entry.SourceItem.{SourceItem}
 use Rattle.fill_arena.specs.declared.entry.SourceItem.TheVariants.{Col, Select}
+use Rattle.fill_eval.specs.Piece.{IsWithin, piece_text}
+use Rattle.fill_eval.specs.declared.piece.Piece.{Piece}
 use Rattle.fill_eval.proofs.Values.{none_is, has, only, never, alike}
 use Rattle.fill_eval.proofs.Pieces.{filled_of, filled_of_none, between_of, between_of_none}
 use Rattle.fill_doubt.specs.Answers.{AreBetween, between, AreJoined, PiecesHave}
-use Rattle.fill_doubt.specs.Gives.{PlaceGives, SubGives, WholeOf, AreWholes, PieceOf, ArePiecesOf}
+use Rattle.fill_doubt.specs.Gives.{PlaceGives, SubGives, WholeOf, AreWholes, ArePiecesOf}
 use Rattle.fill_doubt.specs.Known.{IsOnRow, SourceAnswers, AtomAnswers, PartAnswers, SourceItemAnswers, PartItemAnswers, ConstantItemAnswers, ConditionPartAnswers, IsChoiceOf, ChoiceAnswers, IsRowOf, RowAnswers}
 use Rattle.fill_doubt.specs.Rows.{Choice, RowText, ChosenBy, ChoicesHave, in_front, RowFinds, AreFound, is_part, has_part}
 use Rattle.fill_doubt.specs.declared.answers.Pieces.{Pieces}
 use Rattle.fill_doubt.specs.declared.row.OnRow.{OnRow}
-use Rattle.fill_doubt.proofs.Answered.{Answered, answer_one, place_answer, between_is, source_answer, conditions_answer, condition_answer, put_front, head_is, lookup_answer}
+use Rattle.fill_doubt.proofs.Answered.{answer_one, place_answer, between_is, source_answer, conditions_answer, condition_answer, put_front, head_is}
 use Rattle.fill_doubt.proofs.Filled.{atom_items, items_atom, source_items, items_source, place_stands}
 
 -- pieces between places of two sets, by the sets' positions
@@ -53,6 +55,14 @@ between_gives c lefts rights t L R l r o =
 
 pub ends_within : (c : List Entry) (rights : ℕ) (t : List ℕ) (R : Option ℕ → Type 0) → ((o : Option ℕ) → R o ↔ PlaceGives c rights t o) → (b : ℕ) → R (Some b) → b ≤ length t
 ends_within c rights t R r b h = let p = (r (Some b)).0 h in value_within p.0 t b (has (HasValue p.0 t) b p.2)
+
+-- by some of the positions
+pub some_between : (c : List Entry) (lefts rights : ℕ) (t : List ℕ) (L R : Option ℕ → Type 0) → ((o : Option ℕ) → L o → PlaceGives c lefts t o) → ((o : Option ℕ) → R o → PlaceGives c rights t o)
+    → (o : Option (List ℕ)) → AreBetween t L R o → SubGives c lefts rights t o
+some_between c lefts rights t L R l r o h = (sub_gives c lefts rights t o).0 (h.0, h.1, l h.0 h.2, r h.1 h.3, h.4)
+
+pub ends_sound : (c : List Entry) (rights : ℕ) (t : List ℕ) (R : Option ℕ → Type 0) → ((o : Option ℕ) → R o → PlaceGives c rights t o) → (b : ℕ) → R (Some b) → b ≤ length t
+ends_sound c rights t R r b h = let p = r (Some b) h in value_within p.0 t b (has (HasValue p.0 t) b p.2)
 
 -- what a property with an answer becomes where its text is taken whole or in pieces
 pub whole_of : (P : List ℕ → Type 0) (t o : Option (List ℕ)) → IsValue P t → WholeOf t o ↔ IsValue (IsFilled P) o
@@ -408,7 +418,16 @@ module _ (on : OnRow) (ok : IsOnRow on) where
         (λ a. (gains o).1 (⊎_elim (λ l. inl ((parts o).1 l)) (λ r. inr r) (both.1 a))),
       )
 
+  pub part_answers : (s : ℕ) (items : List AtomItem) → slice_get arena s ≡ Some (kind.Atoms items) → (k : ℕ) (i : AtomItem) → slice_get items k ≡ Some i → (o : Option (List ℕ)) → PartItemAnswers on i o → AtomAnswers on s o
+  part_answers s items is k i at o h = (atoms_listed s items is o).0 (inl ((parts_listed s items is o).0 (i, (k, at), h)))
+
 pub no_constant : (i : AtomItem) → ((t : List ℕ) → ¬ (i ≡ Const t)) → (o : Option (List ℕ)) → ¬ (ConstantItemAnswers i o)
 no_constant (Const t) not o h = not t refl
 no_constant (Whole b) not o h = h
 no_constant (Sub b l r) not o h = h
+
+pub constant_answers : (i : AtomItem) (t u : List ℕ) (o : Option Piece) → i ≡ Const t → u ≡ t → IsValue (IsFilled (λ v. v ≡ u)) (option_map piece_text o) → IfSome o IsWithin
+    → IfSome o (λ piece. IsWithin piece × ConstantItemAnswers i (Some (piece_text piece)))
+constant_answers i t u None is same value within = tt
+constant_answers i t u (Some x) is same value within =
+    (within, subst (λ (j : AtomItem). ConstantItemAnswers j (Some (piece_text x))) (sym is) (subst (λ (w : List ℕ). IsValue (IsFilled (λ v. v ≡ w)) (Some (piece_text x))) same value))

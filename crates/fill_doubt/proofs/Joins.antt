@@ -7,12 +7,11 @@ use Rattle.fill_arena.proofs.Lists.{get_there}
 use Rattle.fill_tokens.specs.Value.{HasValue}
 use Rattle.fill_tokens.specs.declared.place.Place.{Place}
 use Rattle.fill_tree.specs.Value.{IsValue}
-use Rattle.fill_arena.specs.Contents.{In, SomeIn}
+use Rattle.fill_arena.specs.Contents.{SomeIn}
 use Rattle.fill_arena.specs.declared.entry.Entry.{Entry}
 use Rattle.fill_arena.specs.declared.entry.Entry.TheVariants.{Places}
 use Rattle.fill_eval.specs.Piece.{piece_text}
-use Rattle.fill_eval.specs.declared.piece.Piece.{Piece}
-use Rattle.fill_doubt.specs.Answers.{Have, Gains, Lack, AreJoined, AreBetween, AreBetweenFrom, between, PositionsHave, PiecesHave}
+use Rattle.fill_doubt.specs.Answers.{Have, Gains, Lack, AreJoined, AreBetween, AreBetweenFrom, between, PositionsHave}
 use Rattle.fill_doubt.specs.Gives.{PlaceGives}
 use Rattle.fill_doubt.specs.Rows.{Choice, RowText, RowsHave, ChosenBy, ChoicesHave, in_front, AreInFront, cells_row, choice_of}
 use Rattle.fill_doubt.specs.declared.answers.Pieces.{Pieces}

@@ -1,5 +1,5 @@
 -- The one text that all programs answer, with a length for each node.
-use Rattle.std.proofs.Common.{◌≡◌, ◌≢◌, ℕ, zero, suc, ◌+◌, ◌-◌, ◌<◌, ◌≤◌, ◌⊎◌, inl, inr, ⊎_elim, List, [], ◌∷◌, ◌++◌, length, drop, set, Option, Some, None, slice_get, refl, sym, ap, ◌∙◌, subst, arith, append_assoc, length-append}
+use Rattle.std.proofs.Common.{◌≡◌, ℕ, ◌+◌, ◌-◌, ◌<◌, ◌≤◌, ◌⊎◌, inl, inr, ⊎_elim, List, [], ◌∷◌, ◌++◌, length, drop, set, Option, Some, None, slice_get, refl, sym, ap, ◌∙◌, subst, arith, append_assoc, length-append}
 use Rattle.std.proofs.lemmas.List.{append-nil, drop_at, drop-drop, length-drop}
 use Rattle.std.proofs.lemmas.Option.{slice_get_within}
 use Rattle.std.proofs.lemmas.Bool.{cases_lt, cases_eq}
@@ -9,7 +9,7 @@ use Rattle.fill_arena.specs.declared.entry.Edge.{Edge}
 use Rattle.fill_eval.specs.Piece.{piece_text}
 use Rattle.fill_eval.specs.declared.piece.Piece.{Piece}
 use Rattle.fill_doubt.specs.Walks.{joined, Spells, Reads, Differs, IsAt, AreLaid, Agrees, Clashes, KeepsLengths, EdgeAgrees, EdgeClashes}
-use Rattle.fill_doubt.proofs.Spelling.{AreFine, spells_append, reads_append, reads_edge, last_reads, lack_differs}
+use Rattle.fill_doubt.proofs.Spelling.{AreFine, reads_append, reads_edge, last_reads, lack_differs}
 use Rattle.fill_doubt.proofs.Tables.{set_same, set_other}
 
 -- the first edges' answers all stand in the text

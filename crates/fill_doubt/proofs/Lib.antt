@@ -6,6 +6,7 @@ mod Items
 mod Joins
 mod Laid
 mod Maps
+mod Marked
 mod Marks
 mod Programs
 mod Rising

@@ -1,20 +1,18 @@
 -- What walks spell is what the programs of a graph answer.
-use Rattle.std.proofs.Common.{◌≡◌, ◌↔◌, ℕ, ◌-◌, ◌<◌, List, [], ◌∷◌, Option, None, Some, slice_get, refl, sym, ap, subst, ◌∙◌}
+use Rattle.std.proofs.Common.{◌≡◌, ◌↔◌, ℕ, ◌-◌, List, [], ◌∷◌, Option, Some, slice_get, refl, sym, subst}
 use Rattle.fill_text.specs.Data.{SheetData, TableData}
 use Rattle.fill_tables.specs.Keys.{KeysDistinguish}
-use Rattle.fill_tree.specs.Tree.{AtomTree, Atoms, end, more}
+use Rattle.fill_tree.specs.Tree.{Atoms, end, more}
 use Rattle.fill_tree.specs.Value.{IsValue, AtomIs, ProgramIs}
-use Rattle.fill_arena.specs.Contents.{In, IsAtomSet}
-use Rattle.fill_arena.specs.Stands.{AtomStands, Walks}
-use Rattle.fill_arena.specs.WellMade.{IsWellMade, IsGraphOf, IsSourceItem, IsAtomItem}
+use Rattle.fill_arena.specs.Stands.{Walks}
+use Rattle.fill_arena.specs.WellMade.{IsWellMade, IsGraphOf}
 use Rattle.fill_arena.specs.declared.entry.Edge.{Edge}
 use Rattle.fill_arena.specs.declared.entry.Entry.{Entry}
-use Rattle.fill_arena.specs.declared.entry.Entry.TheVariants.{Places, Sources, Atoms as Listed, Graph}
-use Rattle.fill_arena.proofs.Lists.{get_there}
+use Rattle.fill_arena.specs.declared.entry.Entry.TheVariants.{Graph}
 use Rattle.fill_eval.proofs.Values.{some_is}
 use Rattle.fill_doubt.specs.Gives.{AtomGives, ProgramGives, Differ}
 use Rattle.fill_doubt.specs.Walks.{joined, Spells, Reads, Differs}
-use Rattle.fill_doubt.proofs.Answered.{Answered, answer_one, joined_is, atom_answer}
+use Rattle.fill_doubt.proofs.Answered.{answer_one, joined_is, atom_answer}
 use Rattle.fill_doubt.proofs.Filled.{atom_stands}
 use Rattle.fill_doubt.proofs.Spelling.{AreFine}
 

@@ -1,12 +1,12 @@
 -- The sets and the graph of a small arena.
-use Rattle.std.proofs.Common.{◌≡◌, ℕ, zero, suc, ◌+◌, ◌-◌, ◌<◌, ◌≤◌, inl, List, [], ◌∷◌, length, slice_get, None, Some, refl, sym, ap, subst, arith}
+use Rattle.std.proofs.Common.{◌≡◌, ℕ, zero, suc, ◌<◌, ◌≤◌, inl, List, [], ◌∷◌, length, slice_get, None, Some, refl, sym, ap, subst, arith}
 use Rattle.std.proofs.lemmas.Option.{slice_get_within}
-use Rattle.fill_arena.specs.Contents.{In, EachIn, IsPlaceSet, IsSourceSet, IsAtomSet, Extends}
+use Rattle.fill_arena.specs.Contents.{EachIn, IsPlaceSet, IsSourceSet, IsAtomSet, Extends}
 use Rattle.fill_tree.specs.Grammar.{source_depth, atom_depth}
 use Rattle.fill_tree.specs.Tree.{SourceTree, AtomTree, col, select, constant, whole, sub, end, more}
 use Rattle.fill_arena.specs.Stands.{AtomFits, ConditionFits, SourceFits}
 use Rattle.fill_arena.specs.WellMade.{AreAtoms, AreSources, IsAtomItem, IsConditionItem, IsEdge, IsGraphOf, IsSourceItem, OlderAtoms, OlderPlaces, OlderSources, Path}
-use Rattle.fill_arena.specs.declared.entry.AtomItem.TheVariants.{Const, Whole, Sub}
+use Rattle.fill_arena.specs.declared.entry.AtomItem.TheVariants.{Whole}
 use Rattle.fill_arena.specs.declared.entry.ConditionItem.{ConditionItem}
 use Rattle.fill_arena.specs.declared.entry.SelectItem.{SelectItem}
 use Rattle.fill_arena.specs.declared.entry.SourceItem.{SourceItem}

@@ -1,6 +1,6 @@
 -- Lists of answers, and what is added to them.
 use Rattle.std.specs.Prelude.{◌≡◌, ◌↔◌, ◌⊎◌, ℕ, List, Bool, true, Option, None, Some, nat_lt, if◌then◌else◌, slice_range}
-use Rattle.fill_arena.specs.Contents.{In, SomeIn}
+use Rattle.fill_arena.specs.Contents.{SomeIn}
 use Rattle.fill_eval.specs.Piece.{piece_text}
 use Rattle.fill_doubt.specs.declared.answers.Texts.{Texts}
 use Rattle.fill_doubt.specs.declared.answers.Pieces.{Pieces}
@@ -23,6 +23,10 @@ PositionsHave f = Have (λ x. x) f.positions.items f.none
 -- the answers are the old ones and those of the property
 abbrev pub Gains : {A : Type 0} → (Option A → Type 0) → (Option A → Type 0) → (Option A → Type 0) → Type 0
 Gains {A} old new R = (o : Option A) → new o ↔ (old o ⊎ R o)
+
+-- the answers are old ones or some of those of the property
+abbrev pub GainsSome : {A : Type 0} → (Option A → Type 0) → (Option A → Type 0) → (Option A → Type 0) → Type 0
+GainsSome {A} old new R = (o : Option A) → new o → old o ⊎ R o
 
 -- no value on the one side goes with some answer of the other
 abbrev pub Lack : {A B : Type 0} → (Option A → Type 0) → (Option B → Type 0) → Type 0

@@ -1,4 +1,5 @@
 pub mod Answers
+pub mod Cuts
 pub mod Gives
 pub mod Known
 pub mod Rows

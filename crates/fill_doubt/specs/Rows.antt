@@ -1,5 +1,5 @@
 -- The texts of conditions, one for each, and what lookups find by them.
-use Rattle.std.specs.Prelude.{◌≡◌, ℕ, List, [], ◌∷◌, Bool, true, false, ◌||◌, Option, None, Some, map}
+use Rattle.std.specs.Prelude.{◌≡◌, ℕ, List, ◌∷◌, Bool, true, false, ◌||◌, Option, None, Some, map}
 use Rattle.fill_text.specs.Data.{TableData}
 use Rattle.fill_tree.specs.Tree.{AtomTree, Atoms, constant, whole, sub, end, more}
 use Rattle.fill_tree.specs.Value.{IsValue, LooksUp}

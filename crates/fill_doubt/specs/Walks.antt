@@ -1,6 +1,6 @@
 -- What walks over a graph's edges spell, for the answers of each edge.
-use Rattle.std.specs.Prelude.{◌≡◌, ◌≢◌, ◌⊎◌, ℕ, ◌+◌, ◌<◌, List, [], ◌∷◌, ◌++◌, Bool, true, Option, None, Some, slice_get, length, drop}
-use Rattle.fill_arena.specs.Contents.{In, SomeIn}
+use Rattle.std.specs.Prelude.{◌≡◌, ◌≢◌, ◌⊎◌, ℕ, ◌+◌, List, [], ◌∷◌, ◌++◌, Bool, true, Option, None, Some, slice_get, length, drop}
+use Rattle.fill_arena.specs.Contents.{In}
 use Rattle.fill_arena.specs.declared.entry.Edge.{Edge}
 
 -- the answer of two programs one after the other

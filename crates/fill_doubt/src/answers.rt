@@ -2,7 +2,7 @@
 //!
 //! Texts are lent by the sheet, the tables and the arena; a piece is a range of such a text, and pieces are compared in
 //! place.
-ghost use Rattle.std.specs.Prelude.{◌≡◌, ◌↔◌, ℕ, List as Items, Option, None, Some, true, IsTrue, IfOk, OnOk};
+ghost use Rattle.std.specs.Prelude.{◌≡◌, ◌↔◌, ℕ, List as Items, Option, None, Some, true, IsTrue, IfOk, OnOk, MatchOption};
 ghost use Rattle.fill_arena.specs.Contents.{EachIn, SomeIn};
 ghost use Rattle.fill_eval.specs.Piece.{IsWithin, piece_text};
 ghost use Rattle.fill_doubt.specs.Answers.{Gains, PiecesHave, PositionsHave, TextsHave};
@@ -131,6 +131,26 @@ impl<'a> Pieces<'a> {
         self.none = true;
     }
 
+    /// Whether there are two answers or more. What is found does not depend on it, but how soon.
+    pub(crate) fn are_several(&self) -> bool {
+        if self.none {
+            return self.pieces.len() > 0;
+        }
+        self.pieces.len() > 1
+    }
+
+    /// One of the pieces, if there is one.
+    pub(crate) fn first(&self) -> Option<Piece<'a>>
+        requires within { EachIn IsWithin self.now.pieces.items }
+        ensures { MatchOption result ((t : Items ℕ) → ¬ (PiecesHave self.now (Some t))) (λ piece. IsWithin piece × PiecesHave self.now (Some (piece_text piece))) }
+    {
+        if self.pieces.len() == 0 {
+            return None;
+        }
+        let first = self.pieces[0];
+        Some(first)
+    }
+
     pub(crate) fn copy(&self, alloc: Global) -> Result<Pieces<'a>, NoMemory>
         ensures { IfOk result (λ copied. (copied.pieces.items ≡ self.now.pieces.items) × (copied.none ≡ self.now.none)) }
     {
@@ -180,6 +200,23 @@ impl Positions {
             Ok(()) => Ok(()),
             Err(_) => Err(NoMemory),
         }
+    }
+
+    /// Whether there are two answers or more. What is found does not depend on it, but how soon.
+    pub(crate) fn are_several(&self) -> bool {
+        if self.none {
+            return self.positions.len() > 0;
+        }
+        self.positions.len() > 1
+    }
+
+    pub(crate) fn copy(&self, alloc: Global) -> Result<Positions, NoMemory>
+        ensures { IfOk result (λ copied. (copied.positions.items ≡ self.now.positions.items) × (copied.none ≡ self.now.none)) }
+    {
+        Ok(Positions {
+            positions: Vec::from_slice(alloc, self.positions.as_slice())?,
+            none: self.none,
+        })
     }
 
     /// Whether there is an answer.

@@ -5,6 +5,7 @@
 #![tactic(auto)]
 
 mod answers;
+mod cuts;
 mod graph;
 mod known;
 mod listing;
@@ -13,6 +14,7 @@ mod positions;
 mod row;
 mod rows;
 mod sets;
+mod some;
 mod valued;
 
 pub use graph::doubt;

@@ -1,5 +1,5 @@
 //! Whether all programs answer with the text that one of them has.
-ghost use Rattle.std.specs.Prelude.{◌≡◌, ◌+◌, ◌-◌, ◌<◌, ◌≤◌, ◌↔◌, ◌∷◌, ◌++◌, ℕ, List as Items, None, Some, length, drop, slice_get, IsTrue, IfOk, OnOk, MatchBool, MatchOption};
+ghost use Rattle.std.specs.Prelude.{◌≡◌, ◌+◌, ◌-◌, ◌<◌, ◌≤◌, ◌↔◌, ◌∷◌, ◌++◌, ℕ, List as Items, None, Some, length, drop, slice_get, false, IsTrue, IfOk, OnOk, MatchBool, MatchOption};
 ghost use Rattle.fill_arena.specs.Contents.{EachIn, In, IsAtomSet, SomeIn};
 ghost use Rattle.fill_arena.specs.declared.entry.Edge.{Edge as Listed};
 ghost use Rattle.fill_eval.specs.Piece.{IsWithin, piece_text};
@@ -12,6 +12,7 @@ use crate::answers::Pieces;
 use crate::known::Known;
 use crate::row::OnRow;
 use crate::sets::atoms_of;
+use crate::some::{first_piece, some_of};
 use fill_arena::Edge;
 use fill_text::{NoMemory, Text};
 use std::alloc::Global;
@@ -45,7 +46,7 @@ pub(crate) fn one_answer<'a>(
     Ok(Some(text))
 }
 
-/// Puts the edge's first text at the end, if it has one.
+/// Puts a text of the edge at the end, if it has one.
 fn append_first<'a>(
     on: &OnRow<'a>,
     known: &mut Known<'a>,
@@ -58,13 +59,13 @@ fn append_first<'a>(
     ensures known { OnOk result (AreKnown on.now known.new) }
     ensures appended { IfOk result (λ b. MatchBool b ((t : Items ℕ) × EdgeAnswers on.now e.now (Some t) × (text.new ≡ text.old ++ t)) ((t : Items ℕ) → ¬ (EdgeAnswers on.now e.now (Some t)))) }
 {
-    let found = atoms_of(on, known, e.atoms)?;
-    if found.pieces.len() == 0 {
-        return Ok(false);
+    match first_piece(on, known, e.atoms)? {
+        Some(first) => {
+            text.append_piece(first.text, first.from, first.to)?;
+            Ok(true)
+        }
+        None => Ok(false),
     }
-    let first = found.pieces[0];
-    text.append_piece(first.text, first.from, first.to)?;
-    Ok(true)
 }
 
 /// Whether some program answers otherwise than with the text.
@@ -109,6 +110,57 @@ fn first_length(alloc: Global, nodes: usize) -> Result<Vec<Option<usize>>, NoMem
 
 /// Notes where the edge's texts end. False where one of its atoms has no value or does not stand in the text there.
 fn follow_edge<'a>(
+    on: &OnRow<'a>,
+    known: &mut Known<'a>,
+    lengths: &mut [Option<usize>],
+    e: &Edge,
+    text: &[char],
+) -> Result<bool, NoMemory>
+    requires atoms { IsAtomSet on.now.arena.now e.now.atoms }
+    requires row { IsOnRow on.now }
+    requires known { AreKnown on.now known.old }
+    requires from { (a : ℕ) × IsAt lengths.old e.now.from a }
+    requires to { e.now.to < length lengths.old }
+    requires laid { (edges : Items Listed) × In e.now edges × AreLaid (EdgeAnswers on.now) edges text.now lengths.old }
+    ensures known { OnOk result (AreKnown on.now known.new) }
+    ensures keeps { KeepsLengths lengths.old lengths.new }
+    ensures laid { (edges : Items Listed) → In e.now edges → AreLaid (EdgeAnswers on.now) edges text.now lengths.old → AreLaid (EdgeAnswers on.now) edges text.now lengths.new }
+    ensures says { IfOk result (λ b. MatchBool b (EdgeAgrees (EdgeAnswers on.now) text.now lengths.new e.now) (EdgeClashes (EdgeAnswers on.now) text.now lengths.new e.now)) }
+{
+    if !follow_some(on, known, lengths, e, text)? {
+        return Ok(false);
+    }
+    follow_all(on, known, lengths, e, text)
+}
+
+/// Looks at some of the edge's texts.
+fn follow_some<'a>(
+    on: &OnRow<'a>,
+    known: &mut Known<'a>,
+    lengths: &mut [Option<usize>],
+    e: &Edge,
+    text: &[char],
+) -> Result<bool, NoMemory>
+    requires atoms { IsAtomSet on.now.arena.now e.now.atoms }
+    requires row { IsOnRow on.now }
+    requires known { AreKnown on.now known.old }
+    requires from { (a : ℕ) × IsAt lengths.old e.now.from a }
+    requires to { e.now.to < length lengths.old }
+    requires laid { (edges : Items Listed) × In e.now edges × AreLaid (EdgeAnswers on.now) edges text.now lengths.old }
+    ensures known { OnOk result (AreKnown on.now known.new) }
+    ensures keeps { KeepsLengths lengths.old lengths.new }
+    ensures laid { (edges : Items Listed) → In e.now edges → AreLaid (EdgeAnswers on.now) edges text.now lengths.old → AreLaid (EdgeAnswers on.now) edges text.now lengths.new }
+    ensures says { IfOk result (λ b. b ≡ false → EdgeClashes (EdgeAnswers on.now) text.now lengths.new e.now) }
+{
+    let found = some_of(on, known, e.atoms)?;
+    if found.none {
+        return Ok(false);
+    }
+    Ok(follow_pieces(lengths, e.from, e.to, &found, text))
+}
+
+/// Looks at all of them.
+fn follow_all<'a>(
     on: &OnRow<'a>,
     known: &mut Known<'a>,
     lengths: &mut [Option<usize>],

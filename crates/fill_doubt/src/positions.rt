@@ -1,41 +1,113 @@
 //! The positions that the places of a set have in a text, and the pieces between two sets' positions.
-ghost use Rattle.std.specs.Prelude.{◌≡◌, ◌↔◌, ◌<◌, ◌≤◌, ℕ, Option, None, Some, IsTrue, IfOk, OnOk, length};
+ghost use Rattle.std.specs.Prelude.{◌≡◌, ◌↔◌, ◌<◌, ◌≤◌, ℕ, Option, None, Some, false, IsTrue, IfOk, OnOk, length};
 ghost use Rattle.fill_arena.specs.Contents.{EachIn, IsPlaceSet};
 ghost use Rattle.fill_tokens.specs.Value.{HasValue};
 ghost use Rattle.fill_tree.specs.Value.{IsValue};
 ghost use Rattle.fill_eval.specs.Piece.{IsWithin};
 ghost use Rattle.fill_doubt.specs.Answers.{AreBetween, AreBetweenFrom, Gains, Lack, PiecesHave, PositionsHave, between};
+ghost use Rattle.fill_doubt.specs.Cuts.{AreCutsOf};
 ghost use Rattle.fill_doubt.specs.Gives.{PlaceGives};
+ghost use Rattle.fill_doubt.specs.Known.{AreKnown};
 
 use crate::answers::{Pieces, Positions};
+use crate::cuts::Cuts;
+use crate::known::Known;
+use crate::row::OnRow;
 use fill_arena::{Arena, PlaceSet};
 use fill_eval::Piece;
 use fill_text::{NoMemory, Text};
-use fill_tokens::{Place, place_value};
+use fill_tokens::Place;
 use std::alloc::Global;
 
-/// The positions of the set's places in the text.
-pub(crate) fn positions(
+/// The positions of the set's places in the text, which are found once for the row.
+pub(crate) fn positions_of<'a>(
+    on: &OnRow<'a>,
+    known: &mut Known<'a>,
+    s: PlaceSet,
+    text: &'a Text,
+) -> Result<Positions, NoMemory>
+    requires set { IsPlaceSet on.now.arena.now s }
+    requires known { AreKnown on.now known.old }
+    ensures known { OnOk result (AreKnown on.now known.new) }
+    ensures exact { IfOk result (λ found. (o : Option ℕ) → PositionsHave found o ↔ PlaceGives on.now.arena.now s text.now o) }
+{
+    if let Some(found) = known.position(s, text) {
+        return found.copy(on.alloc);
+    }
+    let mut found = Positions::new(on.alloc);
+    scan_places(on.alloc, on.arena, s, text, false, &mut found)?;
+    known.keep_position(s, text, found.copy(on.alloc)?)?;
+    Ok(found)
+}
+
+/// Positions of places of the set in the text: two answers, or all of them.
+pub(crate) fn some_positions<'a>(
+    on: &OnRow<'a>,
+    known: &mut Known<'a>,
+    s: PlaceSet,
+    text: &'a Text,
+) -> Result<Positions, NoMemory>
+    requires set { IsPlaceSet on.now.arena.now s }
+    requires known { AreKnown on.now known.old }
+    ensures known { OnOk result (AreKnown on.now known.new) }
+    ensures sound { IfOk result (λ found. (o : Option ℕ) → PositionsHave found o → PlaceGives on.now.arena.now s text.now o) }
+{
+    if let Some(found) = known.position(s, text) {
+        return found.copy(on.alloc);
+    }
+    let mut found = Positions::new(on.alloc);
+    if !scan_places(on.alloc, on.arena, s, text, true, &mut found)? {
+        return Ok(found);
+    }
+    known.keep_position(s, text, found.copy(on.alloc)?)?;
+    Ok(found)
+}
+
+fn may_stop(few: bool, found: &Positions) -> bool
+    ensures { few ≡ false → result ≡ false }
+{
+    few && found.are_several()
+}
+
+/// Puts the positions of the places to the answers; where few will do, only until there are two. It tells whether it looked
+/// at all places.
+fn scan_places(
     alloc: Global,
     arena: &Arena,
     s: PlaceSet,
     text: &Text,
-) -> Result<Positions, NoMemory>
-    requires { IsPlaceSet arena.now s }
-    ensures { IfOk result (λ found. (o : Option ℕ) → PositionsHave found o ↔ PlaceGives arena.now s text.now o) }
+    few: bool,
+    found: &mut Positions,
+) -> Result<bool, NoMemory>
+    requires set { IsPlaceSet arena.now s }
+    requires none { (o : Option ℕ) → ¬ (PositionsHave found.old o) }
+    ensures sound { OnOk result ((o : Option ℕ) → PositionsHave found.new o → PlaceGives arena.now s text.now o) }
+    ensures all { IfOk result (λ all. IsTrue all → (o : Option ℕ) → PlaceGives arena.now s text.now o → PositionsHave found.new o) }
+    ensures whole { IfOk result (λ all. few ≡ false → IsTrue all) }
 {
-    let mut found = Positions::new(alloc);
+    let mut cuts = Cuts::new(alloc);
     let places = arena.places(s);
     for i in 0..places.len() {
-        put_place(&mut found, &places[i], text)?;
+        if may_stop(few, found) {
+            return Ok(false);
+        }
+        put_place(alloc, found, &mut cuts, &places[i], text)?;
     }
-    Ok(found)
+    Ok(true)
 }
 
-fn put_place(found: &mut Positions, place: &Place, text: &Text) -> Result<(), NoMemory>
-    ensures { OnOk result (Gains (PositionsHave found.old) (PositionsHave found.new) (IsValue (HasValue place.now text.now))) }
+fn put_place(
+    alloc: Global,
+    found: &mut Positions,
+    cuts: &mut Cuts,
+    place: &Place,
+    text: &Text,
+) -> Result<(), NoMemory>
+    requires { AreCutsOf text.now cuts.old }
+    ensures kept { OnOk result (AreCutsOf text.now cuts.new) }
+    ensures gains { OnOk result (Gains (PositionsHave found.old) (PositionsHave found.new) (IsValue (HasValue place.now text.now))) }
 {
-    match place_value(place, text) {
+    match cuts.value_of(alloc, place, text)? {
         Some(position) => found.put(position),
         None => {
             found.none = true;

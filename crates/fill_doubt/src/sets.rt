@@ -14,7 +14,7 @@ ghost use Rattle.fill_doubt.specs.Rows.{RowText, RowsHave};
 
 use crate::answers::{Pieces, Texts};
 use crate::known::Known;
-use crate::positions::{positions, put_between};
+use crate::positions::{positions_of, put_between};
 use crate::row::OnRow;
 use crate::rows::{Rows, look_up, no_conditions, put_in_front};
 use fill_arena::{AtomItem, AtomSet, ConditionItem, PlaceSet, SelectItem, SourceItem, SourceSet};
@@ -23,7 +23,7 @@ use fill_text::{NoMemory, Text};
 
 /// The texts of the sources of a set.
 #[cycle(sets)]
-fn sources_of<'a>(
+pub(crate) fn sources_of<'a>(
     on: &OnRow<'a>,
     known: &mut Known<'a>,
     s: SourceSet,
@@ -241,13 +241,13 @@ fn put_part<'a>(
         }
         AtomItem::Sub(sources, lefts, rights) => {
             let texts = sources_of(on, known, *sources)?;
-            put_subs(on, &texts, *lefts, *rights, found)
+            put_subs(on, known, &texts, *lefts, *rights, found)
         }
     }
 }
 
 /// The texts that are not empty.
-fn put_wholes<'a>(texts: &Texts<'a>, found: &mut Pieces<'a>) -> Result<(), NoMemory>
+pub(crate) fn put_wholes<'a>(texts: &Texts<'a>, found: &mut Pieces<'a>) -> Result<(), NoMemory>
     requires within { EachIn IsWithin found.old.pieces.items }
     ensures within { EachIn IsWithin found.new.pieces.items }
     ensures gains { OnOk result (Gains (PiecesHave found.old) (PiecesHave found.new) (AreWholes (TextsHave texts.now))) }
@@ -276,6 +276,7 @@ fn put_whole<'a>(text: &'a Text, found: &mut Pieces<'a>) -> Result<(), NoMemory>
 /// The pieces of the texts between places of the two sets.
 fn put_subs<'a>(
     on: &OnRow<'a>,
+    known: &mut Known<'a>,
     texts: &Texts<'a>,
     lefts: PlaceSet,
     rights: PlaceSet,
@@ -283,19 +284,22 @@ fn put_subs<'a>(
 ) -> Result<(), NoMemory>
     requires lefts { IsPlaceSet on.now.arena.now lefts }
     requires rights { IsPlaceSet on.now.arena.now rights }
+    requires known { AreKnown on.now known.old }
     requires within { EachIn IsWithin found.old.pieces.items }
+    ensures known { OnOk result (AreKnown on.now known.new) }
     ensures within { OnOk result (EachIn IsWithin found.new.pieces.items) }
     ensures gains { OnOk result (Gains (PiecesHave found.old) (PiecesHave found.new) (ArePiecesOf on.now.arena.now lefts rights (TextsHave texts.now))) }
 {
     found.put_none(texts.none);
     for i in 0..texts.texts.len() {
-        put_pieces(on, texts.texts[i], lefts, rights, found)?;
+        put_pieces(on, known, texts.texts[i], lefts, rights, found)?;
     }
     Ok(())
 }
 
 fn put_pieces<'a>(
     on: &OnRow<'a>,
+    known: &mut Known<'a>,
     text: &'a Text,
     lefts: PlaceSet,
     rights: PlaceSet,
@@ -303,12 +307,14 @@ fn put_pieces<'a>(
 ) -> Result<(), NoMemory>
     requires lefts { IsPlaceSet on.now.arena.now lefts }
     requires rights { IsPlaceSet on.now.arena.now rights }
+    requires known { AreKnown on.now known.old }
     requires within { EachIn IsWithin found.old.pieces.items }
+    ensures known { OnOk result (AreKnown on.now known.new) }
     ensures within { OnOk result (EachIn IsWithin found.new.pieces.items) }
     ensures gains { OnOk result (Gains (PiecesHave found.old) (PiecesHave found.new) (SubGives on.now.arena.now lefts rights text.now)) }
 {
-    let lefts = positions(on.alloc, on.arena, lefts, text)?;
-    let rights = positions(on.alloc, on.arena, rights, text)?;
+    let lefts = positions_of(on, known, lefts, text)?;
+    let rights = positions_of(on, known, rights, text)?;
     put_between(found, text, &lefts, &rights)
 }
 

@@ -6,7 +6,7 @@ ghost use Rattle.fill_doubt.specs.Walks.{Follows, IsMarked, Reads};
 
 use crate::known::Known;
 use crate::row::OnRow;
-use crate::sets::atoms_of;
+use crate::some::first_piece;
 use fill_arena::Edge;
 use fill_text::NoMemory;
 use std::alloc::Global;
@@ -67,10 +67,11 @@ fn follow<'a>(
     if marks[e.to] {
         return Ok(());
     }
-    let found = atoms_of(on, known, e.atoms)?;
-    if found.pieces.len() == 0 {
-        return Ok(());
+    match first_piece(on, known, e.atoms)? {
+        Some(_) => {
+            marks[e.to] = true;
+            Ok(())
+        }
+        None => Ok(()),
     }
-    marks[e.to] = true;
-    Ok(())
 }

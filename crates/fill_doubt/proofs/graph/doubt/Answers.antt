@@ -1,9 +1,5 @@
-use Rattle.std.proofs.Common.{◌≡◌, ◌↔◌, ◌-◌, ◌<◌, ◌≤◌, ℕ, suc, length, drop, take, map, get_or, List, [], ◌∷◌, ◌++◌, Option, None, Some, true, false, inl, inr, ⊎_elim, IsTrue, slice_get, refl, sym, ap, subst, ◌∙◌, arith, rules}
-use Rattle.std.proofs.lemmas.Bool.{false≢true}
-use Rattle.fill_arena.proofs.Scan.{here}
-use Rattle.fill_arena.specs.Contents.{SomeIn}
 use Rattle.fill_arena.specs.declared.entry.Entry.TheVariants.{Graph}
-use Rattle.fill_doubt.specs.Known.{AreEdgesOn, EdgeAnswers, IsOnRow}
+use Rattle.fill_doubt.specs.Known.{AreEdgesOn, IsOnRow}
 use Rattle.fill_doubt.specs.declared.row.OnRow.{OnRow}
 use Rattle.fill_doubt.proofs.Flags.{if_ok, graph_there, match_none, by_differs, by_value}
 use Rattle.fill_doubt.proofs.graph.doubt.Goals as goal

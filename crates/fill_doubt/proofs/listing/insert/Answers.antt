@@ -1,8 +1,7 @@
-use Rattle.std.proofs.Common.{◌≡◌, ◌↔◌, ◌-◌, ◌<◌, ◌≤◌, ℕ, suc, length, drop, take, map, get_or, List, [], ◌∷◌, ◌++◌, Option, None, Some, true, false, inl, inr, ⊎_elim, IsTrue, slice_get, refl, sym, ap, subst, ◌∙◌, arith, rules}
+use Rattle.std.proofs.Common.{◌≡◌, List, Some, inl, ⊎_elim, slice_get, sym, subst, ◌∙◌}
 use Rattle.std.proofs.lemmas.Bool.{false≢true}
-use Rattle.fill_arena.proofs.Scan.{here}
 use Rattle.fill_arena.specs.Contents.{EachIn}
-use Rattle.fill_eval.specs.Piece.{IsWithin, piece_text}
+use Rattle.fill_eval.specs.Piece.{IsWithin}
 use Rattle.fill_eval.specs.declared.piece.Piece.{Piece}
 use Rattle.fill_doubt.proofs.Rising.{inserted_gains, inserted_rising, inserted_within}
 use Rattle.fill_doubt.proofs.listing.insert.Goals as goal

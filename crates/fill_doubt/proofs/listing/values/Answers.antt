@@ -1,5 +1,4 @@
-use Rattle.std.proofs.Common.{◌≡◌, ◌↔◌, ◌-◌, ◌<◌, ◌≤◌, ℕ, suc, length, drop, take, map, get_or, List, [], ◌∷◌, ◌++◌, Option, None, Some, true, false, inl, inr, ⊎_elim, IsTrue, slice_get, refl, sym, ap, subst, ◌∙◌, arith, rules}
-use Rattle.std.proofs.lemmas.Bool.{false≢true}
+use Rattle.std.proofs.Common.{◌≡◌, ◌↔◌, List, None, Some, sym, subst}
 use Rattle.fill_arena.specs.Contents.{EachIn, In, SomeIn}
 use Rattle.fill_eval.specs.Piece.{IsWithin, piece_text}
 use Rattle.fill_eval.specs.declared.piece.Piece.{Piece}

@@ -1,8 +1,6 @@
-use Rattle.std.proofs.Common.{◌≡◌, ◌↔◌, ◌-◌, ◌<◌, ◌≤◌, ℕ, suc, length, drop, take, map, get_or, List, [], ◌∷◌, ◌++◌, Option, None, Some, true, false, inl, inr, ⊎_elim, IsTrue, slice_get, refl, sym, ap, subst, ◌∙◌, arith, rules}
-use Rattle.std.proofs.lemmas.Bool.{false≢true}
+use Rattle.std.proofs.Common.{◌<◌, ◌≤◌, length, sym, arith}
 use Rattle.fill_arena.proofs.Scan.{here}
-use Rattle.fill_eval.specs.Piece.{piece_text}
-use Rattle.fill_doubt.proofs.Laid.{agrees_keep, pieces_more, pieces_all}
+use Rattle.fill_doubt.proofs.Laid.{pieces_more, pieces_all}
 use Rattle.fill_doubt.proofs.pass.follow_pieces.Goals as goal
 
 pub loop-i-init : goal.loop-i-init

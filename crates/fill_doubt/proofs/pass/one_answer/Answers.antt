@@ -1,10 +1,9 @@
-use Rattle.std.proofs.Common.{◌≡◌, ◌↔◌, ◌-◌, ◌<◌, ◌≤◌, ℕ, suc, length, drop, take, map, get_or, List, [], ◌∷◌, ◌++◌, Option, None, Some, true, false, inl, inr, ⊎_elim, IsTrue, slice_get, refl, sym, ap, subst, ◌∙◌, arith, rules}
-use Rattle.std.proofs.lemmas.Bool.{false≢true}
+use Rattle.std.proofs.Common.{ℕ, List, sym, subst}
 use Rattle.fill_arena.proofs.Scan.{here}
 use Rattle.fill_doubt.specs.Known.{EdgeAnswers}
 use Rattle.fill_doubt.proofs.Flags.{fine_on, lacks_one, match_false, match_true}
 use Rattle.std.proofs.Common.{◌+◌}
-use Rattle.fill_doubt.proofs.Walked.{IsWalked, walked_start, walked_more, walked_skip, walked_end}
+use Rattle.fill_doubt.proofs.Walked.{IsWalked, walked_start, walked_more, walked_end}
 use Rattle.fill_doubt.proofs.pass.one_answer.Goals as goal
 
 pub loop-i-init : goal.loop-i-init

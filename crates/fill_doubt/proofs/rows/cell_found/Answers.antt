@@ -1,6 +1,4 @@
-use Rattle.std.proofs.Common.{◌≡◌, ◌↔◌, ◌-◌, ◌<◌, ◌≤◌, ℕ, suc, length, drop, take, map, get_or, List, [], ◌∷◌, ◌++◌, Option, None, Some, true, false, inl, inr, ⊎_elim, IsTrue, slice_get, refl, sym, ap, subst, ◌∙◌, arith, rules}
-use Rattle.std.proofs.lemmas.Bool.{false≢true}
-use Rattle.fill_arena.proofs.Scan.{here}
+use Rattle.std.proofs.Common.{◌≡◌, map, [], refl, sym}
 use Rattle.fill_text.specs.Data.{SheetData}
 use Rattle.fill_eval.proofs.Lookups.{looked_up, no_row}
 use Rattle.fill_eval.proofs.Values.{some_is}

@@ -1,9 +1,6 @@
-use Rattle.std.proofs.Common.{◌≡◌, ◌↔◌, ◌-◌, ◌<◌, ◌≤◌, ℕ, suc, length, drop, take, map, get_or, List, [], ◌∷◌, ◌++◌, Option, None, Some, true, false, inl, inr, ⊎_elim, IsTrue, is_some, nat_lt, slice_get, refl, sym, ap, subst, ◌∙◌, arith, rules}
+use Rattle.std.proofs.Common.{◌≡◌, ◌↔◌, ◌<◌, ℕ, length, List, Option, None, Some, true, false, inl, inr, ⊎_elim, IsTrue, is_some, nat_lt, refl, sym, ◌∙◌, arith}
 use Rattle.std.proofs.lemmas.Bool.{false≢true}
-use Rattle.fill_arena.proofs.Scan.{here}
 use Rattle.std.proofs.lemmas.Bool.Decides.{nat_tests}
-use Rattle.fill_eval.specs.Piece.{piece_text}
-use Rattle.fill_doubt.specs.Rows.{ChoicesHave, choice_of}
 use Rattle.fill_doubt.proofs.Joins.{choices_first, choice_of_part, choice_of_constant}
 use Rattle.fill_doubt.proofs.rows.lack.Goals as goal
 

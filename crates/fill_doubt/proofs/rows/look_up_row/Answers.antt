@@ -1,6 +1,5 @@
-use Rattle.std.proofs.Common.{◌≡◌, ◌↔◌, ◌<◌, ◌≤◌, ℕ, length, drop, take, map, get_or, List, [], ◌∷◌, Option, None, Some, true, false, IsTrue, slice_get, refl, sym, ap, subst, ◌∙◌, arith, rules}
+use Rattle.std.proofs.Common.{◌≡◌, map, None, Some, true, sym, subst, ◌∙◌}
 use Rattle.std.proofs.lemmas.Bool.{false≢true}
-use Rattle.fill_arena.proofs.Scan.{here}
 use Rattle.fill_tree.specs.Value.{IsValue, LooksUp}
 use Rattle.fill_doubt.proofs.Answered.{answer_one}
 use Rattle.fill_doubt.proofs.Flags.{on_ok}

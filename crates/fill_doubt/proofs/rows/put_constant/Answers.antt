@@ -1,7 +1,5 @@
-use Rattle.std.proofs.Common.{◌≡◌, ◌↔◌, ◌-◌, ◌<◌, ◌≤◌, ℕ, suc, length, drop, take, map, get_or, List, [], ◌∷◌, ◌++◌, Option, None, Some, true, false, inl, inr, ⊎_elim, IsTrue, slice_get, refl, sym, ap, subst, ◌∙◌, arith, rules}
-use Rattle.std.proofs.lemmas.Bool.{false≢true}
-use Rattle.fill_arena.proofs.Scan.{here}
-use Rattle.fill_doubt.specs.Rows.{AreInFront, RowsHave, choice_of}
+use Rattle.std.proofs.Common.{◌≡◌, ℕ, List, Some, false, subst}
+use Rattle.fill_doubt.specs.Rows.{AreInFront, choice_of}
 use Rattle.fill_doubt.proofs.Flags.{on_ok}
 use Rattle.fill_doubt.proofs.Gains.{gains_alike, gains_none}
 use Rattle.fill_doubt.proofs.rows.put_constant.Goals as goal

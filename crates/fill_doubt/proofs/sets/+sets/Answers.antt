@@ -1,17 +1,15 @@
-use Rattle.std.proofs.Common.{◌≡◌, ◌↔◌, ◌-◌, ◌<◌, ◌≤◌, ℕ, suc, length, drop, take, map, List, [], ◌∷◌, ◌++◌, Option, None, Some, true, false, inl, inr, ⊎_elim, IsTrue, slice_get, refl, sym, ap, subst, ◌∙◌, arith, rules}
-use Rattle.std.proofs.lemmas.Bool.{false≢true}
+use Rattle.std.proofs.Common.{◌≡◌, ◌↔◌, ◌-◌, ℕ, suc, drop, List, ◌∷◌, Option, sym, ap, subst, ◌∙◌, arith, rules}
 use Rattle.fill_arena.proofs.Scan.{here}
 use Rattle.fill_arena.specs.Contents.{EachIn, SomeIn}
-use Rattle.fill_arena.specs.declared.entry.AtomItem.TheVariants as item
 use Rattle.fill_arena.specs.declared.entry.ConditionItem.{ConditionItem}
 use Rattle.fill_arena.specs.declared.entry.SourceItem.TheVariants as source
 use Rattle.fill_arena.specs.declared.entry.Entry.TheVariants.{Sources, Atoms}
 use Rattle.fill_eval.specs.Piece.{IsWithin, piece_text}
 use Rattle.fill_eval.specs.declared.piece.Piece.{Piece}
-use Rattle.fill_doubt.specs.Answers.{AreJoined, Gains, PiecesHave, TextsHave}
+use Rattle.fill_doubt.specs.Answers.{PiecesHave, TextsHave}
 use Rattle.fill_doubt.specs.Gives.{ArePiecesOf, AreWholes}
-use Rattle.fill_doubt.specs.Known.{ChoiceAnswers, ConditionPartAnswers, PartAnswers, PartItemAnswers, RowAnswers, SourceAnswers, SourceItemAnswers}
-use Rattle.fill_doubt.specs.Rows.{AreFound, ChoicesHave, RowText, RowsHave, in_front}
+use Rattle.fill_doubt.specs.Known.{PartAnswers, PartItemAnswers, RowAnswers, SourceAnswers, SourceItemAnswers}
+use Rattle.fill_doubt.specs.Rows.{AreFound, RowText, RowsHave}
 use Rattle.fill_doubt.proofs.Flags.{drop_here, drop_whole, if_ok, on_ok}
 use Rattle.fill_doubt.proofs.Gains.{below_start, below_more, below_end, gains_all, gains_alike, gains_none, have_same}
 use Rattle.fill_doubt.proofs.Items.{lookups_by, no_parts, no_rows, parts_listed, rows_by, sources_listed, subs_by, wholes_by}

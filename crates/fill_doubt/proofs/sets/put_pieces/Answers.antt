@@ -1,6 +1,3 @@
-use Rattle.std.proofs.Common.{◌≡◌, ◌↔◌, ◌<◌, ◌≤◌, ℕ, length, drop, take, map, get_or, List, [], ◌∷◌, Option, None, Some, true, false, IsTrue, slice_get, refl, sym, ap, subst, ◌∙◌, arith, rules}
-use Rattle.std.proofs.lemmas.Bool.{false≢true}
-use Rattle.fill_arena.proofs.Scan.{here}
 use Rattle.fill_doubt.specs.Answers.{AreBetween, PositionsHave}
 use Rattle.fill_doubt.specs.Gives.{SubGives}
 use Rattle.fill_doubt.proofs.Flags.{on_ok}
@@ -10,7 +7,7 @@ use Rattle.fill_doubt.proofs.sets.put_pieces.Goals as goal
 
 pub put_between-requires-clause-ends : goal.put_between-requires-clause-ends
 put_between-requires-clause-ends c =
-    ends_within c.args.on.now.arena.now c.args.rights c.args.text.now (PositionsHave c.in_ok-rights.rights) c.in_ok-rights.ensures
+    ends_within c.args.on.now.arena.now c.args.rights c.args.text.now (PositionsHave c.in_ok-rights.rights) c.in_ok-rights.ensures.exact
 
 pub returns-clause-gains : goal.returns-clause-gains
 returns-clause-gains c =
@@ -19,4 +16,4 @@ returns-clause-gains c =
     let L = PositionsHave c.in_ok-lefts.lefts in
     let R = PositionsHave c.in_ok-rights.rights in
     on_ok c.put_between.result c.put_between.ensures.gains
-    (gains_alike _ _ (AreBetween t L R) (SubGives arena c.args.lefts c.args.rights t) (between_gives arena c.args.lefts c.args.rights t L R c.in_ok-lefts.ensures c.in_ok-rights.ensures))
+    (gains_alike _ _ (AreBetween t L R) (SubGives arena c.args.lefts c.args.rights t) (between_gives arena c.args.lefts c.args.rights t L R c.in_ok-lefts.ensures.exact c.in_ok-rights.ensures.exact))

@@ -1,18 +1,17 @@
-use Rattle.std.proofs.Common.{◌≡◌, ◌↔◌, ◌-◌, ◌<◌, ◌≤◌, ℕ, suc, length, drop, take, map, get_or, List, [], ◌∷◌, ◌++◌, Option, None, Some, true, false, inl, inr, ⊎_elim, IsTrue, slice_get, refl, sym, ap, subst, ◌∙◌, arith, rules}
-use Rattle.std.proofs.lemmas.Bool.{false≢true}
+use Rattle.std.proofs.Common.{◌<◌, ◌≤◌, length, List, sym, ap, subst, arith}
 use Rattle.fill_arena.proofs.Scan.{here}
 use Rattle.fill_arena.specs.Contents.{EachIn}
-use Rattle.fill_tree.specs.Value.{IsFilled, IsValue}
 use Rattle.fill_eval.specs.Piece.{IsWithin}
 use Rattle.fill_eval.specs.declared.piece.Piece.{Piece}
 use Rattle.fill_doubt.specs.Answers.{PiecesHave}
-use Rattle.fill_doubt.specs.Gives.{PieceOf, SubGives, WholeOf}
+use Rattle.fill_doubt.specs.Gives.{PieceOf, SubGives}
 use Rattle.fill_doubt.proofs.Gains.{below_start, below_more, below_end}
 use Rattle.fill_doubt.proofs.Joins.{gains_made}
 use Rattle.fill_doubt.proofs.sets.put_subs.Goals as goal
 
 pub loop-i-init : goal.loop-i-init
 loop-i-init c = record {
+  known = c.requires.known;
   within = subst (λ (xs : List Piece). EachIn IsWithin xs) (sym (ap (λ v. v.items) c.put_none.ensures.kept)) c.requires.within;
   gains = below_start (λ x. SubGives c.args.on.now.arena.now c.args.lefts c.args.rights x.now) c.args.texts.now.texts.items (PiecesHave c.put_none.new.self);
 }
@@ -23,6 +22,7 @@ loop-i-preserved c =
     let x = c.index.result.now in
     let lt : c.loop-i.i < length xs.items = (let n = xs.ok.0 in let l = c.len-i-end.ensures in let t = c.loop-i-test.true in omega arith) in
     record {
+      known = c.in_ok-put_pieces.ensures.known;
       within = c.in_ok-put_pieces.ensures.within;
       gains = below_more (λ x. SubGives c.args.on.now.arena.now c.args.lefts c.args.rights x.now) xs.items (PiecesHave c.put_none.new.self) (PiecesHave c.loop-i.found) (PiecesHave c.put_pieces.new.found) c.loop-i.i x
           (here xs.items c.loop-i.i x lt c.index.ensures) c.loop-i.invariant.gains c.in_ok-put_pieces.ensures.gains;

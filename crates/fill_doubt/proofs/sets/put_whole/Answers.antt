@@ -1,6 +1,4 @@
-use Rattle.std.proofs.Common.{◌≡◌, ◌↔◌, ◌-◌, ◌<◌, ◌≤◌, ℕ, suc, length, drop, take, map, get_or, List, [], ◌∷◌, ◌++◌, Option, None, Some, true, false, inl, inr, ⊎_elim, IsTrue, slice_get, refl, sym, ap, subst, ◌∙◌, arith, rules}
-use Rattle.std.proofs.lemmas.Bool.{false≢true}
-use Rattle.fill_arena.proofs.Scan.{here}
+use Rattle.std.proofs.Common.{◌≡◌, None, Some, sym, subst}
 use Rattle.fill_tree.specs.Value.{IsFilled, IsValue}
 use Rattle.fill_eval.specs.Piece.{piece_text}
 use Rattle.fill_doubt.proofs.Answered.{answer_one}

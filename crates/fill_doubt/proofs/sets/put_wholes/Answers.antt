@@ -1,12 +1,11 @@
-use Rattle.std.proofs.Common.{◌≡◌, ◌↔◌, ◌-◌, ◌<◌, ◌≤◌, ℕ, suc, length, drop, take, map, get_or, List, [], ◌∷◌, ◌++◌, Option, None, Some, true, false, inl, inr, ⊎_elim, IsTrue, slice_get, refl, sym, ap, subst, ◌∙◌, arith, rules}
-use Rattle.std.proofs.lemmas.Bool.{false≢true}
+use Rattle.std.proofs.Common.{◌≡◌, ◌<◌, ◌≤◌, length, List, sym, ap, subst, arith}
 use Rattle.fill_arena.proofs.Scan.{here}
 use Rattle.fill_arena.specs.Contents.{EachIn}
 use Rattle.fill_tree.specs.Value.{IsFilled, IsValue}
 use Rattle.fill_eval.specs.Piece.{IsWithin}
 use Rattle.fill_eval.specs.declared.piece.Piece.{Piece}
 use Rattle.fill_doubt.specs.Answers.{PiecesHave}
-use Rattle.fill_doubt.specs.Gives.{PieceOf, SubGives, WholeOf}
+use Rattle.fill_doubt.specs.Gives.{WholeOf}
 use Rattle.fill_doubt.proofs.Gains.{below_start, below_more, below_end}
 use Rattle.fill_doubt.proofs.Joins.{gains_made}
 use Rattle.fill_doubt.proofs.sets.put_wholes.Goals as goal

@@ -1,8 +1,5 @@
-use Rattle.std.proofs.Common.{◌≡◌, ◌↔◌, ◌<◌, ◌≤◌, ℕ, length, drop, take, map, get_or, List, [], ◌∷◌, Option, None, Some, true, false, IsTrue, slice_get, refl, sym, ap, subst, ◌∙◌, arith, rules}
-use Rattle.std.proofs.lemmas.Bool.{false≢true}
-use Rattle.fill_arena.proofs.Scan.{here}
-use Rattle.std.proofs.lemmas.Bool.Decides.{nat_tests}
-use Rattle.fill_doubt.proofs.Gains.{have_first, have_positive}
+use Rattle.std.proofs.Common.{◌≡◌, length, None, refl, arith}
+use Rattle.fill_doubt.proofs.Gains.{have_positive}
 use Rattle.fill_doubt.proofs.answers.Positions.is_some.Goals as goal
 
 pub returns-then-self : goal.returns-then-self

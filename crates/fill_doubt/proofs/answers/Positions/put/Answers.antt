@@ -1,6 +1,4 @@
-use Rattle.std.proofs.Common.{◌≡◌, ◌↔◌, ◌<◌, ◌≤◌, ℕ, length, drop, take, map, get_or, List, [], ◌∷◌, Option, None, Some, true, false, IsTrue, slice_get, refl, sym, ap, subst, ◌∙◌, arith, rules}
-use Rattle.std.proofs.lemmas.Bool.{false≢true}
-use Rattle.fill_arena.proofs.Scan.{here}
+use Rattle.std.proofs.Common.{refl}
 use Rattle.fill_doubt.proofs.Gains.{have_there, have_pushed}
 use Rattle.fill_doubt.proofs.answers.Positions.put.Goals as goal
 

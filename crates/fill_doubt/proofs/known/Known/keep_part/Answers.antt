@@ -2,10 +2,8 @@ use Rattle.std.proofs.Common.{◌↔◌, ℕ, List, Option, nat_eq}
 use Rattle.std.specs.HashMap.{get}
 use Rattle.fill_arena.specs.Contents.{EachIn}
 use Rattle.fill_eval.specs.Piece.{IsWithin}
-use Rattle.fill_doubt.specs.Answers.{PiecesHave, TextsHave}
-use Rattle.fill_doubt.specs.Known.{PartAnswers, SourceAnswers}
-use Rattle.fill_doubt.specs.declared.answers.Pieces.{Pieces}
-use Rattle.fill_doubt.specs.declared.answers.Texts.{Texts}
+use Rattle.fill_doubt.specs.Answers.{PiecesHave}
+use Rattle.fill_doubt.specs.Known.{PartAnswers}
 use Rattle.fill_doubt.proofs.Maps.{put_right}
 use Rattle.fill_doubt.proofs.known.Known.keep_part.Goals as goal
 
@@ -15,4 +13,5 @@ returns-in-Ok c on known within exact =
     record {
       sources = known.sources;
       parts = put_right (λ q. get nat_eq c.args.self.now.parts q) (λ q. get nat_eq c.insert.new.self q) (λ q f. EachIn IsWithin f.pieces.items × ((o : Option (List ℕ)) → PiecesHave f o ↔ PartAnswers on q o)) c.args.s c.args.found u.1 u.2 known.parts (within, exact);
+      positions = known.positions;
     }

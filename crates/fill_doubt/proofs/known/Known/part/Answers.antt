@@ -1,11 +1,9 @@
-use Rattle.std.proofs.Common.{◌↔◌, ℕ, List, Option, nat_eq}
-use Rattle.std.specs.HashMap.{get}
+use Rattle.std.proofs.Common.{◌↔◌, ℕ, List, Option}
 use Rattle.fill_arena.specs.Contents.{EachIn}
 use Rattle.fill_eval.specs.Piece.{IsWithin}
-use Rattle.fill_doubt.specs.Answers.{PiecesHave, TextsHave}
-use Rattle.fill_doubt.specs.Known.{PartAnswers, SourceAnswers}
+use Rattle.fill_doubt.specs.Answers.{PiecesHave}
+use Rattle.fill_doubt.specs.Known.{PartAnswers}
 use Rattle.fill_doubt.specs.declared.answers.Pieces.{Pieces}
-use Rattle.fill_doubt.specs.declared.answers.Texts.{Texts}
 use Rattle.fill_doubt.proofs.Maps.{found_right}
 use Rattle.fill_doubt.proofs.known.Known.part.Goals as goal
 

@@ -1,0 +1,12 @@
+use Rattle.fill_tokens.specs.Value.{HasValue}
+use Rattle.fill_tree.specs.Value.{IsValue}
+use Rattle.fill_doubt.specs.Answers.{Gains, PositionsHave}
+use Rattle.fill_doubt.specs.Cuts.{AreCutsOf}
+use Rattle.fill_doubt.proofs.Gains.{SomeBelow}
+use Rattle.fill_doubt.proofs.positions.scan_places.Given as goal
+
+abbrev pub invariant-loop-i : goal.invariant-loop-i
+invariant-loop-i l = record {
+  cuts : AreCutsOf l.text l.cuts;
+  gains : Gains (PositionsHave l.initial.found) (PositionsHave l.found) (λ o. SomeBelow l.i l.places (λ p. IsValue (HasValue p l.text) o));
+}

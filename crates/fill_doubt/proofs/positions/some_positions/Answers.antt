@@ -1,0 +1,22 @@
+use Rattle.std.proofs.Common.{◌≡◌, ◌↔◌, ℕ, Option, refl}
+use Rattle.fill_doubt.specs.Gives.{PlaceGives}
+use Rattle.fill_doubt.proofs.Flags.{if_ok}
+use Rattle.fill_doubt.proofs.Gains.{have_same}
+use Rattle.fill_doubt.proofs.positions.some_positions.Goals as goal
+
+pub returns-in-Some-clause-sound : goal.returns-in-Some-clause-sound
+returns-in-Some-clause-sound c =
+    let on = c.args.on.now in
+    let found = c.in-Some.found.now in
+    let exact = c.in-Some.ensures on c.requires.known in
+    if_ok c.copy.result c.copy.ensures (λ f same o. (have_same (λ x. x) f.positions.items found.positions.items f.none found.none same.0 same.1 (PlaceGives on.arena.now c.args.s c.args.text.now) exact o).0)
+
+pub returns-clause-known : goal.returns-clause-known
+returns-clause-known c =
+    let on = c.args.on.now in
+    let found = c.scan_places.new.found in
+    let copied = c.in_ok-copy.field-0 in
+    let same = c.in_ok-copy.ensures in
+    let scan = c.in_ok-scan_places.ensures in
+    c.in_ok-keep_position.ensures on c.requires.known
+    (have_same (λ x. x) copied.positions.items found.positions.items copied.none found.none same.0 same.1 (PlaceGives on.arena.now c.args.s c.args.text.now) (λ o. (scan.sound o, scan.all c.if-not-branch.false o)))
