@@ -1,0 +1,7 @@
+use Rattle.std.proofs.Common.{◌≤◌, length, All}
+use Rattle.fill_guard.specs.Read.{IsRowOf}
+use Rattle.fill_session.proofs.Making.{Yet}
+use Rattle.fill_session.proofs.branches.guarded.Given as goal
+
+abbrev pub invariant-loop-k : goal.invariant-loop-k
+invariant-loop-k l = Yet l.spaces l.folds l.rows l.rest l.k l.made

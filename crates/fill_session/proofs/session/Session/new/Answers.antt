@@ -1,0 +1,6 @@
+use Rattle.std.proofs.Common.{ap}
+use Rattle.fill_space.specs.Spaces.{SpacesData}
+use Rattle.fill_session.proofs.session.Session.new.Goals as goal
+
+pub invariant_of-result : goal.invariant_of-result
+invariant_of-result c = c.none-present.ensures.held c.new-spaces.result (ap (λ (s : SpacesData). s.ground.settings) c.new-spaces.ensures)

@@ -1,0 +1,11 @@
+pub mod Answers
+pub mod Branches
+pub mod Change
+pub mod Edited
+pub mod Edits
+pub mod Fate
+pub mod Folded
+pub mod Laws
+pub mod Outcome
+pub mod State
+pub mod Taken

@@ -1,0 +1,58 @@
+//! Laws of the definitions that the contracts of this crate cite.
+//!
+//! Each function does nothing: what it tells is its clauses, which hold over all grounds and for all lists of examples
+//! and of edits.
+ghost use Rattle.std.specs.Prelude.{◌≡◌, ◌≢◌, ℕ, ⊤, [], All, Contains, Err, List, None, Option, Result};
+ghost use Rattle.fill_tables.specs.Keys.{KeysDistinguish};
+ghost use Rattle.fill_tree.specs.declared.user.Edit.{Edit};
+ghost use Rattle.fill_tree.specs.declared.user.Example.{Example};
+ghost use Rattle.fill_space.specs.declared.ground.Ground.{Ground};
+ghost use Rattle.fill_session.specs.Answers.{AnswerIs, IsBranchAt};
+ghost use Rattle.fill_session.specs.Branches.{AreBranches, BranchData};
+ghost use Rattle.fill_session.specs.Fate.{FateIs};
+ghost use Rattle.fill_session.specs.Laws.{IsGivenAs, IsReproducedBy};
+ghost use Rattle.fill_session.specs.Outcome.{AllAnswer, OutcomeIs};
+ghost use Rattle.fill_session.specs.declared.answer.Answer.{Answer};
+ghost use Rattle.fill_session.specs.declared.error.EditError.{EditError};
+
+/// Each example's row takes one of the branches, which reproduces the example; so the answer there is the example's
+/// text. Programs have one value where the keys of the tables distinguish their rows.
+pub fn examples_are_reproduced()
+    ensures taken { (g : Ground) (examples : List Example) (branches : List BranchData) (e : Example) →
+        AreBranches g examples branches → Contains examples e → (n : ℕ) × (b : BranchData) × IsBranchAt g.sheet e.row branches n b }
+    ensures reproduced { (g : Ground) (examples : List Example) (branches : List BranchData) (e : Example) →
+        KeysDistinguish g.tables → AreBranches g examples branches → Contains examples e →
+        (n : ℕ) (b : BranchData) → IsBranchAt g.sheet e.row branches n b → IsReproducedBy g e b }
+    ensures given { (g : Ground) (examples : List Example) (e : Example) (a : Answer) →
+        KeysDistinguish g.tables → Contains examples e → AnswerIs g examples e.row a → IsGivenAs e a }
+{}
+
+/// After any edits, refused ones and such as met want of memory among them, the examples are accepted ones.
+pub fn accepted_stay_accepted()
+    ensures { (g : Ground) (edits : List Edit) (answers : List (Result ⊤ EditError)) (examples : List Example) →
+        AllAnswer g [] edits answers examples → FateIs g examples None }
+{}
+
+/// Examples have at most one fate, and at most one list of branches.
+pub fn one_fate()
+    ensures fate { (g : Ground) (examples : List Example) (a b : Option EditError) →
+        FateIs g examples a → FateIs g examples b → a ≡ b }
+    ensures branches { (g : Ground) (examples : List Example) (a b : List BranchData) →
+        AreBranches g examples a → AreBranches g examples b → a ≡ b }
+{}
+
+/// An edit of examples has at most one outcome. So the same edits of the same examples have the same answers and leave the
+/// same examples, unless memory was wanted.
+pub fn one_outcome()
+    ensures outcome { (g : Ground) (examples : List Example) (edit : Edit) (a b : Option EditError) →
+        OutcomeIs g examples edit a → OutcomeIs g examples edit b → a ≡ b }
+    ensures answers { (g : Ground) (examples : List Example) (edits : List Edit) (a b : List (Result ⊤ EditError)) (after other : List Example) →
+        All (λ x. x ≢ Err EditError.NoMemory) a → All (λ x. x ≢ Err EditError.NoMemory) b →
+        AllAnswer g examples edits a after → AllAnswer g examples edits b other → (a ≡ b) × (after ≡ other) }
+{}
+
+/// Examples have at most one answer on a row.
+pub fn one_answer()
+    ensures { (g : Ground) (examples : List Example) (row : ℕ) (a b : Answer) →
+        AnswerIs g examples row a → AnswerIs g examples row b → a ≡ b }
+{}

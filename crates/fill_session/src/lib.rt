@@ -1,0 +1,29 @@
+//! Sessions: the examples that are present, their branches with guards and programs, and what these answer on rows.
+#![tactic(auto)]
+
+mod answer;
+mod answers;
+mod branch;
+mod branches;
+mod compaction;
+mod edit;
+mod edits;
+mod error;
+mod examples;
+pub mod laws;
+mod present;
+mod reasons;
+mod refusal;
+mod session;
+
+pub use answer::{Answer, State};
+pub use branch::Branch;
+pub use error::{EditError, Part};
+pub use session::Session;
+
+#[cfg(test)]
+mod edit_tests;
+#[cfg(test)]
+mod edits_tests;
+#[cfg(test)]
+mod tests;
