@@ -1,12 +1,1 @@
-pub mod Constants
-pub mod Copies
-pub mod Ends
-pub mod Lines
-pub mod Numbers
-pub mod Records
-pub mod Scripts
-pub mod Starts
-pub mod Steps
-pub mod Tables
-pub mod Texts
-pub mod Walks
+pub mod Endings

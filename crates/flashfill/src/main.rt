@@ -4,12 +4,6 @@
 ghost use Rattle.std.specs.Prelude.{◌≡◌};
 
 mod command;
-mod first_program;
-mod made;
-mod number;
-mod open;
-mod report;
-mod script;
 mod stop;
 
 use fill_edge::{FolderCabinet, Ledger, StdSink, Steps};

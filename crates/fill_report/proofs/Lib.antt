@@ -1,0 +1,10 @@
+pub mod Bytes
+pub mod Edited
+pub mod Fronts
+pub mod Leaving
+pub mod Numbered
+pub mod Questions
+pub mod Reported
+pub mod Spelled
+pub mod Unique
+pub mod Walk

@@ -1,0 +1,94 @@
+-- Why the entries of a script have at most one report.
+use Rattle.std.proofs.Common.{◌≡◌, ℕ, List, [], ◌∷◌, length, None, Some, inl, inr, sym, ap, ◌∙◌, refl, subst}
+use Rattle.std.proofs.lemmas.Bool.{false≢true}
+use Rattle.std.proofs.lemmas.Option.{none-some, same_Some}
+use Rattle.std.specs.List.{AllZip, range_with_len}
+use Rattle.fill_tree.specs.declared.user.Edit.{Edit}
+use Rattle.fill_tree.specs.declared.user.Example.{Example}
+use Rattle.fill_script.specs.declared.script.Entry.{Entry}
+use Rattle.fill_script.specs.declared.script.Entry.TheVariants as entry
+use Rattle.fill_space.specs.declared.ground.Ground.{Ground}
+use Rattle.fill_session.specs.Answers.{switch_of}
+use Rattle.fill_session.specs.Branches.{BranchData}
+use Rattle.fill_session.specs.declared.answer.Answer.{Answer}
+use Rattle.fill_session.specs.declared.error.EditError.{EditError}
+use Rattle.fill_session.proofs.OneAnswer.{answer_is_one}
+use Rattle.fill_session.proofs.OneFate.{branches_are_one}
+use Rattle.fill_session.proofs.OneOutcome.{outcome_is_one}
+use Rattle.fill_report.specs.Entries.{AnswerWrites, EditWrites, EntryWrites, QueryWrites, refused, told}
+use Rattle.fill_report.specs.Records.{Fields, branch_records, refused_record, switch_record}
+use Rattle.fill_report.specs.Report.{IsReport, all_entries}
+use Rattle.fill_report.specs.Rows.{IsRowRecord, IsRowState, count_record, row_record, row_state}
+use Rattle.fill_report.specs.Runs.{Runs, Written, followed}
+use Rattle.fill_report.specs.declared.rows.RowState.{RowState}
+
+zip_is_one : {B : Type 0} (R : ℕ → B → Type 0) → ((n : ℕ) (x y : B) → R n x → R n y → x ≡ y) → (ns : List ℕ) (xs ys : List B) → AllZip R ns xs → AllZip R ns ys → xs ≡ ys
+zip_is_one R one [] [] [] h k = refl
+zip_is_one R one [] [] (y ∷ ys) h k = absurd k
+zip_is_one R one [] (x ∷ xs) ys h k = absurd h
+zip_is_one R one (n ∷ ns) [] ys h k = absurd h
+zip_is_one R one (n ∷ ns) (x ∷ xs) [] h k = absurd k
+zip_is_one R one (n ∷ ns) (x ∷ xs) (y ∷ ys) h k = λ i. one n x y h.0 k.0 i ∷ zip_is_one R one ns xs ys h.1 k.1 i
+
+runs_are_one : {S : Type 0} (step : S → Entry → Written → S → Type 0) → ((s : S) (e : Entry) (w v : Written) (t u : S) → step s e w t → step s e v u → (w ≡ v) × (t ≡ u))
+    → (s : S) (es : List Entry) (w v : Written) (t u : S) → Runs step s es w t → Runs step s es v u → w ≡ v
+runs_are_one step one s [] w v t u h k = h.0 ∙ sym k.0
+runs_are_one {S} step one s (e ∷ es) w v t u h k =
+    let first = one s e h.0 k.0 h.1 k.1 h.3 k.3 in
+    let later : h.2 ≡ k.2 = runs_are_one step one k.1 es h.2 k.2 t u (subst (λ (x : S). Runs step x es h.2 t) first.1 h.4) k.4 in
+    h.5 ∙ ap (λ (x : Written). followed x h.2) first.0 ∙ ap (λ (x : Written). followed k.0 x) later ∙ sym k.5
+
+pub report_opens : (g : Ground) (entries : List Entry) (w : Written) → IsReport g entries w → (last : List Example) × Runs (EntryWrites g) [] (all_entries g.sheet entries) w last
+unfolding IsReport
+report_opens g entries w h = h
+
+module _ (g : Ground) where
+  pub row_record_is_one : (examples : List Example) (row : ℕ) (x y : Fields) → IsRowRecord g examples row x → IsRowRecord g examples row y → x ≡ y
+  row_record_is_one examples row x y h k = h.2 ∙ ap (λ (a : Answer). row_record row a) (answer_is_one g examples row h.0 k.0 h.1 k.1) ∙ sym k.2
+
+  row_state_is_one : (examples : List Example) (row : ℕ) (x y : RowState) → IsRowState g examples row x → IsRowState g examples row y → x ≡ y
+  row_state_is_one examples row x y h k = h.2 ∙ ap (λ (a : Answer). row_state a) (answer_is_one g examples row h.0 k.0 h.1 k.1) ∙ sym k.2
+
+  edit_is_one : (examples : List Example) (e : Edit) (w v : Written) (s t : List Example) → EditWrites g examples e w s → EditWrites g examples e v t → (w ≡ v) × (s ≡ t)
+  edit_is_one examples e w v s t (inl h) (inl k) = (h.1 ∙ sym k.1, h.2 ∙ sym k.2)
+  edit_is_one examples e w v s t (inl h) (inr k) = absurd (none-some k.0 (outcome_is_one g examples e None (Some k.0) h.0 k.1))
+  edit_is_one examples e w v s t (inr h) (inl k) = absurd (none-some h.0 (sym (outcome_is_one g examples e (Some h.0) None h.1 k.0)))
+  edit_is_one examples e w v s t (inr h) (inr k) =
+      let same : h.0 ≡ k.0 = same_Some h.0 k.0 (outcome_is_one g examples e (Some h.0) (Some k.0) h.1 k.1) in
+      (h.2 ∙ ap (λ (r : EditError). refused g.sheet examples (entry.Edit e) (refused_record e r)) same ∙ sym k.2, h.3 ∙ sym k.3)
+
+  row_is_one : (examples : List Example) (row : ℕ) (w v : Written) → AnswerWrites g examples row w → AnswerWrites g examples row v → w ≡ v
+  row_is_one examples row w v (inl h) (inl k) =
+      h.1.2 ∙ ap (λ (x : Fields). told g.sheet examples (entry.Answer row) (x ∷ [])) (row_record_is_one examples row h.1.0 k.1.0 h.1.1 k.1.1) ∙ sym k.1.2
+  row_is_one examples row w v (inl h) (inr k) = absurd (false≢true (sym k.0 ∙ h.0))
+  row_is_one examples row w v (inr h) (inl k) = absurd (false≢true (sym h.0 ∙ k.0))
+  row_is_one examples row w v (inr h) (inr k) = h.1 ∙ sym k.1
+
+  query_is_one : (examples : List Example) (e : Entry) (w v : Written) → QueryWrites g examples e w → QueryWrites g examples e v → w ≡ v
+  query_is_one examples (entry.Edit e) w v h k = absurd h
+  query_is_one examples entry.Programs w v h k =
+      let same : h.1.0 ≡ k.1.0 = branches_are_one g examples h.1.0 k.1.0 h.1.1 k.1.1 in
+      h.2 ∙ ap (told g.sheet examples entry.Programs) (h.1.2 ∙ ap (branch_records 1) same ∙ sym k.1.2) ∙ sym k.2
+  query_is_one examples entry.Switch w v h k =
+      let same : h.1.0 ≡ k.1.0 = branches_are_one g examples h.1.0 k.1.0 h.1.1 k.1.1 in
+      h.2 ∙ ap (λ (x : Fields). told g.sheet examples entry.Switch (x ∷ [])) (h.1.2 ∙ ap (λ (b : List BranchData). switch_record (switch_of b)) same ∙ sym k.1.2) ∙ sym k.2
+  query_is_one examples entry.Fill w v h k =
+      h.2 ∙ ap (told g.sheet examples entry.Fill) (zip_is_one (IsRowRecord g examples) (row_record_is_one examples) (range_with_len 1 (length g.sheet.rows)) h.0 k.0 h.1 k.1) ∙ sym k.2
+  query_is_one examples entry.Count w v h k =
+      let same : h.1.0 ≡ k.1.0 = zip_is_one (IsRowState g examples) (row_state_is_one examples) (range_with_len 1 (length g.sheet.rows)) h.1.0 k.1.0 h.1.1 k.1.1 in
+      h.2 ∙ ap (λ (x : Fields). told g.sheet examples entry.Count (x ∷ [])) (h.1.2 ∙ ap count_record same ∙ sym k.1.2) ∙ sym k.2
+  query_is_one examples (entry.Answer row) w v h k = row_is_one examples row w v h k
+
+  pub entry_is_one : (examples : List Example) (e : Entry) (w v : Written) (s t : List Example) → EntryWrites g examples e w s → EntryWrites g examples e v t → (w ≡ v) × (s ≡ t)
+  entry_is_one examples (entry.Edit e) w v s t h k = edit_is_one examples e w v s t h k
+  entry_is_one examples entry.Programs w v s t h k = (query_is_one examples entry.Programs w v h.0 k.0, h.1 ∙ sym k.1)
+  entry_is_one examples entry.Switch w v s t h k = (query_is_one examples entry.Switch w v h.0 k.0, h.1 ∙ sym k.1)
+  entry_is_one examples entry.Fill w v s t h k = (query_is_one examples entry.Fill w v h.0 k.0, h.1 ∙ sym k.1)
+  entry_is_one examples entry.Count w v s t h k = (query_is_one examples entry.Count w v h.0 k.0, h.1 ∙ sym k.1)
+  entry_is_one examples (entry.Answer row) w v s t h k = (query_is_one examples (entry.Answer row) w v h.0 k.0, h.1 ∙ sym k.1)
+
+  pub report_is_one : (entries : List Entry) (w v : Written) → IsReport g entries w → IsReport g entries v → w ≡ v
+  report_is_one entries w v h k =
+      let a = report_opens g entries w h in
+      let b = report_opens g entries v k in
+      runs_are_one (EntryWrites g) entry_is_one [] (all_entries g.sheet entries) w v a.0 b.0 a.1 b.1

@@ -1,0 +1,12 @@
+use Rattle.std.proofs.Common.{◌≡◌, ◌≤◌, take}
+use Rattle.fill_report.proofs.Walk.{Wrote}
+use Rattle.fill_report.proofs.report.write_entries.Given as goal
+
+-- the entries so far
+abbrev pub invariant-loop-entry : goal.invariant-loop-entry
+invariant-loop-entry g l = record {
+  ground : l.session.spaces.ground ≡ l.initial.session.spaces.ground;
+  written : Wrote l.initial.session.spaces.ground l.initial.session.examples (take l.entry-index l.entries) l.session.examples l.refused
+      (g.O.Sink.written l.initial.out) (g.O.Sink.written l.out) l.initial.steps l.steps;
+  later : g.O.Sink.faults l.initial.out ≤ g.O.Sink.faults l.out;
+}

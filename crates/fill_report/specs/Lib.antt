@@ -1,0 +1,9 @@
+pub mod Counts
+pub mod Entries
+pub mod Laws
+pub mod Output
+pub mod Records
+pub mod Report
+pub mod Rows
+pub mod Runs
+pub mod Writing

@@ -1,0 +1,75 @@
+-- What is told of rows: their answers and states.
+use Rattle.std.specs.Prelude.{◌≡◌, ℕ, List, [], ◌∷◌, count_by, Bool, true, false, Option, None, Some, codes, encode_utf8_all}
+use Rattle.std.specs.Fmt.{decimal}
+use Rattle.std.specs.List.{AllZip, range_with_len}
+use Rattle.fill_tree.specs.declared.user.Example.{Example}
+use Rattle.fill_space.specs.declared.ground.Ground.{Ground}
+use Rattle.fill_session.specs.Answers.{AnswerIs}
+use Rattle.fill_session.specs.declared.answer.Answer.{Answer}
+use Rattle.fill_session.specs.declared.answer.State.{State}
+use Rattle.fill_session.specs.declared.answer.State.TheVariants as known
+use Rattle.fill_report.specs.Records.{Fields}
+use Rattle.fill_report.specs.declared.rows.RowState.{RowState}
+use Rattle.fill_report.specs.declared.rows.RowState.TheVariants as state
+
+-- what is told of a row whose answer is known so and has this text
+abbrev pub told_state : State → Option (List ℕ) → RowState
+told_state known.Given text = state.Given
+told_state known.Sure None = state.Nothing
+told_state known.Sure (Some text) = state.Sure
+told_state known.Doubt None = state.NothingInDoubt
+told_state known.Doubt (Some text) = state.Doubt
+
+-- the state of the row of an answer
+abbrev pub row_state : Answer → RowState
+row_state a = told_state a.state a.text
+
+abbrev pub state_name : RowState → List ℕ
+state_name state.Given = codes "given"
+state_name state.Sure = codes "sure"
+state_name state.Doubt = codes "doubt"
+state_name state.Nothing = codes "none"
+state_name state.NothingInDoubt = codes "none doubt"
+
+-- the text of an answer in UTF-8, empty where it has none
+abbrev pub answer_field : Option (List ℕ) → List ℕ
+answer_field None = []
+answer_field (Some text) = encode_utf8_all text
+
+-- the record of a row with this answer
+abbrev pub row_record : ℕ → Answer → Fields
+row_record row a = codes "row" ∷ decimal row ∷ answer_field a.text ∷ state_name (row_state a) ∷ []
+
+-- the record is that of the row's answer
+abbrev pub IsRowRecord : Ground → List Example → ℕ → Fields → Type 0
+IsRowRecord g examples row fields = (a : Answer) × AnswerIs g examples row a × (fields ≡ row_record row a)
+
+-- the state is that of the row's answer
+abbrev pub IsRowState : Ground → List Example → ℕ → RowState → Type 0
+IsRowState g examples row s = (a : Answer) × AnswerIs g examples row a × (s ≡ row_state a)
+
+-- the records of so many first rows, in order
+abbrev pub AreRowRecords : Ground → List Example → ℕ → List Fields → Type 0
+AreRowRecords g examples n records = AllZip (IsRowRecord g examples) (range_with_len 1 n) records
+
+-- the states of so many first rows, in order
+abbrev pub AreRowStates : Ground → List Example → ℕ → List RowState → Type 0
+AreRowStates g examples n states = AllZip (IsRowState g examples) (range_with_len 1 n) states
+
+-- both are the same state
+abbrev pub is_state : RowState → RowState → Bool
+is_state state.Given state.Given = true
+is_state state.Sure state.Sure = true
+is_state state.Doubt state.Doubt = true
+is_state state.Nothing state.Nothing = true
+is_state state.NothingInDoubt state.NothingInDoubt = true
+is_state s t = false
+
+-- how many of the states are this one
+abbrev pub count_of : RowState → List RowState → ℕ
+count_of s states = count_by (is_state s) states
+
+-- the record of how many rows have each state
+abbrev pub count_record : List RowState → Fields
+count_record states = codes "count" ∷ decimal (count_of state.Given states) ∷ decimal (count_of state.Sure states) ∷ decimal (count_of state.Doubt states)
+    ∷ decimal (count_of state.Nothing states) ∷ decimal (count_of state.NothingInDoubt states) ∷ []

@@ -1,0 +1,80 @@
+//! The records of edits.
+ghost use Rattle.std.specs.Prelude.{◌≡◌, ◌∷◌, IfOk, string_bytes};
+ghost use Rattle.fill_report.specs.Records.{kind_of, length_text, ok_record, reason_text, refused_record, row_of};
+
+use crate::records::Record;
+use fill_session::{EditError, Part};
+use fill_text::NoMemory;
+use fill_tree::Edit;
+use std::alloc::{AllocError, Global};
+
+/// The word of an edit.
+fn kind_of(edit: &Edit) -> &'static [u8]
+    ensures { result.now ≡ kind_of edit.now }
+{
+    match edit {
+        Edit::Add { .. } => b"add",
+        Edit::Correct { .. } => b"correct",
+        Edit::Retract { .. } => b"retract",
+        Edit::Clear => b"clear",
+    }
+}
+
+/// The record of a word and an edit.
+fn edit_record(alloc: Global, word: &[u8], edit: &Edit) -> Result<Record, NoMemory>
+    ensures { IfOk result (λ made. made ≡ word.now ∷ kind_of edit.now ∷ row_of edit.now) }
+{
+    let record = Record::of(alloc, word)?.with(kind_of(edit))?;
+    match edit {
+        Edit::Add { row, .. } | Edit::Correct { row, .. } | Edit::Retract { row } => {
+            record.with_number(*row)
+        }
+        Edit::Clear => Ok(record),
+    }
+}
+
+/// Why an edit was refused.
+pub(crate) fn reason_text(alloc: Global, reason: &EditError) -> Result<String, AllocError>
+    ensures { IfOk result (λ text. string_bytes text ≡ reason_text reason.now) }
+{
+    match reason {
+        EditError::NoSuchRow { .. } => String::from_str(alloc, "no such row"),
+        EditError::HasExample => String::from_str(alloc, "row has an example"),
+        EditError::NoExample => String::from_str(alloc, "row has no example"),
+        EditError::TooLong { part, length } => length_text(alloc, *part, *length),
+        EditError::TooMany => String::from_str(alloc, "too many examples"),
+        EditError::NoProgram { row } => format!(in alloc; "no program for row {row}"),
+        EditError::TooManyBranches { row } => format!(in alloc; "too many branches at row {row}"),
+        EditError::NoGuard { branch } => format!(in alloc; "no guard for branch {branch}"),
+        EditError::NoMemory => Ok(String::new(alloc)),
+    }
+}
+
+/// How long which part is.
+fn length_text(alloc: Global, part: Part, length: usize) -> Result<String, AllocError>
+    ensures { IfOk result (λ text. string_bytes text ≡ length_text part length) }
+{
+    match part {
+        Part::Text => format!(in alloc; "text of {length} characters is too long"),
+        Part::Inputs => format!(in alloc; "inputs of {length} characters are too long"),
+    }
+}
+
+/// The record of an edit that was made.
+pub(crate) fn ok_record(alloc: Global, edit: &Edit) -> Result<Record, NoMemory>
+    ensures { IfOk result (λ made. made ≡ ok_record edit.now) }
+{
+    edit_record(alloc, b"ok", edit)
+}
+
+/// The record of an edit that was refused.
+pub(crate) fn refused_record(
+    alloc: Global,
+    edit: &Edit,
+    reason: &EditError,
+) -> Result<Record, NoMemory>
+    ensures { IfOk result (λ made. made ≡ refused_record edit.now reason.now) }
+{
+    let text = reason_text(alloc, reason)?;
+    edit_record(alloc, b"refused", edit)?.with(text.as_bytes())
+}

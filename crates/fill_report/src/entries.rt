@@ -1,0 +1,94 @@
+//! What one entry writes.
+ghost use Rattle.std.specs.Prelude.{◌≡◌, ◌↔◌, ◌≤◌, IsErrOf, IsTrue};
+ghost use Rattle.fill_edge.specs.Outside.{Rose};
+ghost use Rattle.fill_script.specs.declared.script.Entry.TheVariants as entry;
+ghost use Rattle.fill_report.specs.Entries.{EntryBegins, EntryWrites, IsQuery, QueryWrites};
+ghost use Rattle.fill_report.specs.Output.{Leaves};
+
+use crate::Halt;
+use crate::edits::{ok_record, refused_record};
+use crate::queries::{switch_record, write_answer, write_branches, write_made, write_rows};
+use crate::rows::count_record;
+use fill_edge::{Ledger, Sink, Steps};
+use fill_script::Entry;
+use fill_session::{EditError, Session};
+use fill_tree::Edit;
+use std::alloc::Global;
+
+/// Whether memory was wanted, which is no reason to refuse an edit.
+fn is_memory(reason: &EditError) -> bool
+    ensures { IsTrue result ↔ (reason.now ≡ EditError.NoMemory) }
+{
+    match reason {
+        EditError::NoMemory => true,
+        _ => false,
+    }
+}
+
+/// Makes an edit and writes its record, and answers whether it was refused.
+pub(crate) fn write_edit<O: Sink, L: Ledger>(
+    alloc: Global,
+    session: &mut Session,
+    edit: &Edit,
+    out: &mut O,
+    steps: &mut Steps<L>,
+) -> Result<bool, Halt>
+    ensures ground { session.new.spaces.ground ≡ session.old.spaces.ground }
+    ensures leaves { Leaves (λ w. EntryWrites session.old.spaces.ground session.old.examples (entry.Edit edit.now) w session.new.examples)
+        (EntryBegins session.old.spaces.ground session.old.examples (entry.Edit edit.now)) result (O.written out.old) (O.written out.new) steps.old steps.new }
+    ensures fault { IsErrOf result Halt.Fault → Rose (O.faults out.old) (O.faults out.new) }
+    ensures later { O.faults out.old ≤ O.faults out.new }
+{
+    match session.edit(edit, steps) {
+        Ok(()) => write_made(ok_record(alloc, edit), false, out),
+        Err(reason) => {
+            if is_memory(&reason) {
+                return Err(Halt::NoMemory);
+            }
+            write_made(refused_record(alloc, edit, &reason), true, out)
+        }
+    }
+}
+
+/// Writes the answer to a question. An entry that is an edit asks nothing.
+fn write_query<O: Sink>(
+    alloc: Global,
+    session: &Session,
+    entry: &Entry,
+    out: &mut O,
+) -> Result<bool, Halt>
+    requires { IsQuery entry.now }
+    ensures leaves { Leaves (QueryWrites session.now.spaces.ground session.now.examples entry.now)
+        (EntryBegins session.now.spaces.ground session.now.examples entry.now) result (O.written out.old) (O.written out.new) 0 0 }
+    ensures fault { IsErrOf result Halt.Fault → Rose (O.faults out.old) (O.faults out.new) }
+    ensures later { O.faults out.old ≤ O.faults out.new }
+{
+    match entry {
+        Entry::Edit(_) => unreachable!(),
+        Entry::Programs => write_branches(alloc, session.branches(), out),
+        Entry::Switch => write_made(switch_record(alloc, session), false, out),
+        Entry::Fill => write_rows(alloc, session, out),
+        Entry::Count => write_made(count_record(alloc, session), false, out),
+        Entry::Answer { row } => write_answer(alloc, session, *row, out),
+    }
+}
+
+/// Writes the records of an entry, each when it is made, and answers whether one of them is a refusal.
+pub(crate) fn write_entry<O: Sink, L: Ledger>(
+    alloc: Global,
+    session: &mut Session,
+    entry: &Entry,
+    out: &mut O,
+    steps: &mut Steps<L>,
+) -> Result<bool, Halt>
+    ensures ground { session.new.spaces.ground ≡ session.old.spaces.ground }
+    ensures leaves { Leaves (λ w. EntryWrites session.old.spaces.ground session.old.examples entry.now w session.new.examples)
+        (EntryBegins session.old.spaces.ground session.old.examples entry.now) result (O.written out.old) (O.written out.new) steps.old steps.new }
+    ensures fault { IsErrOf result Halt.Fault → Rose (O.faults out.old) (O.faults out.new) }
+    ensures later { O.faults out.old ≤ O.faults out.new }
+{
+    match entry {
+        Entry::Edit(edit) => write_edit(alloc, session, edit, out, steps),
+        _ => write_query(alloc, session, entry, out),
+    }
+}

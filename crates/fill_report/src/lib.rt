@@ -1,0 +1,20 @@
+//! The report of a session: what its entries write, record by record.
+//!
+//! A report begins with the additions of the texts that the sheet's output column gives, and goes on with the entries of
+//! a script. What a question writes follows from the examples that the edits before it leave.
+#![tactic(auto)]
+
+mod edits;
+mod entries;
+mod halt;
+pub mod laws;
+mod queries;
+mod records;
+mod report;
+mod rows;
+
+pub use halt::Halt;
+pub use report::write_report;
+
+#[cfg(test)]
+mod tests;

@@ -1,0 +1,159 @@
+//! What is told of rows.
+ghost use Rattle.std.specs.Prelude.{◌≡◌, ◌≤◌, ◌<◌, ◌++◌, ◌∷◌, [], List, length, IfOk, OnOk};
+ghost use Rattle.fill_report.specs.Counts.{AreCounts, IsWithin};
+ghost use Rattle.fill_report.specs.Entries.{IsCountRecord};
+ghost use Rattle.fill_report.specs.Rows.{AreRowStates, IsRowRecord, IsRowState, answer_field, row_record, row_state, state_name};
+ghost use Rattle.fill_report.specs.declared.rows.RowState.{RowState};
+
+use crate::records::Record;
+use fill_session::{Answer, Session, State};
+use fill_text::{List, NoMemory, Text};
+use std::alloc::Global;
+
+/// What is told of a row.
+#[derive(Clone, Copy, Debug, PartialEq, Eq)]
+pub(crate) enum RowState {
+    /// The row has an example.
+    Given,
+    /// All programs agree on a text.
+    Sure,
+    /// There is a text, and some programs differ.
+    Doubt,
+    /// There is no text.
+    Nothing,
+    /// There is no text, and some programs differ.
+    NothingInDoubt,
+}
+
+impl RowState {
+    /// The state of the row of an answer.
+    fn of(answer: &Answer) -> RowState
+        ensures { result ≡ row_state answer.now }
+    {
+        match answer.state {
+            State::Given => RowState::Given,
+            State::Sure => match answer.text {
+                Some(_) => RowState::Sure,
+                None => RowState::Nothing,
+            },
+            State::Doubt => match answer.text {
+                Some(_) => RowState::Doubt,
+                None => RowState::NothingInDoubt,
+            },
+        }
+    }
+
+    fn name(self) -> &'static [u8]
+        ensures { result.now ≡ state_name self }
+    {
+        match self {
+            RowState::Given => b"given",
+            RowState::Sure => b"sure",
+            RowState::Doubt => b"doubt",
+            RowState::Nothing => b"none",
+            RowState::NothingInDoubt => b"none doubt",
+        }
+    }
+}
+
+/// The text of an answer in UTF-8.
+fn answer_field(alloc: Global, text: &Option<Text>) -> Result<List<u8>, NoMemory>
+    ensures { IfOk result (λ made. made ≡ answer_field text.now) }
+{
+    let mut made = List::new(alloc);
+    if let Some(text) = text {
+        text.push_utf8(&mut made)?;
+    }
+    Ok(made)
+}
+
+/// The record of a row with an answer.
+fn record_of(alloc: Global, row: u32, answer: &Answer) -> Result<Record, NoMemory>
+    ensures { IfOk result (λ made. made ≡ row_record row answer.now) }
+{
+    let text = answer_field(alloc, &answer.text)?;
+    Record::of(alloc, b"row")?
+        .with_number(row)?
+        .with(text.as_slice())?
+        .with(RowState::of(answer).name())
+}
+
+/// The record of a row of the sheet.
+pub(crate) fn row_record(alloc: Global, session: &Session, row: u32) -> Result<Record, NoMemory>
+    requires first { 1 ≤ row }
+    requires last { row ≤ length session.now.spaces.ground.sheet.rows }
+    ensures { IfOk result (IsRowRecord session.now.spaces.ground session.now.examples row) }
+{
+    let answer = session.answer(alloc, row)?;
+    record_of(alloc, row, &answer)
+}
+
+/// The state of a row of the sheet.
+fn row_state(alloc: Global, session: &Session, row: u32) -> Result<RowState, NoMemory>
+    requires first { 1 ≤ row }
+    requires last { row ≤ length session.now.spaces.ground.sheet.rows }
+    ensures { IfOk result (IsRowState session.now.spaces.ground session.now.examples row) }
+{
+    let answer = session.answer(alloc, row)?;
+    Ok(RowState::of(&answer))
+}
+
+/// How many rows have each state.
+#[derive(Clone, Copy)]
+struct Counts {
+    given: u32,
+    sure: u32,
+    doubt: u32,
+    nothing: u32,
+    nothing_in_doubt: u32,
+}
+
+impl Counts {
+    const NONE: Counts = Counts {
+        given: 0,
+        sure: 0,
+        doubt: 0,
+        nothing: 0,
+        nothing_in_doubt: 0,
+    };
+
+    /// Counts one more row.
+    fn add(&mut self, state: RowState)
+        requires { IsWithin self.old 20000 }
+        ensures { (states : List RowState) → AreCounts self.old states → AreCounts self.new (states ++ state ∷ []) }
+    {
+        match state {
+            RowState::Given => self.given += 1,
+            RowState::Sure => self.sure += 1,
+            RowState::Doubt => self.doubt += 1,
+            RowState::Nothing => self.nothing += 1,
+            RowState::NothingInDoubt => self.nothing_in_doubt += 1,
+        }
+    }
+}
+
+/// How many rows of the sheet have each state.
+fn count_states(alloc: Global, session: &Session) -> Result<Counts, NoMemory>
+    ensures { IfOk result (λ counts. (states : List RowState)
+        × AreRowStates session.now.spaces.ground session.now.examples (length session.now.spaces.ground.sheet.rows) states × AreCounts counts states) }
+{
+    let mut counts = Counts::NONE;
+    let rows = session.sheet().rows();
+    for above in 0..rows {
+        counts.add(row_state(alloc, session, above + 1)?);
+    }
+    Ok(counts)
+}
+
+/// The record of how many rows of the sheet have each state.
+pub(crate) fn count_record(alloc: Global, session: &Session) -> Result<Record, NoMemory>
+    ensures { IfOk result (IsCountRecord session.now.spaces.ground session.now.examples) }
+{
+    let counts = count_states(alloc, session)?;
+    Record::of(alloc, b"count")?
+        .with_number(counts.given)?
+        .with_number(counts.sure)?
+        .with_number(counts.doubt)?
+        .with_number(counts.nothing)?
+        .with_number(counts.nothing_in_doubt)
+}

@@ -1,0 +1,84 @@
+//! What no clause says: the words of the format, and records as a sink gets them.
+use crate::edits::{ok_record, reason_text, refused_record};
+use crate::queries::no_row_record;
+use crate::records::Record;
+use fill_edge::MemorySink;
+use fill_session::{EditError, Part};
+use fill_text::{NoMemory, Text};
+use fill_tree::Edit;
+use std::alloc::Global;
+use std::test::Fail;
+
+#[test]
+fn each_reason_has_its_text(rt: HostRuntime) -> Result<(), Fail> {
+    let text = EditError::TooLong {
+        part: Part::Text,
+        length: 101,
+    };
+    let inputs = EditError::TooLong {
+        part: Part::Inputs,
+        length: 1001,
+    };
+    let rows = [
+        (EditError::NoSuchRow { rows: 3 }, "no such row"),
+        (EditError::HasExample, "row has an example"),
+        (EditError::NoExample, "row has no example"),
+        (text, "text of 101 characters is too long"),
+        (inputs, "inputs of 1001 characters are too long"),
+        (EditError::TooMany, "too many examples"),
+        (EditError::NoProgram { row: 2 }, "no program for row 2"),
+        (
+            EditError::TooManyBranches { row: 9 },
+            "too many branches at row 9",
+        ),
+        (EditError::NoGuard { branch: 1 }, "no guard for branch 1"),
+    ];
+    for (reason, expected) in rows {
+        assert_eq!(rt; reason_text(rt.alloc(), &reason)?.as_str(), expected);
+    }
+    Ok(())
+}
+
+/// The record of an edit, made or refused.
+fn edited(alloc: Global, edit: &Edit, refused: Option<EditError>) -> Result<Record, NoMemory> {
+    match refused {
+        Some(reason) => refused_record(alloc, edit, &reason),
+        None => ok_record(alloc, edit),
+    }
+}
+
+/// Whether the record is written so.
+fn is_written(alloc: Global, record: &Record, expected: &[u8]) -> Result<bool, NoMemory> {
+    let mut sink = MemorySink::new(alloc, 100, 7)?;
+    let _ = record.write(&mut sink);
+    Ok(sink.written() == expected)
+}
+
+#[test]
+fn edits_have_their_records(rt: HostRuntime) -> Result<(), Fail> {
+    let alloc = rt.alloc();
+    let add = Edit::Add {
+        row: 3,
+        text: Text::new(alloc),
+    };
+    let made = edited(alloc, &add, None)?;
+    assert!(rt; is_written(alloc, &made, b"ok,add,3\n")?);
+    let refused = edited(alloc, &add, Some(EditError::HasExample))?;
+    assert!(rt; is_written(alloc, &refused, b"refused,add,3,row has an example\n")?);
+    let cleared = edited(alloc, &Edit::Clear, None)?;
+    assert!(rt; is_written(alloc, &cleared, b"ok,clear\n")?);
+    Ok(())
+}
+
+#[test]
+fn records_are_those_of_csv(rt: HostRuntime) -> Result<(), Fail> {
+    let alloc = rt.alloc();
+    let missing = no_row_record(alloc, 0)?;
+    assert!(rt; is_written(alloc, &missing, b"refused,answer,0,no such row\n")?);
+    let row = Record::of(alloc, b"row")?
+        .with_number(7)?
+        .with(b"a,b")?
+        .with(b"none doubt")?;
+    assert!(rt; is_written(alloc, &row, b"row,7,\"a,b\",none doubt\n")?);
+    Ok(())
+}

@@ -1,7 +1,0 @@
-use Rattle.std.proofs.Common.{◌≡◌, ◌++◌, map, take}
-use Rattle.flashfill.specs.Made.{character}
-use Rattle.flashfill.proofs.made.push_line.Given as goal
-
--- the signs so far
-abbrev pub invariant-loop-sign : goal.invariant-loop-sign
-invariant-loop-sign l = l.sheet ≡ l.initial.sheet ++ map (character l.first) (take l.sign-index l.signs)
