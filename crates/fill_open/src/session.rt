@@ -42,6 +42,8 @@ pub fn open_session<C: Cabinet>(
     ensures files { C.files cabinet.new ≡ C.files cabinet.old }
     ensures later { NoneFell (C.faults cabinet.old) (C.faults cabinet.new) }
     ensures made { (n : ℕ) → command_data command.now ≡ made n → (cabinet.new ≡ cabinet.old) × IfErr result ReadsAll }
+    ensures made_ready { (n : ℕ) → command_data command.now ≡ made n → IfOk result (λ ready. (made_opens n).outcome ≡ Passed ready) }
+    ensures made_stopped { (n : ℕ) → command_data command.now ≡ made n → IfErr result (Refuses (made_opens n).outcome) }
 {
     match command {
         Command::Replay { session } => open_replay(alloc, cabinet, session),

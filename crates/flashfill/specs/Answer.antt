@@ -1,18 +1,24 @@
 -- What a run leaves on its output, what it says, and its status.
-use Rattle.std.specs.Prelude.{◌≡◌, ◌⊎◌, ℕ, Bool, List, Option, codes}
+use Rattle.std.specs.Prelude.{◌≡◌, ◌⊎◌, ℕ, Bool, List, Option, Some, codes}
 use Rattle.std.specs.Io.KnownBytes.{Appends}
 use Rattle.fill_edge.specs.Outside.{Files, Rose, AppendsPart}
 use Rattle.fill_space.specs.declared.ground.Ground.{Ground}
 use Rattle.fill_report.specs.Report.{Reports, ReportsPart, ReportsRecords}
-use Rattle.fill_open.specs.Opened.{Told, Passed}
-use Rattle.fill_open.specs.Steps.{opened}
+use Rattle.fill_open.specs.Command.{command_in, made}
+use Rattle.fill_open.specs.Opened.{Told, Opened, Passed}
+use Rattle.fill_open.specs.Steps.{opened, made_opens}
 use Rattle.fill_open.specs.declared.session.Ready.{Ready}
 use Rattle.fill_open.specs.declared.stop.Stop.{Stop}
 use Rattle.fill_open.specs.declared.stop.Stop.TheVariants as stop
 
--- where files are told, the words open this session
+-- the steps of the words end so: of a session that is read where files are told, and of a generated one, which reads
+-- none, whether they are or not
+abbrev pub Ends : Files → List (List ℕ) → Opened Ready → Type 0
+Ends files words how = Told files (λ held. opened words held ≡ how) × ((n : ℕ) → command_in words ≡ Some (made n) → (made_opens n).outcome ≡ how)
+
+-- the words open this session
 abbrev pub Opens : Files → List (List ℕ) → Ready → Type 0
-Opens files words r = Told files (λ held. opened words held ≡ Passed r)
+Opens files words r = Ends files words (Passed r)
 
 -- what a session's programs are learned over
 abbrev pub ground_of : Ready → Ground

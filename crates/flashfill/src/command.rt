@@ -7,7 +7,7 @@ ghost use Rattle.fill_open.specs.Lines.{memory_line, unread_line};
 ghost use Rattle.fill_open.specs.Opened.{Told, IsPassed, Refused, Unread};
 ghost use Rattle.fill_open.specs.Steps.{opened, opening};
 ghost use Rattle.fill_open.specs.Stops.{IsUnread, ReadFails};
-ghost use Rattle.flashfill.specs.Answer.{Says, WritesPart, WritesRecords, WritesReport, output_line, usage_line};
+ghost use Rattle.flashfill.specs.Answer.{Ends, Says, WritesPart, WritesRecords, WritesReport, output_line, usage_line};
 
 use crate::stop::{MEMORY_LINE, OUTPUT_LINE, USAGE_LINE, say, tell};
 use fill_edge::{Cabinet, Ledger, Sink, Steps};
@@ -63,7 +63,7 @@ pub fn run<C: Cabinet, O: Sink, E: Sink, L: Ledger>(
     ensures fault_said { result ≡ 4 → Says (E.written err.old) (E.written err.new) (E.faults err.old) (E.faults err.new) output_line }
 
     // 5 only where a file is refused, with its line.
-    ensures refused { result ≡ 5 → (line : List ℕ) × Told (C.files cabinet.old) (λ held. opened (map string_bytes words.now) held ≡ Refused line)
+    ensures refused { result ≡ 5 → (line : List ℕ) × Ends (C.files cabinet.old) (map string_bytes words.now) (Refused line)
         × Says (E.written err.old) (E.written err.new) (E.faults err.old) (E.faults err.new) line }
 
     // 6 is want of memory, with nothing or with the first whole records of the report.

@@ -69,8 +69,28 @@ fn files(alloc: Global, session: &[u8], most: usize) -> Result<MemoryCabinet, No
 fn endings_have_their_status_and_line(rt: HostRuntime) -> Result<(), Fail> {
     let alloc = rt.alloc();
     let words = words(alloc, &["replay", "s.csv"])?;
-    let rows: [(&[u8], u8, &[u8], &[u8]); 5] = [
+    let rows: [(&[u8], u8, &[u8], &[u8]); 8] = [
         (SESSION, 0, REPORT, b""),
+        // One file as the sheet and as two tables.
+        (
+            b"sheet,sheet.csv\ninputs,1\ntable,t,sheet.csv\ntable,u,sheet.csv\nbegin\nadd,1,x\n",
+            0,
+            b"ok,add,1\n",
+            b"",
+        ),
+        // The session as its own sheet.
+        (
+            b"sheet,s.csv\ninputs,1\nbegin\nanswer,4\nanswer,5\n",
+            0,
+            b"row,4,,none\nrow,5,,none\n",
+            b"",
+        ),
+        (
+            "sheet,größe.csv\ninputs,1\nbegin\n".as_bytes(),
+            3,
+            b"",
+            "flashfill: größe.csv: cannot be read\n".as_bytes(),
+        ),
         (
             b"sheet,sheet.csv\ninputs,1\nbegin\nadd,2,x\n",
             1,
@@ -220,15 +240,33 @@ fn a_failed_write_leaves_the_front_of_the_report(rt: HostRuntime) -> Result<(), 
     Ok(())
 }
 
+/// Sinks of so few bytes take the front of what is written, and the status is as it would be.
 #[test]
-fn a_fault_of_the_line_changes_nothing(rt: HostRuntime) -> Result<(), Fail> {
+fn small_sinks_take_what_they_can(rt: HostRuntime) -> Result<(), Fail> {
     let alloc = rt.alloc();
-    let words = words(alloc, &["replay", "gone.csv"])?;
-    let mut cabinet = files(alloc, SESSION, PLENTY)?;
-    let mut out = MemorySink::new(alloc, PLENTY, PLENTY)?;
-    let mut err = MemorySink::new(alloc, 11, PLENTY)?;
-    assert_eq!(rt; status(alloc, &words, &mut cabinet, &mut out, &mut err), 3);
-    assert_eq!(rt; out.written(), b"".as_slice());
-    assert_eq!(rt; err.written(), b"flashfill: ".as_slice());
+    let rows: [(&[&str], usize, usize, u8, &[u8], &[u8]); 3] = [
+        (
+            &["replay", "s.csv"],
+            10,
+            PLENTY,
+            4,
+            b"ok,add,1\nb",
+            b"flashfill: output cannot be written\n",
+        ),
+        (&["replay", "gone.csv"], 0, 11, 3, b"", b"flashfill: "),
+        (&["play", "s.csv"], 0, 5, 2, b"", b"usage"),
+    ];
+    for (texts, room, margin, wanted, report, line) in rows {
+        let words = words(alloc, texts)?;
+        let mut cabinet = files(alloc, SESSION, PLENTY)?;
+        let mut out = MemorySink::new(alloc, room, PLENTY)?;
+        let mut err = MemorySink::new(alloc, margin, PLENTY)?;
+        assert_eq!(rt;
+            status(alloc, &words, &mut cabinet, &mut out, &mut err),
+            wanted
+        );
+        assert_eq!(rt; out.written(), report);
+        assert_eq!(rt; err.written(), line);
+    }
     Ok(())
 }

@@ -14,8 +14,13 @@ const PRICES: &[u8] = b"pen,2011,$1\npen,2012,$2\ncup,2011,$5\ncup,2012,$7\n";
 /// A sheet, the whole session over it, and its status and report.
 type Row = (&'static [u8], &'static [u8], u8, &'static [u8]);
 
-fn files(alloc: Global, sheet: &[u8], session: &[u8]) -> Result<MemoryCabinet, NoMemory> {
-    let mut cabinet = MemoryCabinet::new(alloc, PLENTY);
+fn files(
+    alloc: Global,
+    sheet: &[u8],
+    session: &[u8],
+    most: usize,
+) -> Result<MemoryCabinet, NoMemory> {
+    let mut cabinet = MemoryCabinet::new(alloc, most.max(1));
     cabinet.put("sheet.csv", sheet)?;
     cabinet.put("s.csv", session)?;
     cabinet.put("months.csv", MONTHS)?;
@@ -23,11 +28,12 @@ fn files(alloc: Global, sheet: &[u8], session: &[u8]) -> Result<MemoryCabinet, N
     Ok(cabinet)
 }
 
-fn check(rt: &impl Abort, alloc: Global, row: Row) -> Result<(), Fail> {
+/// Runs the row, with reads and writes of so many bytes.
+fn check(rt: &impl Abort, alloc: Global, row: Row, most: usize) -> Result<(), Fail> {
     let (sheet, session, wanted, report) = row;
     let words = words(alloc, &["replay", "s.csv"])?;
-    let mut cabinet = files(alloc, sheet, session)?;
-    let mut out = MemorySink::new(alloc, PLENTY, PLENTY)?;
+    let mut cabinet = files(alloc, sheet, session, most)?;
+    let mut out = MemorySink::new(alloc, PLENTY, most.max(1))?;
     let mut err = MemorySink::new(alloc, PLENTY, PLENTY)?;
     let status = status(alloc, &words, &mut cabinet, &mut out, &mut err);
     assert_eq!(rt; out.written(), report);
@@ -83,7 +89,7 @@ fn one_branch_fills_the_sheet(rt: HostRuntime) -> Result<(), Fail> {
         ),
     ];
     for row in rows {
-        check(&rt, rt.alloc(), row)?;
+        check(&rt, rt.alloc(), row, PLENTY)?;
     }
     Ok(())
 }
@@ -128,7 +134,7 @@ fn refused_edits_are_told(rt: HostRuntime) -> Result<(), Fail> {
         ),
     ];
     for row in rows {
-        check(&rt, rt.alloc(), row)?;
+        check(&rt, rt.alloc(), row, PLENTY)?;
     }
     Ok(())
 }
@@ -166,7 +172,7 @@ fn branches_have_guards(rt: HostRuntime) -> Result<(), Fail> {
         ),
     ];
     for row in rows {
-        check(&rt, rt.alloc(), row)?;
+        check(&rt, rt.alloc(), row, PLENTY)?;
     }
     Ok(())
 }
@@ -197,7 +203,8 @@ fn tables_are_looked_up(rt: HostRuntime) -> Result<(), Fail> {
         ),
     ];
     for row in rows {
-        check(&rt, rt.alloc(), row)?;
+        check(&rt, rt.alloc(), row, PLENTY)?;
+        check(&rt, rt.alloc(), row, 1)?;
     }
     Ok(())
 }
