@@ -1,9 +1,7 @@
 //! Sequences of tokens and the positions that they reach.
 ghost use Rattle.std.specs.Prelude.{◌≡◌, ℕ, ◌≤◌, ◌<◌, ◌+◌, ◌++◌, ◌∷◌, [], ◌^◌, ◌↔◌, length, slice_get, IfOk, OnOk, IsTrue, true, ◌⊎◌, slice_set, All};
-ghost use Rattle.fill_places.specs.Marks.{AreMarks, AreAll, Reached, IsHopWithin};
-ghost use Rattle.fill_places.specs.declared.hops.Hop.{Hop};
+ghost use Rattle.fill_places.specs.Marks.{AreMarks, AreMarked, AreAll, AreWithin, AnyMarked, Reached};
 
-use crate::hops::{Hop, TokenHops};
 use fill_text::NoMemory;
 use fill_tokens::Seq;
 use std::alloc::Global;
@@ -24,56 +22,57 @@ fn flags(alloc: Global, n: usize, flag: bool) -> Result<Vec<bool>, NoMemory>
     Ok(flags)
 }
 
-/// Whether the hop of this place in the list starts at a marked position.
-fn starts_marked(at: &[bool], hops: &[Hop], i: usize, n: usize) -> bool
-    requires place { i < length hops.now }
+/// Whether the position of this place in the list is marked.
+fn marked_at(at: &[bool], ks: &[usize], i: usize, n: usize) -> bool
+    requires place { i < length ks.now }
     requires long { length at.now ≡ n + 1 }
-    requires within { All (IsHopWithin n) hops.now }
-    ensures { (h : Hop) → slice_get hops.now i ≡ Some h → IsTrue result ↔ (slice_get at.now h.from ≡ Some true) }
+    requires within { AreWithin n ks.now }
+    ensures { (k : ℕ) → slice_get ks.now i ≡ Some k → IsTrue result ↔ (slice_get at.now k ≡ Some true) }
 {
     let _length = n;
-    at[hops[i].from]
+    at[ks[i]]
 }
 
-/// Whether one of the hops starts at a marked position.
-pub fn reaches(e: &Entry, row: &TokenHops, n: usize) -> bool
-    requires long { length e.now.at.items ≡ n + 1 }
-    requires within { All (IsHopWithin n) row.now.hops.items }
-    ensures { IsTrue result ↔ ((k : ℕ) × Reached e.now.at.items row.now.hops.items k) }
-{
-    any_starts_marked(&e.at, &row.hops, n)
-}
-
-fn any_starts_marked(at: &[bool], hops: &[Hop], n: usize) -> bool
+fn any_marked(at: &[bool], ks: &[usize], n: usize) -> bool
     requires long { length at.now ≡ n + 1 }
-    requires within { All (IsHopWithin n) hops.now }
-    ensures { IsTrue result ↔ ((k : ℕ) × Reached at.now hops.now k) }
+    requires within { AreWithin n ks.now }
+    ensures { IsTrue result ↔ AnyMarked at.now ks.now }
 {
-    for i in 0..hops.len() {
-        if starts_marked(at, hops, i, n) {
+    for i in 0..ks.len() {
+        if marked_at(at, ks, i, n) {
             return true;
         }
     }
     false
 }
 
+/// Whether one of the positions is marked.
+pub fn reaches(e: &Entry, ks: &[usize], n: usize) -> bool
+    requires long { length e.now.at.items ≡ n + 1 }
+    requires within { AreWithin n ks.now }
+    ensures { IsTrue result ↔ AnyMarked e.now.at.items ks.now }
+{
+    any_marked(&e.at, ks, n)
+}
+
 /// Marks where the hop leads to, if it starts at a marked position.
 #[tactic(auto, using(crate::proofs::MarkLaws::set_sound, crate::proofs::MarkLaws::set_keeps, crate::proofs::MarkLaws::set_there))]
-fn mark_hop(marks: &mut Vec<bool>, at: &[bool], hop: &Hop, n: usize)
+fn mark_hop(marks: &mut Vec<bool>, at: &[bool], a: usize, b: usize, n: usize)
     requires room { length marks.old.items ≡ n + 1 }
     requires long { length at.now ≡ n + 1 }
-    requires within { IsHopWithin n hop.now }
+    requires from { a ≤ n }
+    requires to { b ≤ n }
     ensures long { length marks.new.items ≡ n + 1 }
     ensures sound { (k : ℕ) → slice_get marks.new.items k ≡ Some true →
-        (slice_get marks.old.items k ≡ Some true) ⊎ ((slice_get at.now hop.now.from ≡ Some true) × (hop.now.to ≡ k)) }
+        (slice_get marks.old.items k ≡ Some true) ⊎ ((slice_get at.now a ≡ Some true) × (b ≡ k)) }
     ensures keeps { (k : ℕ) → slice_get marks.old.items k ≡ Some true → slice_get marks.new.items k ≡ Some true }
-    ensures full { slice_get at.now hop.now.from ≡ Some true → slice_get marks.new.items hop.now.to ≡ Some true }
+    ensures full { slice_get at.now a ≡ Some true → slice_get marks.new.items b ≡ Some true }
 {
     let _length = n;
-    if !at[hop.from] {
+    if !at[a] {
         return;
     }
-    set_mark(marks, hop.to);
+    set_mark(marks, b);
 }
 
 fn set_mark(marks: &mut Vec<bool>, k: usize)
@@ -83,25 +82,55 @@ fn set_mark(marks: &mut Vec<bool>, k: usize)
     marks[k] = true;
 }
 
-/// Marks of the positions that the hops lead to from marked ones.
-pub fn reached(alloc: Global, e: &Entry, row: &TokenHops, n: usize) -> Result<Vec<bool>, NoMemory>
-    requires small { n < 2 ^ 62 }
-    requires long { length e.now.at.items ≡ n + 1 }
-    requires within { All (IsHopWithin n) row.now.hops.items }
-    ensures { IfOk result (λ v. AreMarks (Reached e.now.at.items row.now.hops.items) n v.items) }
+/// Marks where the hop of this place leads to, if it starts at a marked position.
+fn mark_place(marks: &mut Vec<bool>, at: &[bool], from: &[usize], to: &[usize], i: usize, n: usize)
+    requires room { length marks.old.items ≡ n + 1 }
+    requires long { length at.now ≡ n + 1 }
+    requires paired { length from.now ≡ length to.now }
+    requires place { i < length from.now }
+    requires from { AreWithin n from.now }
+    requires to { AreWithin n to.now }
+    ensures { AreMarked at.now from.now to.now i n marks.old.items →
+        AreMarked at.now from.now to.now (i + 1) n marks.new.items }
 {
-    marks_reached(alloc, &e.at, &row.hops, n)
+    mark_hop(marks, at, from[i], to[i], n)
 }
 
-fn marks_reached(alloc: Global, at: &[bool], hops: &[Hop], n: usize) -> Result<Vec<bool>, NoMemory>
+/// Marks of the positions that the hops lead to from marked ones.
+pub fn reached(
+    alloc: Global,
+    e: &Entry,
+    from: &[usize],
+    to: &[usize],
+    n: usize,
+) -> Result<Vec<bool>, NoMemory>
+    requires small { n < 2 ^ 62 }
+    requires long { length e.now.at.items ≡ n + 1 }
+    requires paired { length from.now ≡ length to.now }
+    requires from { AreWithin n from.now }
+    requires to { AreWithin n to.now }
+    ensures { IfOk result (λ v. AreMarks (Reached e.now.at.items from.now to.now) n v.items) }
+{
+    marks_reached(alloc, &e.at, from, to, n)
+}
+
+fn marks_reached(
+    alloc: Global,
+    at: &[bool],
+    from: &[usize],
+    to: &[usize],
+    n: usize,
+) -> Result<Vec<bool>, NoMemory>
     requires small { n < 2 ^ 62 }
     requires long { length at.now ≡ n + 1 }
-    requires within { All (IsHopWithin n) hops.now }
-    ensures { IfOk result (λ v. AreMarks (Reached at.now hops.now) n v.items) }
+    requires paired { length from.now ≡ length to.now }
+    requires from { AreWithin n from.now }
+    requires to { AreWithin n to.now }
+    ensures { IfOk result (λ v. AreMarks (Reached at.now from.now to.now) n v.items) }
 {
     let mut marks = flags(alloc, n, false)?;
-    for hop in hops {
-        mark_hop(&mut marks, at, hop, n);
+    for i in 0..from.len() {
+        mark_place(&mut marks, at, from, to, i, n);
     }
     Ok(marks)
 }

@@ -5,7 +5,6 @@
 #![tactic(auto)]
 
 mod entry;
-mod hops;
 mod index;
 mod lefts;
 mod list;

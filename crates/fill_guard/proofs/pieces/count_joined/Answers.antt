@@ -11,7 +11,7 @@ loop-i-preserved-then-not-goes_on c =
     let at : slice_get ends c.loop-i.i ≡ Some b = slice_get-get_or ends c.loop-i.i 0 (omega (arith, c.requires.paired)) in (
       c.loop-i.invariant.0,
       scan_not c.args.starts.now ends c.args.seconds.now c.requires.starts c.loop-i.i c.loop-i.count (omega arith) c.loop-i.invariant.1 b at
-      (iff_false (c.goes_on.ensures b at) c.if-not-goes_on.true),
+          (iff_false (c.goes_on.ensures b at) c.if-not-goes_on.true),
     )
 
 pub returns-then-count-eq-MOST : goal.returns-then-count-eq-MOST
@@ -32,7 +32,7 @@ loop-i-preserved c =
     let at : slice_get ends c.loop-i.i ≡ Some b = slice_get-get_or ends c.loop-i.i 0 (omega (arith, c.requires.paired)) in (
       omega (arith, c.if-count-eq-MOST.false, c.loop-i.invariant.0),
       scan_more c.args.starts.now ends c.args.seconds.now c.requires.starts c.loop-i.i c.loop-i.count (omega arith) c.loop-i.invariant.1 b at
-      ((c.goes_on.ensures b at).0 c.if-not-goes_on.false),
+          ((c.goes_on.ensures b at).0 c.if-not-goes_on.false),
     )
 
 pub returns : goal.returns
