@@ -1,5 +1,5 @@
 -- What rows of a sheet have in a column, and what literals say of it.
-use Rattle.std.specs.Prelude.{◌≡◌, ℕ, ◌+◌, ◌≤◌, List, Some, length, All}
+use Rattle.std.specs.Prelude.{◌≡◌, ℕ, ◌≤◌, List, Some, length, All}
 use Rattle.std.specs.List.{AllZip}
 use Rattle.fill_text.specs.Data.{SheetData, cell_at}
 use Rattle.fill_tokens.specs.declared.token.Token.{Token}
