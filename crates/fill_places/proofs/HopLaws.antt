@@ -1,11 +1,11 @@
 -- The pieces of a token as hops, from either side.
-use Rattle.std.proofs.Common.{◌≡◌, ℕ, zero, suc, ◌+◌, ◌<◌, ◌≤◌, ◌⊎◌, inl, inr, List, [], length, Bool, true, false, get_or, slice_get, Some, sym, ap, ◌∙◌, subst, arith}
+use Rattle.std.proofs.Common.{◌≡◌, ℕ, ◌+◌, ◌<◌, ◌≤◌, ◌⊎◌, inl, inr, List, length, Bool, true, false, get_or, slice_get, Some, sym, ap, ◌∙◌, subst, arith}
 use Rattle.std.proofs.lemmas.Bool.{cases_order}
-use Rattle.std.proofs.lemmas.Option.{slice_get-get_or, slice_get_within, same_Some}
+use Rattle.std.proofs.lemmas.Option.{slice_get_within, same_Some}
 use Rattle.fill_tokens.specs.Span.{Spans}
 use Rattle.fill_tokens.specs.declared.token.Token.{Token}
 use Rattle.fill_tokens.proofs.SpanLaws.{within}
-use Rattle.fill_spans.specs.Pieces.{HasPiece, AreExactly}
+use Rattle.fill_spans.specs.Pieces.{AreExactly}
 use Rattle.fill_spans.proofs.PieceLaws.{piece_at}
 use Rattle.fill_places.specs.Hops.{AreHops, SpansBack}
 use Rattle.fill_places.specs.Marks.{AreMarks, AreMarked, AreAll, AreWithin, Reached}
