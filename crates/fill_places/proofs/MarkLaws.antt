@@ -1,7 +1,6 @@
 -- Marks, and the hops between positions.
-use Rattle.std.proofs.Common.{◌≡◌, ℕ, zero, suc, ◌+◌, ◌<◌, ◌⊎◌, inl, inr, List, [], ◌∷◌, ◌++◌, length, refl, ap, arith, Bool, true, slice_get, Some, get_or}
-use Rattle.std.proofs.Math.ListN.{set}
-use Rattle.std.proofs.lemmas.Option.{slice_get_read, slice_get_within}
+use Rattle.std.proofs.Common.{ℕ, ◌+◌, List, [], ◌∷◌, ◌++◌, length, refl, arith, Bool, true}
+use Rattle.std.proofs.lemmas.Option.{slice_get_within}
 use Rattle.fill_tokens.specs.Profile.{IsTokenOf}
 use Rattle.fill_tokens.specs.Span.{Spans}
 use Rattle.fill_tokens.specs.declared.token.Token.{Token}
@@ -10,29 +9,6 @@ use Rattle.fill_places.specs.Hops.{AreHops, SpansBack}
 use Rattle.fill_places.specs.Marks.{AreMarks, AreAll, AnyMarked, Reached}
 use Rattle.fill_places.specs.Sides.{MayEnd, MayBegin, LeftAt, RightAt}
 use Rattle.fill_places.proofs.SideLaws.{left_snoc, left_front, left_last, left_none, right_cons, right_rest, right_first, right_none}
-
-pub marked_read : (flags : List Bool) (k : ℕ) (b : Bool) → k < length flags → b ≡ get_or flags k b → slice_get flags k ≡ Some b
-marked_read flags k b h e = slice_get_read flags (length flags) k b refl h e
-
--- one mark more
-pub set_sound : (xs : List Bool) (i k : ℕ) → slice_get (set xs i true) k ≡ Some true → (k ≡ i) ⊎ (slice_get xs k ≡ Some true)
-set_sound [] i k h = inr h
-set_sound (x ∷ xs) zero zero h = inl refl
-set_sound (x ∷ xs) zero (suc k) h = inr h
-set_sound (x ∷ xs) (suc i) zero h = inr h
-set_sound (x ∷ xs) (suc i) (suc k) h = elim (set_sound xs i k h) [ inl e ↦ inl (ap suc e) | inr g ↦ inr g ]
-
-pub set_keeps : (xs : List Bool) (i k : ℕ) → slice_get xs k ≡ Some true → slice_get (set xs i true) k ≡ Some true
-set_keeps [] i k h = h
-set_keeps (x ∷ xs) zero zero h = refl
-set_keeps (x ∷ xs) zero (suc k) h = h
-set_keeps (x ∷ xs) (suc i) zero h = h
-set_keeps (x ∷ xs) (suc i) (suc k) h = set_keeps xs i k h
-
-pub set_there : (xs : List Bool) (i : ℕ) → i < length xs → slice_get (set xs i true) i ≡ Some true
-set_there [] i h = absurd (omega arith)
-set_there (x ∷ xs) zero h = refl
-set_there (x ∷ xs) (suc i) h = set_there xs i (omega arith)
 
 -- the longer sequence ends where the hops over its last token lead
 module _ (profile : ℕ) (t : List ℕ) (r : List Token) (x : Token) (flags : List Bool) (from to : List ℕ) (m : AreMarks (LeftAt profile t r) (length t) flags) (are : AreHops (Spans x t) from to) where

@@ -2,6 +2,7 @@
 ghost use Rattle.std.specs.Prelude.{◌≡◌, ℕ, ◌≤◌, ◌<◌, ◌+◌, ◌++◌, ◌∷◌, [], ◌^◌, ◌↔◌, length, slice_get, IfOk, OnOk, IsTrue, true, ◌⊎◌, slice_set, All};
 ghost use Rattle.fill_places.specs.Marks.{AreMarks, AreMarked, AreAll, AreWithin, AnyMarked, Reached};
 
+use crate::marks::Marks;
 use fill_text::NoMemory;
 use fill_tokens::Seq;
 use std::alloc::Global;
@@ -10,30 +11,21 @@ use std::alloc::Global;
 #[derive(Drop)]
 pub struct Entry {
     pub seq: Seq,
-    pub at: Vec<bool>,
-}
-
-/// As many equal flags as a text of the length `n` has positions.
-fn flags(alloc: Global, n: usize, flag: bool) -> Result<Vec<bool>, NoMemory>
-    requires { n < 2 ^ 62 }
-    ensures { IfOk result (λ v. AreAll flag (n + 1) v.items) }
-{
-    let flags = vec![in alloc; flag; n + 1]?;
-    Ok(flags)
+    pub at: Marks,
 }
 
 /// Whether the position of this place in the list is marked.
-fn marked_at(at: &[bool], ks: &[usize], i: usize, n: usize) -> bool
+fn marked_at(at: &Marks, ks: &[usize], i: usize, n: usize) -> bool
     requires place { i < length ks.now }
     requires long { length at.now ≡ n + 1 }
     requires within { AreWithin n ks.now }
     ensures { (k : ℕ) → slice_get ks.now i ≡ Some k → IsTrue result ↔ (slice_get at.now k ≡ Some true) }
 {
     let _length = n;
-    at[ks[i]]
+    at.has(ks[i])
 }
 
-fn any_marked(at: &[bool], ks: &[usize], n: usize) -> bool
+fn any_marked(at: &Marks, ks: &[usize], n: usize) -> bool
     requires long { length at.now ≡ n + 1 }
     requires within { AreWithin n ks.now }
     ensures { IsTrue result ↔ AnyMarked at.now ks.now }
@@ -48,50 +40,42 @@ fn any_marked(at: &[bool], ks: &[usize], n: usize) -> bool
 
 /// Whether one of the positions is marked.
 pub fn reaches(e: &Entry, ks: &[usize], n: usize) -> bool
-    requires long { length e.now.at.items ≡ n + 1 }
+    requires long { length e.now.at ≡ n + 1 }
     requires within { AreWithin n ks.now }
-    ensures { IsTrue result ↔ AnyMarked e.now.at.items ks.now }
+    ensures { IsTrue result ↔ AnyMarked e.now.at ks.now }
 {
     any_marked(&e.at, ks, n)
 }
 
 /// Marks where the hop leads to, if it starts at a marked position.
-#[tactic(auto, using(crate::proofs::MarkLaws::set_sound, crate::proofs::MarkLaws::set_keeps, crate::proofs::MarkLaws::set_there))]
-fn mark_hop(marks: &mut Vec<bool>, at: &[bool], a: usize, b: usize, n: usize)
-    requires room { length marks.old.items ≡ n + 1 }
+fn mark_hop(marks: &mut Marks, at: &Marks, a: usize, b: usize, n: usize)
+    requires room { length marks.old ≡ n + 1 }
     requires long { length at.now ≡ n + 1 }
     requires from { a ≤ n }
     requires to { b ≤ n }
-    ensures long { length marks.new.items ≡ n + 1 }
-    ensures sound { (k : ℕ) → slice_get marks.new.items k ≡ Some true →
-        (slice_get marks.old.items k ≡ Some true) ⊎ ((slice_get at.now a ≡ Some true) × (b ≡ k)) }
-    ensures keeps { (k : ℕ) → slice_get marks.old.items k ≡ Some true → slice_get marks.new.items k ≡ Some true }
-    ensures full { slice_get at.now a ≡ Some true → slice_get marks.new.items b ≡ Some true }
+    ensures long { length marks.new ≡ n + 1 }
+    ensures sound { (k : ℕ) → slice_get marks.new k ≡ Some true →
+        (slice_get marks.old k ≡ Some true) ⊎ ((slice_get at.now a ≡ Some true) × (b ≡ k)) }
+    ensures keeps { (k : ℕ) → slice_get marks.old k ≡ Some true → slice_get marks.new k ≡ Some true }
+    ensures full { slice_get at.now a ≡ Some true → slice_get marks.new b ≡ Some true }
 {
     let _length = n;
-    if !at[a] {
+    if !at.has(a) {
         return;
     }
-    set_mark(marks, b);
-}
-
-fn set_mark(marks: &mut Vec<bool>, k: usize)
-    requires { k < length marks.old.items }
-    ensures { marks.new.items ≡ slice_set marks.old.items k true }
-{
-    marks[k] = true;
+    marks.set(b);
 }
 
 /// Marks where the hop of this place leads to, if it starts at a marked position.
-fn mark_place(marks: &mut Vec<bool>, at: &[bool], from: &[usize], to: &[usize], i: usize, n: usize)
-    requires room { length marks.old.items ≡ n + 1 }
+fn mark_place(marks: &mut Marks, at: &Marks, from: &[usize], to: &[usize], i: usize, n: usize)
+    requires room { length marks.old ≡ n + 1 }
     requires long { length at.now ≡ n + 1 }
     requires paired { length from.now ≡ length to.now }
     requires place { i < length from.now }
     requires from { AreWithin n from.now }
     requires to { AreWithin n to.now }
-    ensures { AreMarked at.now from.now to.now i n marks.old.items →
-        AreMarked at.now from.now to.now (i + 1) n marks.new.items }
+    ensures { AreMarked at.now from.now to.now i n marks.old →
+        AreMarked at.now from.now to.now (i + 1) n marks.new }
 {
     mark_hop(marks, at, from[i], to[i], n)
 }
@@ -103,32 +87,32 @@ pub fn reached(
     from: &[usize],
     to: &[usize],
     n: usize,
-) -> Result<Vec<bool>, NoMemory>
+) -> Result<Marks, NoMemory>
     requires small { n < 2 ^ 62 }
-    requires long { length e.now.at.items ≡ n + 1 }
+    requires long { length e.now.at ≡ n + 1 }
     requires paired { length from.now ≡ length to.now }
     requires from { AreWithin n from.now }
     requires to { AreWithin n to.now }
-    ensures { IfOk result (λ v. AreMarks (Reached e.now.at.items from.now to.now) n v.items) }
+    ensures { IfOk result (λ v. AreMarks (Reached e.now.at from.now to.now) n v) }
 {
     marks_reached(alloc, &e.at, from, to, n)
 }
 
 fn marks_reached(
     alloc: Global,
-    at: &[bool],
+    at: &Marks,
     from: &[usize],
     to: &[usize],
     n: usize,
-) -> Result<Vec<bool>, NoMemory>
+) -> Result<Marks, NoMemory>
     requires small { n < 2 ^ 62 }
     requires long { length at.now ≡ n + 1 }
     requires paired { length from.now ≡ length to.now }
     requires from { AreWithin n from.now }
     requires to { AreWithin n to.now }
-    ensures { IfOk result (λ v. AreMarks (Reached at.now from.now to.now) n v.items) }
+    ensures { IfOk result (λ v. AreMarks (Reached at.now from.now to.now) n v) }
 {
-    let mut marks = flags(alloc, n, false)?;
+    let mut marks = Marks::none(alloc, n + 1)?;
     for i in 0..from.len() {
         mark_place(&mut marks, at, from, to, i, n);
     }
@@ -138,9 +122,9 @@ fn marks_reached(
 /// The entry of the sequence of no token, which ends and begins everywhere.
 pub fn empty_entry(alloc: Global, n: usize) -> Result<Entry, NoMemory>
     requires { n < 2 ^ 62 }
-    ensures { IfOk result (λ e. (e.seq ≡ []) × AreAll true (n + 1) e.at.items) }
+    ensures { IfOk result (λ e. (e.seq ≡ []) × AreAll true (n + 1) e.at) }
 {
-    let at = flags(alloc, n, true)?;
+    let at = Marks::all(alloc, n + 1)?;
     Ok(Entry {
         seq: Seq::empty(),
         at,

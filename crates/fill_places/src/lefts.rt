@@ -45,7 +45,7 @@ fn push_left(
     t: &Text,
     profile: u8,
 ) -> Result<(), NoMemory>
-    requires entry { AreMarks (LeftAt profile t.now e.now.seq) (length t.now) e.now.at.items }
+    requires entry { AreMarks (LeftAt profile t.now e.now.seq) (length t.now) e.now.at }
     requires spans { spans.now ≡ record { text = t.now; profile = profile } }
     requires short { length e.now.seq < 3 }
     requires token { IsTokenOf profile token }
@@ -77,7 +77,7 @@ fn push_lefts_after(
     t: &Text,
     profile: u8,
 ) -> Result<(), NoMemory>
-    requires entry { AreMarks (LeftAt profile t.now e.now.seq) (length t.now) e.now.at.items }
+    requires entry { AreMarks (LeftAt profile t.now e.now.seq) (length t.now) e.now.at }
     requires spans { spans.now ≡ record { text = t.now; profile = profile } }
     requires short { length e.now.seq < 3 }
     ensures { OnOk result (AddsEntries (LeftAt profile t.now) (length t.now) out.old.items out.new.items

@@ -8,6 +8,7 @@ mod entry;
 mod index;
 mod lefts;
 mod list;
+mod marks;
 mod pair;
 mod rights;
 

@@ -45,7 +45,7 @@ fn push_right(
     t: &Text,
     profile: u8,
 ) -> Result<(), NoMemory>
-    requires entry { AreMarks (RightAt profile t.now e.now.seq) (length t.now) e.now.at.items }
+    requires entry { AreMarks (RightAt profile t.now e.now.seq) (length t.now) e.now.at }
     requires spans { spans.now ≡ record { text = t.now; profile = profile } }
     requires short { length e.now.seq < 3 }
     requires token { IsTokenOf profile token }

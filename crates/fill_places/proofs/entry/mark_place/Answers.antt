@@ -11,5 +11,5 @@ returns c =
     let b : ℕ = get_or to c.args.i 0 in
     let ha : slice_get from c.args.i ≡ Some a = slice_get-get_or from c.args.i 0 (omega (arith, c.requires.place)) in
     let hb : slice_get to c.args.i ≡ Some b = slice_get-get_or to c.args.i 0 (omega (arith, c.requires.place, c.requires.paired)) in
-    hop_more c.args.at.now from to c.args.i c.args.n c.args.marks.now.items c.mark_hop.new.marks.items a b ha hb
+    hop_more c.args.at.now from to c.args.i c.args.n c.args.marks.now c.mark_hop.new.marks a b ha hb
     c.mark_hop.ensures.long c.mark_hop.ensures.sound c.mark_hop.ensures.keeps c.mark_hop.ensures.full

@@ -41,7 +41,7 @@ returns-then-not-reaches c =
     subst (λ z. AreExactly (Spans c.args.token t) z ends) (sym c.as_slice-starts.ensures.value)
     (subst (λ z. AreExactly (Spans c.args.token t) p.starts.items z) (sym c.as_slice-ends.ensures.value) given) in
     grows_not (LeftAt c.args.profile t) (length t) (c.args.e.now.seq ++ c.args.token ∷ []) c.args.out.now.items
-    (left_never c.args.profile t c.args.e.now.seq c.args.token c.args.e.now.at.items starts ends c.requires.entry (hops_forth c.args.token t starts ends are) (iff_false c.reaches.ensures c.if-not-reaches.true))
+    (left_never c.args.profile t c.args.e.now.seq c.args.token c.args.e.now.at starts ends c.requires.entry (hops_forth c.args.token t starts ends are) (iff_false c.reaches.ensures c.if-not-reaches.true))
 
 pub reached-requires-clause-paired : goal.reached-requires-clause-paired
 reached-requires-clause-paired c =
@@ -91,8 +91,8 @@ returns c =
     (subst (λ z. AreExactly (Spans c.args.token t) p.starts.items z) (sym c.as_slice-ends.ensures.value) given) in
     let e : Entry = record { seq = c.followed-seq.result; at = c.in_ok-at.at } in
     let may = c.may_end.ensures.0 c.if-not-may_end.false in
-    let there = subst (λ (m : ℕ). AreMarks (Reached c.args.e.now.at.items starts ends) m c.in_ok-at.at.items) c.len-n.ensures.value c.in_ok-at.ensures in
-    let marks = left_marks c.args.profile t c.args.e.now.seq c.args.token c.args.e.now.at.items starts ends c.requires.entry (hops_forth c.args.token t starts ends are) may c.requires.token c.in_ok-at.at.items there in
+    let there = subst (λ (m : ℕ). AreMarks (Reached c.args.e.now.at starts ends) m c.in_ok-at.at) c.len-n.ensures.value c.in_ok-at.ensures in
+    let marks = left_marks c.args.profile t c.args.e.now.seq c.args.token c.args.e.now.at starts ends c.requires.entry (hops_forth c.args.token t starts ends are) may c.requires.token c.in_ok-at.at there in
     on_ok c.push_entry.result (c.push_entry.new.out.items ≡ c.args.out.now.items ++ e ∷ []) (AddsEntries (LeftAt c.args.profile t) (length t) c.args.out.now.items c.push_entry.new.out.items (IsOnly (c.args.e.now.seq ++ c.args.token ∷ [])))
     (λ h. grows_one (LeftAt c.args.profile t) (length t) (c.args.e.now.seq ++ c.args.token ∷ []) e c.args.out.now.items c.push_entry.new.out.items h c.followed-seq.ensures marks)
     c.push_entry.ensures
