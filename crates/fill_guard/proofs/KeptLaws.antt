@@ -22,7 +22,8 @@ use Rattle.fill_tree.specs.Guard.{HasMatches, NegatedWhere, LiteralHolds}
 use Rattle.fill_tree.specs.Separate.{IsLiteral, IsTested, literal_cmp}
 use Rattle.fill_tree.specs.declared.guard.Literal.{Literal}
 use Rattle.fill_tree.specs.declared.user.Settings.{Settings}
-use Rattle.fill_guard.specs.Read.{AreCells, AreCounts, HoldsOn, IsMatchCount, Passes}
+use Rattle.fill_guard.specs.Matches.{IsMatchCount}
+use Rattle.fill_guard.specs.Read.{AreCells, AreCounts, HoldsOn, Passes}
 use Rattle.fill_guard.specs.Kept.{IsMask, IsSetOf, StandsFor, NotAfter, AreMore, Keeps, OnlyLiteral, OfLeast, OfSigns, OfSeqs, OfColumn, OfColumns}
 use Rattle.fill_guard.specs.Least.{AreKept}
 use Rattle.fill_guard.specs.declared.kept.Kept.{Kept}
@@ -48,40 +49,43 @@ one_in : {A : Type 0} (x y : A) → Contains (x ∷ []) y → x ≡ y
 one_in x y (zero, w, e) = e
 one_in x y (suc i, w, e) = absurd (omega arith)
 
--- the literal holds on a row exactly where the count of matches passes
-passes_of : (sheet : SheetData) (row : ℕ) (l : Literal) (t : List ℕ) (count : ℕ) → cell_at sheet row l.column ≡ Some t → IsMatchCount l.seq t count →
-    Passes l count ↔ LiteralHolds sheet row l
-passes_of sheet row l t count is counted = by_sign l.negated
+-- the literal holds on a row exactly where the count of matches passes, of which no more than three are asked for
+passes_of : (sheet : SheetData) (row : ℕ) (l : Literal) (t : List ℕ) (few : ℕ) → l.least ≤ 3 → cell_at sheet row l.column ≡ Some t → IsMatchCount l.seq t few →
+    Passes l few ↔ LiteralHolds sheet row l
+passes_of sheet row l t few small is counted = by_sign l.negated
   where
     same_cell : (u : List ℕ) → cell_at sheet row l.column ≡ Some u → u ≡ t
     same_cell u other = same_Some u t (sym other ∙ is)
 
-    enough : HasMatches l.seq t l.least → l.least ≤ count
-    enough h = let e = count_unique (Begins l.seq t) (length t + 1) h.0 count h.1 counted in let le = h.2 in omega arith
+    enough : HasMatches l.seq t l.least → l.least ≤ few
+    enough h = let e = count_unique (Begins l.seq t) (length t + 1) h.0 counted.0 h.1 counted.1 in let le = h.2 in let m = counted.2 in omega arith
 
-    by_sign : (sign : Bool) → NegatedWhere sign (l.least ≤ count) ↔ ((u : List ℕ) × (cell_at sheet row l.column ≡ Some u) × NegatedWhere sign (HasMatches l.seq u l.least))
+    has : l.least ≤ few → HasMatches l.seq t l.least
+    has le = (counted.0, counted.1, (let m = counted.2 in omega arith))
+
+    by_sign : (sign : Bool) → NegatedWhere sign (l.least ≤ few) ↔ ((u : List ℕ) × (cell_at sheet row l.column ≡ Some u) × NegatedWhere sign (HasMatches l.seq u l.least))
     by_sign true = (
-      λ few. (t, is, λ h. few (enough h)),
-      λ h le. h.2 (subst (λ u. HasMatches l.seq u l.least) (sym (same_cell h.0 h.1)) (count, counted, le)),
+      λ low. (t, is, λ h. low (enough h)),
+      λ h le. h.2 (subst (λ u. HasMatches l.seq u l.least) (sym (same_cell h.0 h.1)) (has le)),
     )
     by_sign false = (
-      λ le. (t, is, (count, counted, le)),
+      λ le. (t, is, has le),
       λ h. enough (subst (λ u. HasMatches l.seq u l.least) (same_cell h.0 h.1) h.2),
     )
 
-counts_pass : (sheet : SheetData) (l : Literal) (rows counts : List ℕ) → AreCounts sheet l.column l.seq rows counts → AllZip (λ row count. Passes l count ↔ LiteralHolds sheet row l) rows counts
-counts_pass sheet l rows counts are =
+counts_pass : (sheet : SheetData) (l : Literal) (rows counts : List ℕ) → l.least ≤ 3 → AreCounts sheet l.column l.seq rows counts → AllZip (λ row count. Passes l count ↔ LiteralHolds sheet row l) rows counts
+counts_pass sheet l rows counts small are =
     zip_weaker (λ row count. (t : List ℕ) × (cell_at sheet row l.column ≡ Some t) × IsMatchCount l.seq t count) (λ row count. Passes l count ↔ LiteralHolds sheet row l) rows counts
-    (λ row count h. passes_of sheet row l h.0 count h.1 h.2) are
+    (λ row count h. passes_of sheet row l h.0 count small h.1 h.2) are
 
-pub passes_on : (sheet : SheetData) (l : Literal) (rows counts : List ℕ) → AreCounts sheet l.column l.seq rows counts → All (Passes l) counts → HoldsOn sheet rows l
-passes_on sheet l rows counts are = all_over (Passes l) (λ row. LiteralHolds sheet row l) rows counts (counts_pass sheet l rows counts are)
+pub passes_on : (sheet : SheetData) (l : Literal) (rows counts : List ℕ) → l.least ≤ 3 → AreCounts sheet l.column l.seq rows counts → All (Passes l) counts → HoldsOn sheet rows l
+passes_on sheet l rows counts small are = all_over (Passes l) (λ row. LiteralHolds sheet row l) rows counts (counts_pass sheet l rows counts small are)
 
-pub holds_pass : (sheet : SheetData) (l : Literal) (rows counts : List ℕ) → AreCounts sheet l.column l.seq rows counts → HoldsOn sheet rows l → All (Passes l) counts
-holds_pass sheet l rows counts are = all_under (Passes l) (λ row. LiteralHolds sheet row l) rows counts (counts_pass sheet l rows counts are)
+pub holds_pass : (sheet : SheetData) (l : Literal) (rows counts : List ℕ) → l.least ≤ 3 → AreCounts sheet l.column l.seq rows counts → HoldsOn sheet rows l → All (Passes l) counts
+holds_pass sheet l rows counts small are = all_under (Passes l) (λ row. LiteralHolds sheet row l) rows counts (counts_pass sheet l rows counts small are)
 
-pub set_of_mask : (sheet : SheetData) (l : Literal) (rows counts : List ℕ) (mask : ℕ) → AreCounts sheet l.column l.seq rows counts → IsMask (Passes l) counts mask → IsSetOf sheet rows l mask
-set_of_mask sheet l rows counts mask are = mask_over (Passes l) (λ row. LiteralHolds sheet row l) rows counts mask (counts_pass sheet l rows counts are)
+pub set_of_mask : (sheet : SheetData) (l : Literal) (rows counts : List ℕ) (mask : ℕ) → l.least ≤ 3 → AreCounts sheet l.column l.seq rows counts → IsMask (Passes l) counts mask → IsSetOf sheet rows l mask
+set_of_mask sheet l rows counts mask small are = mask_over (Passes l) (λ row. LiteralHolds sheet row l) rows counts mask (counts_pass sheet l rows counts small are)
 
 pub counts_of_cells : (sheet : SheetData) (column : ℕ) (r : List Token) (rows : List ℕ) (cells : List (List ℕ)) (counts : List ℕ) → AreCells sheet column rows cells →
     AllZip (IsMatchCount r) cells counts → AreCounts sheet column r rows counts

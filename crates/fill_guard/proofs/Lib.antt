@@ -1,6 +1,6 @@
-pub mod EndLaws
 pub mod GuardOrder
 pub mod KeptLaws
 pub mod LeastLaws
 pub mod MaskLaws
+pub mod MatchLaws
 pub mod SeqLaws

@@ -1,5 +1,5 @@
-pub mod Ends
 pub mod Kept
 pub mod Least
 pub mod Listed
+pub mod Matches
 pub mod Read

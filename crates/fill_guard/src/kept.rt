@@ -61,6 +61,7 @@ fn keep_literal(
     inside: &[usize],
     outside: &[usize],
 ) -> Result<(), NoMemory>
+    requires least { l.now.least ≤ 3 }
     requires few { length outside.now ≤ 64 }
     ensures { OnOk result (KeepsCounted l.now.column l.now.seq inside.now outside.now kept.old.items kept.new.items
         (OnlyLiteral l.now)) }
@@ -84,6 +85,7 @@ fn keep_signs(
     inside: &[usize],
     outside: &[usize],
 ) -> Result<(), NoMemory>
+    requires least { least ≤ 3 }
     requires few { length outside.now ≤ 64 }
     ensures { OnOk result (KeepsCounted column seq.now inside.now outside.now kept.old.items kept.new.items
         (OfSigns column seq.now least)) }

@@ -1,81 +1,34 @@
-//! The pieces that tokens span in a text, each found once, to count the matches of short sequences.
-ghost use Rattle.std.specs.Prelude.{◌≡◌, ◌≢◌, ◌↔◌, ℕ, ◌<◌, ◌≤◌, ◌+◌, ◌++◌, ◌∷◌, [], length, slice_get, Some, IfOk, OnOk, IfSome, IsTrue, All};
-ghost use Rattle.fill_tokens.specs.Token.{token_number};
-ghost use Rattle.fill_tokens.specs.Span.{Spans, Begins};
-ghost use Rattle.fill_tokens.specs.Value.{IsCount};
-ghost use Rattle.fill_tokens.specs.declared.token.Token.{Token};
-ghost use Rattle.fill_guard.specs.Ends.{AreEnds, AreTables, EndsSome, EndsTwice};
-ghost use Rattle.fill_guard.specs.Read.{IsMatchCount};
+//! Texts that were read once, and the counts of matches of short sequences in them.
+ghost use Rattle.std.specs.Prelude.{◌≡◌, ◌↔◌, ℕ, ◌<◌, ◌≤◌, length, slice_get, Some, IfOk, IsTrue, Contains, min};
+ghost use Rattle.fill_spans.specs.Pieces.{Rises};
+ghost use Rattle.fill_guard.specs.Matches.{AreBelow, IsFew, IsJoined, IsMatchCount};
 
+use fill_spans::Spans;
 use fill_text::{NoMemory, Text};
-use fill_tokens::{Seq, Token, span};
+use fill_tokens::Seq;
 use std::alloc::Global;
 use std::marker::Model;
 
-/// For each position of a text the end of the piece that the token spans from there.
-#[derive(Drop)]
-struct TokenEnds {
-    token: Token,
-    ends: Vec<Option<usize>>,
-}
+/// The profile that has all tokens.
+const ALL_TOKENS: u8 = 2;
+
+/// How many matches a literal asks for at most.
+const MOST: usize = 3;
 
 /// A text that was read once for each token. Contracts see it as the text.
 #[derive(Drop)]
 pub struct Pieces {
-    text: Text,
-    rows: Vec<TokenEnds>,
+    spans: Spans,
 }
 
 impl Model for Pieces {
-    ghost use Rattle.std.specs.Prelude.{ℕ, List};
-    ghost use Rattle.fill_guard.specs.Ends.{AreTables};
+    ghost use Rattle.std.specs.Prelude.{◌≡◌, ℕ, List};
 
     ghost Value = { List ℕ };
 
-    ghost view = { λ pieces. pieces.text };
+    ghost view = { λ pieces. pieces.spans.text };
 
-    ghost invariant = { λ pieces. AreTables pieces.text pieces.rows.items };
-}
-
-/// The token of a place in the list of all tokens.
-pub fn token_at(i: usize) -> Token
-    requires { i < length Token.ALL }
-    ensures { token_number result ≡ i + 1 }
-{
-    Token::ALL[i]
-}
-
-/// The end of the piece from each position on that the token spans.
-fn ends_of(alloc: Global, token: Token, t: &Text) -> Result<Vec<Option<usize>>, NoMemory>
-    ensures { IfOk result (λ ends. AreEnds token t.now ends.items) }
-{
-    let mut ends = Vec::new(alloc);
-    for k in 0..t.len() + 1 {
-        ends.push(span(token, t, k))?;
-    }
-    Ok(ends)
-}
-
-/// Puts the row of the token of this place to the table.
-fn push_row(alloc: Global, rows: &mut Vec<TokenEnds>, i: usize, t: &Text) -> Result<(), NoMemory>
-    requires { i < length Token.ALL }
-    ensures { OnOk result ((row : TokenEnds) × (rows.new.items ≡ rows.old.items ++ row ∷ []) ×
-        (token_number row.token ≡ i + 1) × AreEnds row.token t.now row.ends.items) }
-{
-    let token = token_at(i);
-    let ends = ends_of(alloc, token, t)?;
-    rows.push(TokenEnds { token, ends })?;
-    Ok(())
-}
-
-fn tables(alloc: Global, t: &Text) -> Result<Vec<TokenEnds>, NoMemory>
-    ensures { IfOk result (λ rows. AreTables t.now rows.items) }
-{
-    let mut rows = Vec::new(alloc);
-    for i in 0..Token::ALL.len() {
-        push_row(alloc, &mut rows, i, t)?;
-    }
-    Ok(rows)
+    ghost invariant = { λ pieces. pieces.spans.profile ≡ 2 };
 }
 
 impl Pieces {
@@ -83,73 +36,67 @@ impl Pieces {
     pub fn new(alloc: Global, t: &Text) -> Result<Pieces, NoMemory>
         ensures { IfOk result (λ pieces. pieces ≡ t.now) }
     {
-        let text = t.copy()?;
-        let rows = tables(alloc, &text)?;
-        Ok(Pieces { text, rows })
+        let spans = Spans::new(alloc, t, ALL_TOKENS)?;
+        Ok(Pieces { spans })
     }
 
-    /// The ends of the token's pieces.
-    fn ends(&self, token: Token) -> &[Option<usize>]
-        ensures { AreEnds token self.now result.now }
-    {
-        self.rows[usize::from(token.number()) - 1].ends.as_slice()
-    }
-
-    /// The number of positions at which a piece that the sequence spans begins.
+    /// The number of positions at which a piece that the sequence spans begins, or three where there are more.
     pub fn count(&self, seq: &Seq) -> usize
         requires some { 0 < length seq.now }
         requires few { length seq.now ≤ 2 }
         ensures { IsMatchCount seq.now self.now result }
     {
-        let first = self.ends(seq.token(0));
+        let first = self.spans.pieces(seq.token(0));
         if seq.len() == 1 {
-            return count_one(first);
+            return at_most(first.starts.as_slice().len());
         }
-        count_two(first, self.ends(seq.token(1)))
+        let second = self.spans.pieces(seq.token(1));
+        count_joined(&first.starts, &first.ends, &second.starts)
     }
 }
 
-fn is_start(ends: &[Option<usize>], k: usize) -> bool
-    requires { k < length ends.now }
-    ensures { IsTrue result ↔ EndsSome ends.now k }
+/// The number, or three where it is more.
+fn at_most(count: usize) -> usize
+    ensures { result ≡ min count 3 }
 {
-    ends[k].is_some()
+    count.min(MOST)
 }
 
-/// The number of positions at which a piece begins.
-fn count_one(ends: &[Option<usize>]) -> usize
-    ensures { IsCount (EndsSome ends.now) (length ends.now) result }
+/// Whether the number is one of the rising list.
+fn stands_in(ks: &[usize], k: usize) -> bool
+    requires { Rises ks.now }
+    ensures { IsTrue result ↔ Contains ks.now k }
+{
+    match ks.binary_search(&k) {
+        Ok(_) => true,
+        Err(_) => false,
+    }
+}
+
+/// Whether a second piece begins where the piece of this place ends.
+fn goes_on(ends: &[usize], seconds: &[usize], i: usize) -> bool
+    requires place { i < length ends.now }
+    requires seconds { Rises seconds.now }
+    ensures { (b : ℕ) → slice_get ends.now i ≡ Some b → IsTrue result ↔ Contains seconds.now b }
+{
+    stands_in(seconds, ends[i])
+}
+
+/// How many pieces end where a second one begins, or three where there are more.
+fn count_joined(starts: &[usize], ends: &[usize], seconds: &[usize]) -> usize
+    requires paired { length starts.now ≡ length ends.now }
+    requires starts { Rises starts.now }
+    requires seconds { Rises seconds.now }
+    ensures { (n : ℕ) → AreBelow starts.now n → IsFew (IsJoined starts.now ends.now seconds.now) n result }
 {
     let mut count = 0;
-    for k in 0..ends.len() {
-        if is_start(ends, k) {
-            count += 1;
+    for i in 0..starts.len() {
+        if !goes_on(ends, seconds, i) {
+            continue;
         }
-    }
-    count
-}
-
-/// Whether a piece begins at the position, and one of the second token where it ends.
-fn is_double_start(first: &[Option<usize>], second: &[Option<usize>], k: usize) -> bool
-    requires within { All (λ end. IfSome end (λ b. b < length second.now)) first.now }
-    requires place { k < length first.now }
-    ensures { IsTrue result ↔ EndsTwice first.now second.now k }
-{
-    match first[k] {
-        Some(b) => is_start(second, b),
-        None => false,
-    }
-}
-
-/// The number of positions at which a piece begins, and one of the second token where it ends.
-fn count_two(first: &[Option<usize>], second: &[Option<usize>]) -> usize
-    requires within { All (λ end. IfSome end (λ b. b < length second.now)) first.now }
-    ensures { IsCount (EndsTwice first.now second.now) (length first.now) result }
-{
-    let mut count = 0;
-    for k in 0..first.len() {
-        if is_double_start(first, second, k) {
-            count += 1;
+        count += 1;
+        if count == MOST {
+            return MOST;
         }
     }
     count

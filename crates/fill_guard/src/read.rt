@@ -1,7 +1,8 @@
 //! The cells of a column on some rows, and the counts of matches in them.
 ghost use Rattle.std.specs.Prelude.{◌≡◌, ◌≤◌, ◌<◌, length, All, Contains, IfOk};
 ghost use Rattle.std.specs.List.{AllZip};
-ghost use Rattle.fill_guard.specs.Read.{AreCells, IsMatchCount, IsRowOf};
+ghost use Rattle.fill_guard.specs.Matches.{IsMatchCount};
+ghost use Rattle.fill_guard.specs.Read.{AreCells, IsRowOf};
 
 use crate::pieces::Pieces;
 use fill_sheet::Sheet;
@@ -28,7 +29,7 @@ pub fn read_cells(
     Ok(cells)
 }
 
-/// The number of matches of the sequence in each cell.
+/// The number of matches of the sequence in each cell, counted up to three.
 pub fn counts(alloc: Global, cells: &[Pieces], seq: &Seq) -> Result<Vec<usize>, NoMemory>
     requires some { 0 < length seq.now }
     requires few { length seq.now ≤ 2 }

@@ -6,7 +6,7 @@ ghost use Rattle.fill_text.specs.Lists.{Lists, Adds};
 ghost use Rattle.fill_tree.specs.Separate.{IsTested};
 ghost use Rattle.fill_guard.specs.Listed.{OfOne, OfPair, OfSecond, OfTwo};
 
-use crate::pieces::token_at;
+use fill_spans::token_at;
 use fill_text::NoMemory;
 use fill_tokens::{Seq, Token, token_count};
 use std::alloc::Global;

@@ -67,15 +67,15 @@ module _ (M : List Token → ℕ → Type 0) (n : ℕ) where
     full = λ r q k e. absurd (none r q k e);
   }
 
-  pub entries_one : (Q : List Token → Type 0) (e : Entry) → AreMarks (M e.seq) n e.at.items → Q e.seq → ((r : List Token) → Q r → r ≡ e.seq) → Entries M n Q (e ∷ [])
+  pub entries_one : (Q : List Token → Type 0) (e : Entry) → AreMarks (M e.seq) n e.at → Q e.seq → ((r : List Token) → Q r → r ≡ e.seq) → Entries M n Q (e ∷ [])
   entries_one Q e m q only = record {
     each = λ i d h. one_is i d h;
     rising = λ i j d f lt h g. absurd (let w = slice_get_within (e ∷ []) j f g in omega arith);
     full = λ r x k l. (0, e, omega arith, refl, sym (only r x));
   }
     where
-      one_is : (i : ℕ) (d : Entry) → slice_get (e ∷ []) i ≡ Some d → AreMarks (M d.seq) n d.at.items × Q d.seq
-      one_is zero d h = let s : e ≡ d = same_Some e d h in (subst (λ (z : Entry). AreMarks (M z.seq) n z.at.items) s m, subst (λ (z : Entry). Q z.seq) s q)
+      one_is : (i : ℕ) (d : Entry) → slice_get (e ∷ []) i ≡ Some d → AreMarks (M d.seq) n d.at × Q d.seq
+      one_is zero d h = let s : e ≡ d = same_Some e d h in (subst (λ (z : Entry). AreMarks (M z.seq) n z.at) s m, subst (λ (z : Entry). Q z.seq) s q)
       one_is (suc i) d h = absurd (let x : None ≡ Some d = h in cc)
 
   pub entries_same : (Q R : List Token → Type 0) (es : List Entry) → ((r : List Token) → Q r → R r) → ((r : List Token) (k : ℕ) → R r → M r k → Q r) → Entries M n Q es → Entries M n R es
@@ -91,11 +91,11 @@ module _ (M : List Token → ℕ → Type 0) (n : ℕ) where
   pub grows_not : (s : List Token) (old : List Entry) → ((k : ℕ) → M s k → ⊥) → AddsEntries M n old old (IsOnly s)
   grows_not s old none = grows_none (IsOnly s) old (λ r e k m. none k (subst (λ z. M z k) e m))
 
-  pub grows_one : (s : List Token) (e : Entry) (old new : List Entry) → new ≡ old ++ e ∷ [] → e.seq ≡ s → AreMarks (M s) n e.at.items → AddsEntries M n old new (IsOnly s)
+  pub grows_one : (s : List Token) (e : Entry) (old new : List Entry) → new ≡ old ++ e ∷ [] → e.seq ≡ s → AreMarks (M s) n e.at → AddsEntries M n old new (IsOnly s)
   grows_one s e old new h q m = (
     e ∷ [],
     h,
-    entries_one (IsOnly s) e (subst (λ z. AreMarks (M z) n e.at.items) (sym q) m) q (λ r o. o ∙ sym q),
+    entries_one (IsOnly s) e (subst (λ z. AreMarks (M z) n e.at) (sym q) m) q (λ r o. o ∙ sym q),
   )
 
   pub grows_then : (Q R S : List Token → Type 0) (old mid new : List Entry) → AddsEntries M n old mid Q → AddsEntries M n mid new R →

@@ -107,8 +107,8 @@ module _ (M : List Token → ℕ → Type 0) (n : ℕ) where
       (λ r p. let u : length r ≤ j = p in omega arith)
       (λ r p. let u : length r ≡ j + 1 = p in omega arith)
 
-  pub first_layer : (e : Entry) → e.seq ≡ [] → AreMarks (M []) n e.at.items → Entries M n (HasLength 0) (e ∷ [])
-  first_layer e s m = entries_one M n (HasLength 0) e (subst (λ z. AreMarks (M z) n e.at.items) (sym s) m) (ap length s) (λ r q. nil_only r q ∙ sym s)
+  pub first_layer : (e : Entry) → e.seq ≡ [] → AreMarks (M []) n e.at → Entries M n (HasLength 0) (e ∷ [])
+  first_layer e s m = entries_one M n (HasLength 0) e (subst (λ z. AreMarks (M z) n e.at) (sym s) m) (ap length s) (λ r q. nil_only r q ∙ sym s)
     where
       nil_only : (r : List Token) → HasLength 0 r → r ≡ []
       nil_only [] h = refl

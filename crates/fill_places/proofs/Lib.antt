@@ -1,3 +1,5 @@
+pub mod BitLaws
+pub mod CommonLaws
 pub mod EntryLaws
 pub mod HopLaws
 pub mod LayerLaws

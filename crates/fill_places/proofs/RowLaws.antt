@@ -1,5 +1,5 @@
 -- All places of a position, put together.
-use Rattle.std.proofs.Common.{◌≡◌, ℕ, ◌+◌, ◌<◌, ◌⊎◌, inl, inr, List, [], ◌∷◌, ◌++◌, length, refl, sym, ap, ◌∙◌, subst, arith, Bool, true, false, ℤ, pos, negsuc, slice_get, Some, get_or}
+use Rattle.std.proofs.Common.{◌≡◌, ℕ, ◌+◌, ◌<◌, ◌⊎◌, inl, inr, List, [], ◌∷◌, ◌++◌, length, refl, sym, ap, ◌∙◌, subst, arith, Bool, true, ℤ, pos, negsuc, slice_get, Some, get_or}
 use Rattle.std.specs.declared.cmp.Ordering.TheVariants as Ordering
 use Rattle.std.specs.declared.cmp.Ordering.TheVariants.{Less}
 use Rattle.std.specs.Ordering.{nat_cmp, ordering_then}
@@ -45,7 +45,7 @@ marked_more es k m old mid new a e marked =
     (λ x q. ((let u = q.0 in omega arith), q.1))
     (λ x q. ((omega arith), subst (IsMarkedAt es k) (sym q) marked))
 
-pub marked_not : (es : List Entry) (k m : ℕ) (e : Entry) (old mid : List ℕ) → slice_get es m ≡ Some e → slice_get e.at.items k ≡ Some false →
+pub marked_not : (es : List Entry) (k m : ℕ) (e : Entry) (old mid : List ℕ) → slice_get es m ≡ Some e → (slice_get e.at k ≡ Some true → ⊥) →
     Adds nat_cmp old mid (λ i. (i < m) × IsMarkedAt es k i) → Adds nat_cmp old mid (λ i. (i < m + 1) × IsMarkedAt es k i)
 marked_not es k m e old mid at flag a =
     adds_same nat_cmp (λ i. (i < m) × IsMarkedAt es k i) (λ i. (i < m + 1) × IsMarkedAt es k i) old mid
@@ -53,8 +53,7 @@ marked_not es k m e old mid at flag a =
     (λ x s. elim (cases_order x m) [
       | inl q ↦ absurd (let y = s.1 in
           let same : y.0 ≡ e = same_Some y.0 e (sym y.1 ∙ ap (slice_get es) q ∙ at) in
-          let f : Some true ≡ Some false = sym y.2 ∙ ap (λ (z : Entry). slice_get z.at.items k) same ∙ flag in
-          cc)
+          flag (subst (λ (z : Entry). slice_get z.at k ≡ Some true) same y.2))
       | inr o ↦ elim o [ inl l ↦ (l, s.1) | inr g ↦ absurd (let u = s.0 in omega arith) ]
     ]) a
 
@@ -139,15 +138,13 @@ row_all profile t k l es numbers old new are some a = adds_same place_cmp (RowOf
         let j = (some.exact f.0).1 (f.1, f.3, mark) in
         (h.0, (j.0, f.0, f.1, j.1, slice_get_read numbers (length numbers) j.0 f.0 refl j.1 (sym j.2), f.3, f.4), h.1)
 
-pub no_left : (profile : ℕ) (t : List ℕ) (k : ℕ) (l : List Token) (flags : List Bool) (old : List Place) → AreMarks (LeftAt profile t l) (length t) flags → slice_get flags k ≡ Some false → Adds place_cmp old old (FromLeft profile t k l)
+pub no_left : (profile : ℕ) (t : List ℕ) (k : ℕ) (l : List Token) (flags : List Bool) (old : List Place) → AreMarks (LeftAt profile t l) (length t) flags → (slice_get flags k ≡ Some true → ⊥) → Adds place_cmp old old (FromLeft profile t k l)
 no_left profile t k l flags old m at = adds_none place_cmp (FromLeft profile t k l) old none
   where
     none : (p : Place) → FromLeft profile t k l p → ⊥
     none (CPos i) h = h
     none (Pos x y c) h =
-        let mark = m.full k (subst (λ z. LeftAt profile t z k) h.0 (wanted_left profile t k x y c h.1)) in
-        let f : Some true ≡ Some false = sym mark ∙ at in
-        cc
+        at (m.full k (subst (λ z. LeftAt profile t z k) h.0 (wanted_left profile t k x y c h.1)))
 
 -- the places of the next left sequence come after those of the ones before
 module _ (profile : ℕ) (t : List ℕ) (k : ℕ) (es : List Entry) (up : AreInOrder es) (m : ℕ) (e : Entry) (at : slice_get es m ≡ Some e) where

@@ -19,7 +19,7 @@ HasSeq es n r = (i : ℕ) × (e : Entry) × (i < n) × (slice_get es i ≡ Some 
 
 -- in order, with their marks, entries of sequences that have the property Q, and all of those that are marked somewhere
 pub record Entries (M : List Token → ℕ → Type 0) (n : ℕ) (Q : List Token → Type 0) (es : List Entry) : Type 0 where
-  pub each : (i : ℕ) (e : Entry) → slice_get es i ≡ Some e → AreMarks (M e.seq) n e.at.items × Q e.seq
+  pub each : (i : ℕ) (e : Entry) → slice_get es i ≡ Some e → AreMarks (M e.seq) n e.at × Q e.seq
   pub rising : AreInOrder es
   pub full : (r : List Token) → Q r → (k : ℕ) → M r k → HasSeq es (length es) r
 
@@ -61,4 +61,4 @@ AreRights profile t = Entries (RightAt profile t) (length t) (HasAtMost 3)
 
 -- the entry of the number is marked at the position
 abbrev pub IsMarkedAt : List Entry → ℕ → ℕ → Type 0
-IsMarkedAt es k i = (e : Entry) × (slice_get es i ≡ Some e) × (slice_get e.at.items k ≡ Some true)
+IsMarkedAt es k i = (e : Entry) × (slice_get es i ≡ Some e) × (slice_get e.at k ≡ Some true)

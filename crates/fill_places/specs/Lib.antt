@@ -1,3 +1,4 @@
+pub mod Bits
 pub mod Entries
 pub mod Hops
 pub mod Index

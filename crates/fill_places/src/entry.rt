@@ -1,9 +1,8 @@
 //! Sequences of tokens and the positions that they reach.
 ghost use Rattle.std.specs.Prelude.{◌≡◌, ℕ, ◌≤◌, ◌<◌, ◌+◌, ◌++◌, ◌∷◌, [], ◌^◌, ◌↔◌, length, slice_get, IfOk, OnOk, IsTrue, true, ◌⊎◌, slice_set, All};
-ghost use Rattle.fill_places.specs.Marks.{AreMarks, AreAll, Reached, IsHopWithin};
-ghost use Rattle.fill_places.specs.declared.hops.Hop.{Hop};
+ghost use Rattle.fill_places.specs.Marks.{AreMarks, AreMarked, AreAll, AreWithin, AnyMarked, Reached};
 
-use crate::hops::{Hop, TokenHops};
+use crate::marks::Marks;
 use fill_text::NoMemory;
 use fill_tokens::Seq;
 use std::alloc::Global;
@@ -12,96 +11,110 @@ use std::alloc::Global;
 #[derive(Drop)]
 pub struct Entry {
     pub seq: Seq,
-    pub at: Vec<bool>,
+    pub at: Marks,
 }
 
-/// As many equal flags as a text of the length `n` has positions.
-fn flags(alloc: Global, n: usize, flag: bool) -> Result<Vec<bool>, NoMemory>
-    requires { n < 2 ^ 62 }
-    ensures { IfOk result (λ v. AreAll flag (n + 1) v.items) }
-{
-    let flags = vec![in alloc; flag; n + 1]?;
-    Ok(flags)
-}
-
-/// Whether the hop of this place in the list starts at a marked position.
-fn starts_marked(at: &[bool], hops: &[Hop], i: usize, n: usize) -> bool
-    requires place { i < length hops.now }
+/// Whether the position of this place in the list is marked.
+fn marked_at(at: &Marks, ks: &[usize], i: usize, n: usize) -> bool
+    requires place { i < length ks.now }
     requires long { length at.now ≡ n + 1 }
-    requires within { All (IsHopWithin n) hops.now }
-    ensures { (h : Hop) → slice_get hops.now i ≡ Some h → IsTrue result ↔ (slice_get at.now h.from ≡ Some true) }
+    requires within { AreWithin n ks.now }
+    ensures { (k : ℕ) → slice_get ks.now i ≡ Some k → IsTrue result ↔ (slice_get at.now k ≡ Some true) }
 {
     let _length = n;
-    at[hops[i].from]
+    at.has(ks[i])
 }
 
-/// Whether one of the hops starts at a marked position.
-pub fn reaches(e: &Entry, row: &TokenHops, n: usize) -> bool
-    requires long { length e.now.at.items ≡ n + 1 }
-    requires within { All (IsHopWithin n) row.now.hops.items }
-    ensures { IsTrue result ↔ ((k : ℕ) × Reached e.now.at.items row.now.hops.items k) }
-{
-    any_starts_marked(&e.at, &row.hops, n)
-}
-
-fn any_starts_marked(at: &[bool], hops: &[Hop], n: usize) -> bool
+fn any_marked(at: &Marks, ks: &[usize], n: usize) -> bool
     requires long { length at.now ≡ n + 1 }
-    requires within { All (IsHopWithin n) hops.now }
-    ensures { IsTrue result ↔ ((k : ℕ) × Reached at.now hops.now k) }
+    requires within { AreWithin n ks.now }
+    ensures { IsTrue result ↔ AnyMarked at.now ks.now }
 {
-    for i in 0..hops.len() {
-        if starts_marked(at, hops, i, n) {
+    for i in 0..ks.len() {
+        if marked_at(at, ks, i, n) {
             return true;
         }
     }
     false
 }
 
-/// Marks where the hop leads to, if it starts at a marked position.
-#[tactic(auto, using(crate::proofs::MarkLaws::set_sound, crate::proofs::MarkLaws::set_keeps, crate::proofs::MarkLaws::set_there))]
-fn mark_hop(marks: &mut Vec<bool>, at: &[bool], hop: &Hop, n: usize)
-    requires room { length marks.old.items ≡ n + 1 }
-    requires long { length at.now ≡ n + 1 }
-    requires within { IsHopWithin n hop.now }
-    ensures long { length marks.new.items ≡ n + 1 }
-    ensures sound { (k : ℕ) → slice_get marks.new.items k ≡ Some true →
-        (slice_get marks.old.items k ≡ Some true) ⊎ ((slice_get at.now hop.now.from ≡ Some true) × (hop.now.to ≡ k)) }
-    ensures keeps { (k : ℕ) → slice_get marks.old.items k ≡ Some true → slice_get marks.new.items k ≡ Some true }
-    ensures full { slice_get at.now hop.now.from ≡ Some true → slice_get marks.new.items hop.now.to ≡ Some true }
+/// Whether one of the positions is marked.
+pub fn reaches(e: &Entry, ks: &[usize], n: usize) -> bool
+    requires long { length e.now.at ≡ n + 1 }
+    requires within { AreWithin n ks.now }
+    ensures { IsTrue result ↔ AnyMarked e.now.at ks.now }
 {
-    let _length = n;
-    if !at[hop.from] {
-        return;
-    }
-    set_mark(marks, hop.to);
+    any_marked(&e.at, ks, n)
 }
 
-fn set_mark(marks: &mut Vec<bool>, k: usize)
-    requires { k < length marks.old.items }
-    ensures { marks.new.items ≡ slice_set marks.old.items k true }
+/// Marks where the hop leads to, if it starts at a marked position.
+fn mark_hop(marks: &mut Marks, at: &Marks, a: usize, b: usize, n: usize)
+    requires room { length marks.old ≡ n + 1 }
+    requires long { length at.now ≡ n + 1 }
+    requires from { a ≤ n }
+    requires to { b ≤ n }
+    ensures long { length marks.new ≡ n + 1 }
+    ensures sound { (k : ℕ) → slice_get marks.new k ≡ Some true →
+        (slice_get marks.old k ≡ Some true) ⊎ ((slice_get at.now a ≡ Some true) × (b ≡ k)) }
+    ensures keeps { (k : ℕ) → slice_get marks.old k ≡ Some true → slice_get marks.new k ≡ Some true }
+    ensures full { slice_get at.now a ≡ Some true → slice_get marks.new b ≡ Some true }
 {
-    marks[k] = true;
+    let _length = n;
+    if !at.has(a) {
+        return;
+    }
+    marks.set(b);
+}
+
+/// Marks where the hop of this place leads to, if it starts at a marked position.
+fn mark_place(marks: &mut Marks, at: &Marks, from: &[usize], to: &[usize], i: usize, n: usize)
+    requires room { length marks.old ≡ n + 1 }
+    requires long { length at.now ≡ n + 1 }
+    requires paired { length from.now ≡ length to.now }
+    requires place { i < length from.now }
+    requires from { AreWithin n from.now }
+    requires to { AreWithin n to.now }
+    ensures { AreMarked at.now from.now to.now i n marks.old →
+        AreMarked at.now from.now to.now (i + 1) n marks.new }
+{
+    mark_hop(marks, at, from[i], to[i], n)
 }
 
 /// Marks of the positions that the hops lead to from marked ones.
-pub fn reached(alloc: Global, e: &Entry, row: &TokenHops, n: usize) -> Result<Vec<bool>, NoMemory>
+pub fn reached(
+    alloc: Global,
+    e: &Entry,
+    from: &[usize],
+    to: &[usize],
+    n: usize,
+) -> Result<Marks, NoMemory>
     requires small { n < 2 ^ 62 }
-    requires long { length e.now.at.items ≡ n + 1 }
-    requires within { All (IsHopWithin n) row.now.hops.items }
-    ensures { IfOk result (λ v. AreMarks (Reached e.now.at.items row.now.hops.items) n v.items) }
+    requires long { length e.now.at ≡ n + 1 }
+    requires paired { length from.now ≡ length to.now }
+    requires from { AreWithin n from.now }
+    requires to { AreWithin n to.now }
+    ensures { IfOk result (λ v. AreMarks (Reached e.now.at from.now to.now) n v) }
 {
-    marks_reached(alloc, &e.at, &row.hops, n)
+    marks_reached(alloc, &e.at, from, to, n)
 }
 
-fn marks_reached(alloc: Global, at: &[bool], hops: &[Hop], n: usize) -> Result<Vec<bool>, NoMemory>
+fn marks_reached(
+    alloc: Global,
+    at: &Marks,
+    from: &[usize],
+    to: &[usize],
+    n: usize,
+) -> Result<Marks, NoMemory>
     requires small { n < 2 ^ 62 }
     requires long { length at.now ≡ n + 1 }
-    requires within { All (IsHopWithin n) hops.now }
-    ensures { IfOk result (λ v. AreMarks (Reached at.now hops.now) n v.items) }
+    requires paired { length from.now ≡ length to.now }
+    requires from { AreWithin n from.now }
+    requires to { AreWithin n to.now }
+    ensures { IfOk result (λ v. AreMarks (Reached at.now from.now to.now) n v) }
 {
-    let mut marks = flags(alloc, n, false)?;
-    for hop in hops {
-        mark_hop(&mut marks, at, hop, n);
+    let mut marks = Marks::none(alloc, n + 1)?;
+    for i in 0..from.len() {
+        mark_place(&mut marks, at, from, to, i, n);
     }
     Ok(marks)
 }
@@ -109,9 +122,9 @@ fn marks_reached(alloc: Global, at: &[bool], hops: &[Hop], n: usize) -> Result<V
 /// The entry of the sequence of no token, which ends and begins everywhere.
 pub fn empty_entry(alloc: Global, n: usize) -> Result<Entry, NoMemory>
     requires { n < 2 ^ 62 }
-    ensures { IfOk result (λ e. (e.seq ≡ []) × AreAll true (n + 1) e.at.items) }
+    ensures { IfOk result (λ e. (e.seq ≡ []) × AreAll true (n + 1) e.at) }
 {
-    let at = flags(alloc, n, true)?;
+    let at = Marks::all(alloc, n + 1)?;
     Ok(Entry {
         seq: Seq::empty(),
         at,

@@ -6,10 +6,10 @@ ghost use Rattle.fill_tokens.specs.Profile.{IsProfile, IsPlaceOf};
 ghost use Rattle.fill_text.specs.Lists.{Lists};
 
 use crate::entry::Entry;
-use crate::hops::{hops_back, hops_forth};
 use crate::lefts::lefts;
 use crate::list::list_places;
 use crate::rights::rights;
+use fill_spans::Spans;
 use fill_text::{List, NoMemory, Text};
 use fill_tokens::Place;
 use std::alloc::Global;
@@ -46,10 +46,9 @@ impl PlaceIndex {
         ensures { IfOk result (λ index. index ≡ record { text = t.now; profile = profile }) }
     {
         let text = t.copy()?;
-        let forth = hops_forth(alloc, &text, profile)?;
-        let back = hops_back(alloc, &forth, &text, profile)?;
-        let lefts = lefts(alloc, &forth, &text, profile)?;
-        let rights = rights(alloc, &back, &text, profile)?;
+        let spans = Spans::new(alloc, &text, profile)?;
+        let lefts = lefts(alloc, &spans, &text, profile)?;
+        let rights = rights(alloc, &spans, &text, profile)?;
         Ok(PlaceIndex {
             text,
             profile,

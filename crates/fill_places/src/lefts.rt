@@ -1,17 +1,15 @@
 //! The sequences that end somewhere in a text.
 ghost use Rattle.std.specs.Prelude.{◌≡◌, ◌≢◌, ℕ, ◌<◌, ◌≤◌, ◌+◌, ◌++◌, ◌∷◌, [], ◌↔◌, length, IfOk, OnOk, IsTrue};
 ghost use Rattle.fill_tokens.specs.Profile.{token_count, IsTokenOf};
-ghost use Rattle.fill_tokens.specs.Span.{Spans};
 ghost use Rattle.fill_tokens.specs.declared.token.Token.TheVariants.{Start, End};
-ghost use Rattle.fill_places.specs.Hops.{AreHops, AreTables};
 ghost use Rattle.fill_places.specs.Marks.{AreMarks};
 ghost use Rattle.fill_places.specs.Sides.{LeftAt, MayEnd};
 ghost use Rattle.fill_places.specs.Entries.{Entries, AddsEntries, HasLength, IsOnly, EndsWithOne, AreLefts};
 
 use crate::entry::{Entry, empty_entry, join, push_entry, reached, reaches};
-use crate::hops::TokenHops;
+use fill_spans::{Spans, token_at};
 use fill_text::{NoMemory, Text};
-use fill_tokens::{Seq, Token};
+use fill_tokens::{Seq, Token, token_count};
 use std::alloc::Global;
 
 /// The sequence with one token more at the end.
@@ -42,27 +40,31 @@ fn push_left(
     alloc: Global,
     out: &mut Vec<Entry>,
     e: &Entry,
-    row: &TokenHops,
+    token: Token,
+    spans: &Spans,
     t: &Text,
     profile: u8,
 ) -> Result<(), NoMemory>
-    requires entry { AreMarks (LeftAt profile t.now e.now.seq) (length t.now) e.now.at.items }
-    requires hops { AreHops (Spans row.now.token t.now) row.now.hops.items }
+    requires entry { AreMarks (LeftAt profile t.now e.now.seq) (length t.now) e.now.at }
+    requires spans { spans.now ≡ record { text = t.now; profile = profile } }
     requires short { length e.now.seq < 3 }
-    requires token { IsTokenOf profile row.now.token }
+    requires token { IsTokenOf profile token }
     ensures { OnOk result (AddsEntries (LeftAt profile t.now) (length t.now) out.old.items out.new.items
-        (IsOnly (e.now.seq ++ row.now.token ∷ []))) }
+        (IsOnly (e.now.seq ++ token ∷ []))) }
 {
     let _profile = profile;
     let n = t.len();
-    if !may_end(&e.seq, row.token) {
+    if !may_end(&e.seq, token) {
         return Ok(());
     }
-    if !reaches(e, row, n) {
+    let pieces = spans.pieces(token);
+    let starts = pieces.starts.as_slice();
+    let ends = pieces.ends.as_slice();
+    if !reaches(e, starts, n) {
         return Ok(());
     }
-    let at = reached(alloc, e, row, n)?;
-    let seq = followed(&e.seq, row.token);
+    let at = reached(alloc, e, starts, ends, n)?;
+    let seq = followed(&e.seq, token);
     push_entry(out, Entry { seq, at })
 }
 
@@ -71,18 +73,18 @@ fn push_lefts_after(
     alloc: Global,
     out: &mut Vec<Entry>,
     e: &Entry,
-    table: &[TokenHops],
+    spans: &Spans,
     t: &Text,
     profile: u8,
 ) -> Result<(), NoMemory>
-    requires entry { AreMarks (LeftAt profile t.now e.now.seq) (length t.now) e.now.at.items }
-    requires table { AreTables profile (λ token. Spans token t.now) table.now }
+    requires entry { AreMarks (LeftAt profile t.now e.now.seq) (length t.now) e.now.at }
+    requires spans { spans.now ≡ record { text = t.now; profile = profile } }
     requires short { length e.now.seq < 3 }
     ensures { OnOk result (AddsEntries (LeftAt profile t.now) (length t.now) out.old.items out.new.items
         (EndsWithOne e.now.seq (token_count profile + 1))) }
 {
-    for row in table {
-        push_left(alloc, out, e, row, t, profile)?;
+    for i in 0..token_count(profile) {
+        push_left(alloc, out, e, token_at(i), spans, t, profile)?;
     }
     Ok(())
 }
@@ -103,37 +105,32 @@ fn longer_lefts(
     alloc: Global,
     layer: &[Entry],
     j: usize,
-    table: &[TokenHops],
+    spans: &Spans,
     t: &Text,
     profile: u8,
 ) -> Result<Vec<Entry>, NoMemory>
     requires short { j < 3 }
     requires layer { Entries (LeftAt profile t.now) (length t.now) (HasLength j) layer.now }
-    requires table { AreTables profile (λ token. Spans token t.now) table.now }
+    requires spans { spans.now ≡ record { text = t.now; profile = profile } }
     ensures { IfOk result (λ v. Entries (LeftAt profile t.now) (length t.now) (HasLength (j + 1)) v.items) }
 {
     let _tokens = j;
     let mut out = Vec::new(alloc);
     for e in layer {
-        push_lefts_after(alloc, &mut out, e, table, t, profile)?;
+        push_lefts_after(alloc, &mut out, e, spans, t, profile)?;
     }
     Ok(out)
 }
 
 /// The sequences of tokens of the profile that end somewhere in the text, in order.
-pub fn lefts(
-    alloc: Global,
-    table: &[TokenHops],
-    t: &Text,
-    profile: u8,
-) -> Result<Vec<Entry>, NoMemory>
-    requires table { AreTables profile (λ token. Spans token t.now) table.now }
+pub fn lefts(alloc: Global, spans: &Spans, t: &Text, profile: u8) -> Result<Vec<Entry>, NoMemory>
+    requires spans { spans.now ≡ record { text = t.now; profile = profile } }
     ensures { IfOk result (λ v. AreLefts profile t.now v.items) }
 {
     let mut all = first_lefts(alloc, t, profile)?;
-    let one = longer_lefts(alloc, &all, 0, table, t, profile)?;
-    let two = longer_lefts(alloc, &one, 1, table, t, profile)?;
-    let three = longer_lefts(alloc, &two, 2, table, t, profile)?;
+    let one = longer_lefts(alloc, &all, 0, spans, t, profile)?;
+    let two = longer_lefts(alloc, &one, 1, spans, t, profile)?;
+    let three = longer_lefts(alloc, &two, 2, spans, t, profile)?;
     join(&mut all, one)?;
     join(&mut all, two)?;
     join(&mut all, three)?;

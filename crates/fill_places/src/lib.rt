@@ -5,10 +5,10 @@
 #![tactic(auto)]
 
 mod entry;
-mod hops;
 mod index;
 mod lefts;
 mod list;
+mod marks;
 mod pair;
 mod rights;
 

@@ -33,7 +33,7 @@ fn push_number(
     let _text = t;
     let _profile = profile;
     let e = &entries[i];
-    if !e.at[k] {
+    if !e.at.has(k) {
         return Ok(());
     }
     numbers.push(i)
@@ -70,9 +70,9 @@ fn push_numbered(
     profile: u8,
 ) -> Result<(), NoMemory>
     requires within { k ≤ length t.now }
-    requires left { AreMarks (LeftAt profile t.now l.now.seq) (length t.now) l.now.at.items }
+    requires left { AreMarks (LeftAt profile t.now l.now.seq) (length t.now) l.now.at }
     requires few { length l.now.seq ≤ 3 }
-    requires ends { slice_get l.now.at.items k ≡ Some true }
+    requires ends { slice_get l.now.at k ≡ Some true }
     requires rights { AreRights profile t.now rights.now }
     requires number { IsMarkedAt rights.now k number }
     ensures { (r : Entry) → slice_get rights.now number ≡ Some r →
@@ -92,9 +92,9 @@ fn push_row(
     profile: u8,
 ) -> Result<(), NoMemory>
     requires within { k ≤ length t.now }
-    requires left { AreMarks (LeftAt profile t.now l.now.seq) (length t.now) l.now.at.items }
+    requires left { AreMarks (LeftAt profile t.now l.now.seq) (length t.now) l.now.at }
     requires few { length l.now.seq ≤ 3 }
-    requires ends { slice_get l.now.at.items k ≡ Some true }
+    requires ends { slice_get l.now.at k ≡ Some true }
     requires rights { AreRights profile t.now rights.now }
     requires numbers { Lists nat_cmp (IsMarkedAt rights.now k) numbers.now }
     ensures { OnOk result (Adds place_cmp out.old out.new (FromLeft profile t.now k l.now.seq)) }
@@ -117,13 +117,13 @@ fn push_left(
     profile: u8,
 ) -> Result<(), NoMemory>
     requires within { k ≤ length t.now }
-    requires left { AreMarks (LeftAt profile t.now l.now.seq) (length t.now) l.now.at.items }
+    requires left { AreMarks (LeftAt profile t.now l.now.seq) (length t.now) l.now.at }
     requires few { length l.now.seq ≤ 3 }
     requires rights { AreRights profile t.now rights.now }
     requires numbers { Lists nat_cmp (IsMarkedAt rights.now k) numbers.now }
     ensures { OnOk result (Adds place_cmp out.old out.new (FromLeft profile t.now k l.now.seq)) }
 {
-    if !l.at[k] {
+    if !l.at.has(k) {
         return Ok(());
     }
     push_row(out, l, rights, numbers, t, k, profile)

@@ -16,46 +16,29 @@ use crate::entry::Entry;
 use fill_text::{List, NoMemory, Text};
 use fill_tokens::{Place, Seq};
 
-/// Whether the position is marked in both entries.
-fn both(l: &Entry, r: &Entry, i: usize) -> bool
-    requires left { i < length l.now.at.items }
-    requires right { i < length r.now.at.items }
-    ensures { IsTrue result ↔ Common l.now.at.items r.now.at.items i }
-{
-    l.at[i] && r.at[i]
-}
-
 /// How many positions up to `k` are marked in both.
 fn count_to(l: &Entry, r: &Entry, k: usize) -> usize
-    requires left { k < length l.now.at.items }
-    requires right { k < length r.now.at.items }
-    requires small { k < 2 ^ 62 }
-    ensures { IsCount (Common l.now.at.items r.now.at.items) (k + 1) result }
+    requires left { k < length l.now.at }
+    requires right { k < length r.now.at }
+    requires small { k < 2 ^ 61 }
+    ensures { IsCount (Common l.now.at r.now.at) (k + 1) result }
 {
-    let mut count = 0;
-    for i in 0..k + 1 {
-        if both(l, r, i) {
-            count += 1;
-        }
-    }
-    count
+    l.at.common_below(&r.at, k + 1)
 }
 
-/// How many positions from `k` to `n` are marked in both.
-fn count_from(l: &Entry, r: &Entry, k: usize, n: usize) -> usize
+/// How many positions from `k` to `n` are marked in both, where `k` is one of them and `upto` is their number up to it.
+fn count_from(l: &Entry, r: &Entry, k: usize, n: usize, upto: usize) -> usize
     requires order { k ≤ n }
-    requires left { n < length l.now.at.items }
-    requires right { n < length r.now.at.items }
-    requires small { n < 2 ^ 62 }
-    ensures { IsCount (λ i. Common l.now.at.items r.now.at.items (n - i)) (n - k + 1) result }
+    requires left { n < length l.now.at }
+    requires right { n < length r.now.at }
+    requires small { n < 2 ^ 61 }
+    requires here { Common l.now.at r.now.at k }
+    requires upto { IsCount (Common l.now.at r.now.at) (k + 1) upto }
+    ensures { IsCount (λ i. Common l.now.at r.now.at (n - i)) (n - k + 1) result }
 {
-    let mut count = 0;
-    for i in 0..n - k + 1 {
-        if both(l, r, n - i) {
-            count += 1;
-        }
-    }
-    count
+    let _position = k;
+    let all = l.at.common_below(&r.at, n + 1);
+    all - (upto - 1)
 }
 
 /// Puts the fixed place of this number to the list, where the number is one of 32 bits.
@@ -154,11 +137,11 @@ pub fn push_pair(
     profile: u8,
 ) -> Result<(), NoMemory>
     requires within { k ≤ length t.now }
-    requires left { AreMarks (LeftAt profile t.now l.now.seq) (length t.now) l.now.at.items }
-    requires right { AreMarks (RightAt profile t.now r.now.seq) (length t.now) r.now.at.items }
+    requires left { AreMarks (LeftAt profile t.now l.now.seq) (length t.now) l.now.at }
+    requires right { AreMarks (RightAt profile t.now r.now.seq) (length t.now) r.now.at }
     requires few { (length l.now.seq ≤ 3) × (length r.now.seq ≤ 3) }
-    requires ends { slice_get l.now.at.items k ≡ Some true }
-    requires begins { slice_get r.now.at.items k ≡ Some true }
+    requires ends { slice_get l.now.at k ≡ Some true }
+    requires begins { slice_get r.now.at k ≡ Some true }
     ensures { OnOk result (Adds place_cmp out.old out.new (PairOf profile t.now k l.now.seq r.now.seq)) }
 {
     if l.seq.len() + r.seq.len() == 0 {
@@ -166,6 +149,6 @@ pub fn push_pair(
     }
     let n = t.len();
     let a = count_to(l, r, k);
-    let b = count_from(l, r, k, n);
+    let b = count_from(l, r, k, n, a);
     push_counted(out, &l.seq, &r.seq, a, b, t, k, profile)
 }

@@ -2,15 +2,14 @@
 ghost use Rattle.std.specs.Prelude.{◌≡◌, ◌≢◌, ℕ, ◌<◌, ◌≤◌, ◌+◌, ◌++◌, ◌∷◌, [], ◌↔◌, length, IfOk, OnOk, IsTrue};
 ghost use Rattle.fill_tokens.specs.Profile.{IsTokenOf};
 ghost use Rattle.fill_tokens.specs.declared.token.Token.TheVariants.{Start, End};
-ghost use Rattle.fill_places.specs.Hops.{AreHops, AreTables, SpansBack};
 ghost use Rattle.fill_places.specs.Marks.{AreMarks};
 ghost use Rattle.fill_places.specs.Sides.{RightAt, MayBegin};
 ghost use Rattle.fill_places.specs.Entries.{Entries, AddsEntries, HasLength, IsOnly, BeginsWithIt, AreRights};
 
 use crate::entry::{Entry, empty_entry, join, push_entry, reached, reaches};
-use crate::hops::TokenHops;
+use fill_spans::{Spans, token_at};
 use fill_text::{NoMemory, Text};
-use fill_tokens::{Seq, Token};
+use fill_tokens::{Seq, Token, token_count};
 use std::alloc::Global;
 
 /// The sequence with one token more at the front.
@@ -40,28 +39,32 @@ fn may_begin(token: Token, seq: &Seq) -> bool
 fn push_right(
     alloc: Global,
     out: &mut Vec<Entry>,
-    row: &TokenHops,
+    token: Token,
     e: &Entry,
+    spans: &Spans,
     t: &Text,
     profile: u8,
 ) -> Result<(), NoMemory>
-    requires entry { AreMarks (RightAt profile t.now e.now.seq) (length t.now) e.now.at.items }
-    requires hops { AreHops (SpansBack t.now row.now.token) row.now.hops.items }
+    requires entry { AreMarks (RightAt profile t.now e.now.seq) (length t.now) e.now.at }
+    requires spans { spans.now ≡ record { text = t.now; profile = profile } }
     requires short { length e.now.seq < 3 }
-    requires token { IsTokenOf profile row.now.token }
+    requires token { IsTokenOf profile token }
     ensures { OnOk result (AddsEntries (RightAt profile t.now) (length t.now) out.old.items out.new.items
-        (IsOnly (row.now.token ∷ e.now.seq))) }
+        (IsOnly (token ∷ e.now.seq))) }
 {
     let _profile = profile;
     let n = t.len();
-    if !may_begin(row.token, &e.seq) {
+    if !may_begin(token, &e.seq) {
         return Ok(());
     }
-    if !reaches(e, row, n) {
+    let pieces = spans.pieces(token);
+    let starts = pieces.starts.as_slice();
+    let ends = pieces.ends.as_slice();
+    if !reaches(e, ends, n) {
         return Ok(());
     }
-    let at = reached(alloc, e, row, n)?;
-    let seq = preceded(row.token, &e.seq);
+    let at = reached(alloc, e, ends, starts, n)?;
+    let seq = preceded(token, &e.seq);
     push_entry(out, Entry { seq, at })
 }
 
@@ -69,22 +72,23 @@ fn push_right(
 fn push_rights_behind(
     alloc: Global,
     out: &mut Vec<Entry>,
-    row: &TokenHops,
+    token: Token,
     layer: &[Entry],
     j: usize,
+    spans: &Spans,
     t: &Text,
     profile: u8,
 ) -> Result<(), NoMemory>
-    requires hops { AreHops (SpansBack t.now row.now.token) row.now.hops.items }
+    requires spans { spans.now ≡ record { text = t.now; profile = profile } }
     requires short { j < 3 }
-    requires token { IsTokenOf profile row.now.token }
+    requires token { IsTokenOf profile token }
     requires layer { Entries (RightAt profile t.now) (length t.now) (HasLength j) layer.now }
     ensures { OnOk result (AddsEntries (RightAt profile t.now) (length t.now) out.old.items out.new.items
-        (BeginsWithIt row.now.token layer.now (length layer.now))) }
+        (BeginsWithIt token layer.now (length layer.now))) }
 {
     let _tokens = j;
     for e in layer {
-        push_right(alloc, out, row, e, t, profile)?;
+        push_right(alloc, out, token, e, spans, t, profile)?;
     }
     Ok(())
 }
@@ -105,36 +109,31 @@ fn longer_rights(
     alloc: Global,
     layer: &[Entry],
     j: usize,
-    table: &[TokenHops],
+    spans: &Spans,
     t: &Text,
     profile: u8,
 ) -> Result<Vec<Entry>, NoMemory>
     requires short { j < 3 }
     requires layer { Entries (RightAt profile t.now) (length t.now) (HasLength j) layer.now }
-    requires table { AreTables profile (SpansBack t.now) table.now }
+    requires spans { spans.now ≡ record { text = t.now; profile = profile } }
     ensures { IfOk result (λ v. Entries (RightAt profile t.now) (length t.now) (HasLength (j + 1)) v.items) }
 {
     let mut out = Vec::new(alloc);
-    for row in table {
-        push_rights_behind(alloc, &mut out, row, layer, j, t, profile)?;
+    for i in 0..token_count(profile) {
+        push_rights_behind(alloc, &mut out, token_at(i), layer, j, spans, t, profile)?;
     }
     Ok(out)
 }
 
 /// The sequences of tokens of the profile that begin somewhere in the text, in order.
-pub fn rights(
-    alloc: Global,
-    table: &[TokenHops],
-    t: &Text,
-    profile: u8,
-) -> Result<Vec<Entry>, NoMemory>
-    requires table { AreTables profile (SpansBack t.now) table.now }
+pub fn rights(alloc: Global, spans: &Spans, t: &Text, profile: u8) -> Result<Vec<Entry>, NoMemory>
+    requires spans { spans.now ≡ record { text = t.now; profile = profile } }
     ensures { IfOk result (λ v. AreRights profile t.now v.items) }
 {
     let mut all = first_rights(alloc, t, profile)?;
-    let one = longer_rights(alloc, &all, 0, table, t, profile)?;
-    let two = longer_rights(alloc, &one, 1, table, t, profile)?;
-    let three = longer_rights(alloc, &two, 2, table, t, profile)?;
+    let one = longer_rights(alloc, &all, 0, spans, t, profile)?;
+    let two = longer_rights(alloc, &one, 1, spans, t, profile)?;
+    let three = longer_rights(alloc, &two, 2, spans, t, profile)?;
     join(&mut all, one)?;
     join(&mut all, two)?;
     join(&mut all, three)?;

@@ -11,7 +11,7 @@ use Rattle.fill_guard.proofs.kept.keep_literal.Goals as goal
 pub returns-then-not-passes_all : goal.returns-then-not-passes_all
 returns-then-not-passes_all c = λ sheet inside outside in_counts out_counts.
     keeps_skip sheet inside outside c.args.l.now c.args.kept.now.items
-    (λ h. iff_false c.passes_all.ensures c.if-not-passes_all.true (holds_pass sheet c.args.l.now inside c.args.inside.now in_counts h))
+    (λ h. iff_false c.passes_all.ensures c.if-not-passes_all.true (holds_pass sheet c.args.l.now inside c.args.inside.now c.requires.least in_counts h))
 
 pub returns-then-has_set : goal.returns-then-has_set
 returns-then-has_set c = λ sheet inside outside in_counts out_counts.
@@ -19,7 +19,7 @@ returns-then-has_set c = λ sheet inside outside in_counts out_counts.
     let has = c.has_set.ensures.0 c.if-has_set.true in
     let k : Kept = has.0 in
     keeps_known sheet inside outside l k c.args.kept.now.items (subst (λ z. Contains z k) c.deref.ensures.value has.1)
-    (subst (IsSetOf sheet outside l) (sym has.2) (set_of_mask sheet l outside c.args.outside.now c.mask-set.result out_counts c.mask-set.ensures))
+    (subst (IsSetOf sheet outside l) (sym has.2) (set_of_mask sheet l outside c.args.outside.now c.mask-set.result c.requires.least out_counts c.mask-set.ensures))
 
 pub returns : goal.returns
 returns c =
@@ -29,6 +29,6 @@ returns c =
     (KeepsCounted l.column l.seq c.args.inside.now c.args.outside.now c.args.kept.now.items c.put.new.kept.items (OnlyLiteral l))
     (λ e sheet inside outside in_counts out_counts.
     keeps_new sheet inside outside k c.args.kept.now.items c.put.new.kept.items e
-    (passes_on sheet l inside c.args.inside.now in_counts (c.passes_all.ensures.0 c.if-not-passes_all.false))
-    (set_of_mask sheet l outside c.args.outside.now c.mask-set.result out_counts c.mask-set.ensures))
+    (passes_on sheet l inside c.args.inside.now c.requires.least in_counts (c.passes_all.ensures.0 c.if-not-passes_all.false))
+    (set_of_mask sheet l outside c.args.outside.now c.mask-set.result c.requires.least out_counts c.mask-set.ensures))
     c.put.ensures

@@ -3,7 +3,7 @@ use Rattle.std.specs.Prelude.{Contains}
 use Rattle.std.specs.List.{AllZip}
 use Rattle.std.proofs.lemmas.Slice.Zip.{AllZip-long}
 use Rattle.fill_text.proofs.ListReads.{on_ok}
-use Rattle.fill_guard.specs.Read.{IsMatchCount}
+use Rattle.fill_guard.specs.Matches.{IsMatchCount}
 use Rattle.fill_guard.specs.declared.kept.Kept.{Kept}
 use Rattle.fill_guard.specs.Kept.{KeepsCounted, KeepsRead, OfLeast}
 use Rattle.fill_guard.proofs.KeptLaws.{counts_of_cells, keeps_done}

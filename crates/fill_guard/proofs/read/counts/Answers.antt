@@ -1,5 +1,5 @@
 use Rattle.std.proofs.Common.{arith}
-use Rattle.fill_guard.specs.Read.{IsMatchCount}
+use Rattle.fill_guard.specs.Matches.{IsMatchCount}
 use Rattle.fill_guard.proofs.MaskLaws.{zip_more}
 use Rattle.fill_guard.proofs.read.counts.Goals as goal
 

@@ -1,6 +1,6 @@
 use Rattle.std.proofs.Common.{take}
 use Rattle.std.specs.List.{AllZip}
-use Rattle.fill_guard.specs.Read.{IsMatchCount}
+use Rattle.fill_guard.specs.Matches.{IsMatchCount}
 use Rattle.fill_guard.proofs.read.counts.Given as goal
 
 abbrev pub invariant-loop-cell : goal.invariant-loop-cell

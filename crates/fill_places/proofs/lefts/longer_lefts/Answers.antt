@@ -18,3 +18,9 @@ returns c =
     let all = subst (λ (m : ℕ). AddsEntries (LeftAt c.args.profile c.args.t.now) (length c.args.t.now) c.new-out.result.items c.loop-e.out.items (EndsWithAny c.args.profile c.args.layer.now m)) e c.loop-e.invariant in
     next_lefts c.args.profile c.args.t.now (length c.args.t.now) c.args.layer.now c.args.j c.loop-e.out.items c.requires.layer
     (grows_all (LeftAt c.args.profile c.args.t.now) (length c.args.t.now) (EndsWithAny c.args.profile c.args.layer.now (length c.args.layer.now)) c.new-out.result.items c.loop-e.out.items c.new-out.ensures.items all)
+
+pub push_lefts_after-requires-clause-short : goal.push_lefts_after-requires-clause-short
+push_lefts_after-requires-clause-short c =
+    let few = (c.requires.layer.each c.loop-e.e-index c.e-item.result
+    (slice_get_read c.args.layer.now (length c.args.layer.now) c.loop-e.e-index c.e-item.result refl (omega arith) c.e-item.is)).1 in
+    omega (arith, c.requires.short)

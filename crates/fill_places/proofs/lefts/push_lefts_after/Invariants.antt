@@ -3,5 +3,5 @@ use Rattle.fill_places.specs.Sides.{LeftAt}
 use Rattle.fill_places.specs.Entries.{AddsEntries, EndsWithOne}
 use Rattle.fill_places.proofs.lefts.push_lefts_after.Given as goal
 
-abbrev pub invariant-loop-row : goal.invariant-loop-row
-invariant-loop-row l = AddsEntries (LeftAt l.profile l.t) (length l.t) l.initial.out.items l.out.items (EndsWithOne l.e.seq (l.row-index + 1))
+abbrev pub invariant-loop-i : goal.invariant-loop-i
+invariant-loop-i l = AddsEntries (LeftAt l.profile l.t) (length l.t) l.initial.out.items l.out.items (EndsWithOne l.e.seq (l.i + 1))

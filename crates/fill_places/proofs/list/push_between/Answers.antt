@@ -16,3 +16,7 @@ pub returns : goal.returns
 returns c =
     let e : c.loop-l.l-index ≡ length c.args.lefts.now = omega arith in
     subst (λ (m : ℕ). Adds place_cmp c.args.out.now c.loop-l.out (FromLefts c.args.profile c.args.t.now c.args.k c.args.lefts.now m)) e c.loop-l.invariant
+
+pub push_left-requires-clause-few : goal.push_left-requires-clause-few
+push_left-requires-clause-few c = (c.requires.lefts.each c.loop-l.l-index c.l-item.result
+    (slice_get_read c.args.lefts.now (length c.args.lefts.now) c.loop-l.l-index c.l-item.result refl (omega arith) c.l-item.is)).1

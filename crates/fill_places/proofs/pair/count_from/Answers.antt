@@ -1,15 +1,22 @@
-use Rattle.std.proofs.Common.{arith, ◌+◌, ◌-◌, ℕ, sym, subst}
-use Rattle.std.proofs.lemmas.Bool.{iff_false}
-use Rattle.fill_tokens.specs.Value.{IsCount}
-use Rattle.fill_tokens.proofs.CountLaws.{yes, no}
+use Rattle.std.proofs.Common.{◌+◌, ◌-◌, ℕ, arith}
 use Rattle.fill_places.specs.Marks.{Common}
+use Rattle.fill_places.proofs.CommonLaws.{count_back, count_before}
 use Rattle.fill_places.proofs.pair.count_from.Goals as goal
-use Rattle.fill_places.proofs.pair.count_from.Goals.{then-both, else-both}
 
-pub loop-i-preserved : goal.loop-i-preserved
-loop-i-preserved c =
-    let P : ℕ → Type 0 = λ j. Common c.args.l.now.at.items c.args.r.now.at.items (c.args.n - j) in
-    elim c.if-both.branch [
-      | then-both w ↦ (omega arith, subst (λ n. IsCount P (c.loop-i.i + 1) n) (sym w.count-is) (yes P c.loop-i.i c.loop-i.count (c.both.ensures.0 w.if-both.true) c.loop-i.invariant.1))
-      | else-both w ↦ (omega arith, subst (λ n. IsCount P (c.loop-i.i + 1) n) (sym w.count-is) (no P c.loop-i.i c.loop-i.count (iff_false c.both.ensures w.if-both.false) c.loop-i.invariant.1))
-    ]
+pub overflow_sub-result : goal.overflow_sub-result
+overflow_sub-result c =
+    let p = count_before (Common c.args.l.now.at c.args.r.now.at) c.args.k c.args.upto c.requires.here c.requires.upto in
+    omega (arith, p.0)
+
+pub overflow_sub-result-2 : goal.overflow_sub-result-2
+overflow_sub-result-2 c =
+    let P : ℕ → Type 0 = Common c.args.l.now.at c.args.r.now.at in
+    let p = count_before P c.args.k c.args.upto c.requires.here c.requires.upto in
+    let q = count_back P c.args.n c.common_below-all.result c.common_below-all.ensures (c.args.n - c.args.k + 1) c.args.k (c.args.upto - 1) (omega (arith, c.requires.order)) p.1 in
+    omega (arith, q.0)
+
+pub returns : goal.returns
+returns c =
+    let P : ℕ → Type 0 = Common c.args.l.now.at c.args.r.now.at in
+    let p = count_before P c.args.k c.args.upto c.requires.here c.requires.upto in
+    (count_back P c.args.n c.common_below-all.result c.common_below-all.ensures (c.args.n - c.args.k + 1) c.args.k (c.args.upto - 1) (omega (arith, c.requires.order)) p.1).1

@@ -13,5 +13,5 @@ push_counted-requires-clause-tokens c = ((c.requires.left.sound c.args.k c.requi
 
 pub push_counted-requires-clause-counts : goal.push_counted-requires-clause-counts
 push_counted-requires-clause-counts c =
-    counts_from_marks c.args.profile c.args.t.now c.args.k c.args.l.now.seq c.args.r.now.seq c.args.l.now.at.items c.args.r.now.at.items c.count_to-a.result c.count_from-b.result c.len-n.result c.len-n.ensures.value
+    counts_from_marks c.args.profile c.args.t.now c.args.k c.args.l.now.seq c.args.r.now.seq c.args.l.now.at c.args.r.now.at c.count_to-a.result c.count_from-b.result c.len-n.result c.len-n.ensures.value
     c.requires.within c.requires.left c.requires.right c.requires.ends c.requires.begins c.count_to-a.ensures c.count_from-b.ensures

@@ -13,5 +13,5 @@ returns c =
     let e : Entry = c.in_ok-e.e in
     let items : c.push_entry.new.out.items ≡ e ∷ [] = c.in_ok-push_entry.ensures ∙ ap (λ z. z ++ e ∷ []) c.new-out.ensures.items in
     let given = c.in_ok-e.ensures in
-    let all : AreAll true (length t + 1) e.at.items = subst (λ (m : ℕ). AreAll true (m + 1) e.at.items) c.len.ensures.value given.1 in
-    subst (Entries (RightAt c.args.profile t) (length t) (HasLength 0)) (sym items) (first_layer (RightAt c.args.profile t) (length t) e given.0 (right_everywhere c.args.profile t e.at.items all))
+    let all : AreAll true (length t + 1) e.at = subst (λ (m : ℕ). AreAll true (m + 1) e.at) c.len.ensures.value given.1 in
+    subst (Entries (RightAt c.args.profile t) (length t) (HasLength 0)) (sym items) (first_layer (RightAt c.args.profile t) (length t) e given.0 (right_everywhere c.args.profile t e.at all))

@@ -3,5 +3,5 @@ use Rattle.fill_places.specs.Sides.{RightAt}
 use Rattle.fill_places.specs.Entries.{AddsEntries, BeginsWithAny}
 use Rattle.fill_places.proofs.rights.longer_rights.Given as goal
 
-abbrev pub invariant-loop-row : goal.invariant-loop-row
-invariant-loop-row l = AddsEntries (RightAt l.profile l.t) (length l.t) l.initial.out.items l.out.items (BeginsWithAny l.layer (l.row-index + 1))
+abbrev pub invariant-loop-i : goal.invariant-loop-i
+invariant-loop-i l = AddsEntries (RightAt l.profile l.t) (length l.t) l.initial.out.items l.out.items (BeginsWithAny l.layer (l.i + 1))

@@ -5,7 +5,13 @@ use Rattle.fill_places.proofs.LayerLaws.{it_more}
 use Rattle.fill_places.proofs.rights.push_rights_behind.Goals as goal
 
 pub loop-e-preserved : goal.loop-e-preserved
-loop-e-preserved c = it_more (RightAt c.args.profile c.args.t.now) (length c.args.t.now) c.args.row.now.token c.args.layer.now c.args.j c.loop-e.e-index c.e-item.result
+loop-e-preserved c = it_more (RightAt c.args.profile c.args.t.now) (length c.args.t.now) c.args.token c.args.layer.now c.args.j c.loop-e.e-index c.e-item.result
     c.args.out.now.items c.loop-e.out.items c.push_right.new.out.items c.requires.layer
     (slice_get_read c.args.layer.now (length c.args.layer.now) c.loop-e.e-index c.e-item.result refl (omega arith) c.e-item.is)
     c.loop-e.invariant c.in_ok-push_right.ensures
+
+pub push_right-requires-clause-short : goal.push_right-requires-clause-short
+push_right-requires-clause-short c =
+    let few = (c.requires.layer.each c.loop-e.e-index c.e-item.result
+    (slice_get_read c.args.layer.now (length c.args.layer.now) c.loop-e.e-index c.e-item.result refl (omega arith) c.e-item.is)).1 in
+    omega (arith, c.requires.short)

@@ -1,7 +1,0 @@
-use Rattle.std.proofs.Common.{◌≤◌}
-use Rattle.fill_tokens.specs.Value.{IsCount}
-use Rattle.fill_places.specs.Marks.{Common}
-use Rattle.fill_places.proofs.pair.count_to.Given as goal
-
-abbrev pub invariant-loop-i : goal.invariant-loop-i
-invariant-loop-i l = (l.count ≤ l.i) × IsCount (Common l.l.at.items l.r.at.items) l.i l.count
