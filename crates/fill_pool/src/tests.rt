@@ -1,0 +1,3 @@
+//! Slices that are put in, read and cut away.
+use crate::*;
+use std::test::Fail;
