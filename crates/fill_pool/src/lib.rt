@@ -4,6 +4,7 @@
 //! So a set that is made once and read often costs its items and an entry of a table, and no list of its own.
 #![tactic(auto)]
 
+mod block;
 mod chunk;
 mod numbers;
 mod pool;
