@@ -20,7 +20,7 @@ use types.Logic.{Logic, sem}
 use types.Kit.{Item, Goal, Seq, Step, step, ‵, some, ◌⊛◌, ◌$◌, ◌∵◌, !, qed, by, move, keep, drop as skip, use0, use1, use2, pick, split, frame, fsplit, fjoin, fpick, fpack, feq_i, feq_l, rewrite, done}
 use denote.RattleType.{RattleType, Valss}
 use denote.Laws.{Is, shows}
-use denote.Memory.{part_at}
+use denote.Memory.{part_at, shared_of}
 use denote.RawPtr.{Ptr, RawPtr, ptr_val}
 use denote.Shadow.{makes_shadow}
 use denote.Slice.{elements_shared}
@@ -84,7 +84,7 @@ module _ {M : Type 1} {𝓤 : Ura M} {𝓛 : Logic 𝓤} {K : Type 0} {Γ : List
   pub one_value : K → (E : El) (x : el_x E) (vs : List Val) → ((v : Val) → vs ≡ v ∷ [] → Good (elτ E) v → Seq K 𝓛 (‵ ((R E).own_val x (v ∷ [])) ∷ Γ) G) → Seq K 𝓛 (‵ ((R E).own_val x vs) ∷ Γ) G
   one_value t E x vs k = peeks t (R E) (Is (R E)) (shows 𝓛 (R E)) x vs (λ is.
       let found = one E vs ((lawful E 𝓛).typed x vs is) in
-      rewrite t 0 (λ (us : List Val). ‵ ((R E).own_val x us)) found.1.0 refl $ k found.0 found.1.0 found.1.1)
+      rewrite t 0 (λ (us : List Val). ‵ ((R E).own_val x us)) found.1 refl $ k found.0 found.1 found.2)
 
 -- a tuple of three values
 abbrev pub triple : Val → Val → Val → Val
@@ -167,12 +167,12 @@ module _ (E : El) {M : Type 1} {𝓤 : Ura M} (𝓛 : Logic 𝓤) (b : ℕ) wher
     from_on xs zero o at le e = let here : o ≡ at = omega (arith, zero-mul s) in subst (λ (k : ℕ). ent 𝓤 (sem 𝓛 (Seen o xs)) (sem 𝓛 (Seen k xs))) here (id⊢ 𝓤 _)
     from_on [] (suc i) o at le e = absurd (omega arith)
     from_on (x ∷ xs) (suc i) o at le e =
-        via 𝓤 (sem 𝓛 (Seen (o + s) xs)) (snd∗ 𝓤 (sem 𝓛 (elements_shared (R E) (x ∷ []) b o κ)) (sem 𝓛 (Seen (o + s) xs))) (from_on xs i (o + s) at (omega arith) (omega (arith, suc-mul i s)))
+        via 𝓤 (sem 𝓛 (Seen (o + s) xs)) (snd∗ 𝓤 (sem 𝓛 (shared_of (R E) x b o κ)) (sem 𝓛 (Seen (o + s) xs))) (from_on xs i (o + s) at (omega arith) (omega (arith, suc-mul i s)))
 
     up_to : (xs : List (el_x E)) (n o : ℕ) → ent 𝓤 (sem 𝓛 (Seen o xs)) (sem 𝓛 (Seen o (take n xs)))
     up_to xs zero o = qed 𝓛 (‵ (Seen o xs) ∷ []) ∵ keep ! [] $ done !
     up_to [] (suc n) o = id⊢ 𝓤 _
-    up_to (x ∷ xs) (suc n) o = mono_r 𝓤 _ (up_to xs n (o + s))
+    up_to (x ∷ xs) (suc n) o = mono_r 𝓤 (sem 𝓛 (shared_of (R E) x b o κ)) (up_to xs n (o + s))
 
     pub part_seen : (xs : List (el_x E)) (i n o : ℕ) → i ≤ length xs → ent 𝓤 (sem 𝓛 (Seen o xs)) (sem 𝓛 (Seen (i * s + o) (take n (drop i xs))))
     part_seen xs i n o le = via 𝓤 (sem 𝓛 (Seen (i * s + o) (drop i xs))) (from_on xs i o (i * s + o) le refl) (up_to (drop i xs) n (i * s + o))
