@@ -151,8 +151,8 @@ module _ (E : El) {M : Type 1} {𝓤 : Ura M} (𝓛 : Logic 𝓤) (b : ℕ) wher
   all_emptied (x ∷ xs) n o m e =
       let k = length xs + n in let more : suc k ≡ m = omega arith in
       subst (λ (j : ℕ). ent 𝓤 (sem 𝓛 (Laid o (x ∷ xs) n)) (sem 𝓛 (Bare j o))) more (
-        qed 𝓛 (‵ (Laid o (x ∷ xs) n) ∷ []) ∵ fsplit ! $ use1 𝓛 (‵ (froom (elτ E) b o)) (emptied x o) $ move ! (1 ∷ []) $
-        use1 𝓛 (‵ (Bare k (o + s))) (all_emptied xs n (o + s) k refl) $ move ! (1 ∷ 0 ∷ []) $ by ! (one_in k o))
+      qed 𝓛 (‵ (Laid o (x ∷ xs) n) ∷ []) ∵ fsplit ! $ use1 𝓛 (‵ (froom (elτ E) b o)) (emptied x o) $ move ! (1 ∷ []) $
+      use1 𝓛 (‵ (Bare k (o + s))) (all_emptied xs n (o + s) k refl) $ move ! (1 ∷ 0 ∷ []) $ by ! (one_in k o))
 
   pub fewer : (kept : ℕ) (xs : List (el_x E)) (n o m : ℕ) → length (take kept xs) + m ≡ length xs + n → ent 𝓤 (sem 𝓛 (Laid o xs n)) (sem 𝓛 (Laid o (take kept xs) m))
   fewer zero xs n o m e = all_emptied xs n o m (omega arith)

@@ -117,6 +117,5 @@ impl<T> Store<T> {
     /// Forgets all items but the first ones, whose places are room again. It does nothing.
     pub(crate) fn forget(&mut self, _kept: usize)
         ensures { (self.new.at ≡ self.old.at) × (self.new.items ≡ take _kept self.old.items) × (length self.new.items + self.new.free ≡ length self.old.items + self.old.free) }
-    {
-    }
+    {}
 }

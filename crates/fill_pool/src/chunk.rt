@@ -116,8 +116,8 @@ impl<T: Copy> Chunk<T> {
         ensures items { held self.new ≡ held self.old ++ items.now }
         ensures size { size self.new ≡ size self.old }
     {
-        for item in items {
-            self.push(*item);
+        for i in 0..items.len() {
+            self.push(items[i]);
         }
     }
 
