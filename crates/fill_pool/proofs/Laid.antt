@@ -122,14 +122,16 @@ module _ {X : Type 0} where
   -- over chunks: what `append` does
   pub chunk_added : (cs ds : List (Chunk X)) (es : List Extent) (seen lent new : Chunk X) (items : List X) (n : ℕ) (e : Extent) → AreLaid (all_held cs) es
       → HasRoom cs ds n → e.chunk + 1 ≡ length ds → seen ≡ get_or ds e.chunk seen → lent ≡ get_or ds e.chunk lent → held new ≡ held lent ++ items
-      → e.from ≡ length (held seen) → e.to ≡ e.from + length items
+      → e.from ≡ length (held seen) → e.to ≡ length (held new)
       → let zss = all_held (set ds e.chunk new) in AreLaid zss (es ++ e ∷ []) × (slices_of zss (es ++ e ∷ []) ≡ slices_of (all_held cs) es ++ items ∷ [])
   chunk_added cs ds es seen lent new items n e laid room last is is_lent wrote from to =
       let lt : e.chunk < length ds = omega arith in
       let row : (c : Chunk X) → c ≡ get_or ds e.chunk c → held c ≡ row_of (all_held ds) e.chunk = λ c same. ap held same ∙ sym (get_or-map held ds e.chunk c [] lt) in
+      let begins : length (held lent) ≡ e.from = ap length (row lent is_lent ∙ sym (row seen is)) ∙ sym from in
+      let long : e.to ≡ e.from + length items = to ∙ ap length wrote ∙ length-append (held lent) items ∙ ap (λ k. k + length items) begins in
       let counts : length (all_held cs) ≤ length (all_held ds) = omega (arith, length-map cs held, length-map ds held, room.fewer) in
       let done = added (all_held cs) (all_held ds) es (held new) items e laid counts room.same (last ∙ sym (length-map ds held))
-      (wrote ∙ ap (λ l. l ++ items) (row lent is_lent)) (from ∙ ap length (row seen is)) to in
+      (wrote ∙ ap (λ l. l ++ items) (row lent is_lent)) (from ∙ ap length (row seen is)) long in
       let moved : set (all_held ds) e.chunk (held new) ≡ all_held (set ds e.chunk new) = sym (map-set held ds e.chunk new) in
       subst (λ zss. AreLaid zss (es ++ e ∷ []) × (slices_of zss (es ++ e ∷ []) ≡ slices_of (all_held cs) es ++ items ∷ [])) moved done
 

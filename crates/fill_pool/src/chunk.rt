@@ -110,15 +110,17 @@ impl<T> Chunk<T> {
 }
 
 impl<T: Copy> Chunk<T> {
-    /// Puts the items behind those that are there.
-    pub(crate) fn fill(&mut self, items: &[T])
+    /// Puts the items behind those that are there, and tells how many there are then.
+    pub(crate) fn fill(&mut self, items: &[T]) -> usize
         requires { length (held self.old) + length items.now ≤ size self.old }
         ensures items { held self.new ≡ held self.old ++ items.now }
+        ensures end { result ≡ length (held self.new) }
         ensures size { size self.new ≡ size self.old }
     {
         for i in 0..items.len() {
             self.push(items[i]);
         }
+        self.len()
     }
 
     /// Puts one item behind those that are there.

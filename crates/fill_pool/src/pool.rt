@@ -84,9 +84,8 @@ impl<T: Copy> Pool<T> {
         self.extents.reserve(1)?;
         let chunk = with_room(&mut self.chunks, items.len())?;
         let from = self.chunks[chunk].len();
-        self.chunks[chunk].fill(items);
+        let to = self.chunks[chunk].fill(items);
         let number = self.extents.len();
-        let to = from + items.len();
         self.extents.push_reserved(Extent { chunk, from, to });
         Ok(Span::at(number))
     }
