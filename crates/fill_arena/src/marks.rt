@@ -76,11 +76,11 @@ fn spread(arena: &Arena, number: usize, marks: &mut [bool])
 }
 
 /// Marks what the entry names.
-fn mark_entry(entry: Content<'_>, marks: &mut [bool])
-    requires { EachIn (λ n. n < length marks.old) (entry_names (entry_of entry)) }
-    ensures { marks.new ≡ fold marked marks.old (entry_names (entry_of entry)) }
+fn mark_entry(content: Content<'_>, marks: &mut [bool])
+    requires { EachIn (λ n. n < length marks.old) (entry_names (entry_of content)) }
+    ensures { marks.new ≡ fold marked marks.old (entry_names (entry_of content.entry)) }
 {
-    match entry {
+    match content {
         Content::Places(_) => {}
         Content::Sources(items) => mark_sources(items, marks),
         Content::Atoms(items) => mark_atoms(items, marks),

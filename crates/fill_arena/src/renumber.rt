@@ -17,12 +17,12 @@ use std::alloc::Global;
 pub(crate) fn renumber_entry(
     alloc: Global,
     table: &[Option<usize>],
-    entry: Content<'_>,
+    content: Content<'_>,
 ) -> Result<Entry, NoMemory>
-    requires { EachIn (HasNew table.now) (entry_names (entry_of entry)) }
-    ensures { IfOk result (λ made. EntryBecomes (Takes table.now) (entry_of entry) made) }
+    requires { EachIn (HasNew table.now) (entry_names (entry_of content)) }
+    ensures { IfOk result (λ made. EntryBecomes (Takes table.now) (entry_of content.entry) made) }
 {
-    match entry {
+    match content {
         Content::Places(places) => Ok(Entry::Places(copy_places(alloc, places)?)),
         Content::Sources(items) => {
             let made = renumber_sources(alloc, table, items)?;

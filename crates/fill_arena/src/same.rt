@@ -11,7 +11,7 @@ use std::cmp::Ordering;
 
 /// Whether both are of one kind and list the same.
 pub(crate) fn same_entry(a: Content<'_>, b: &Entry) -> bool
-    ensures { IsTrue result ↔ (entry_of a ≡ b.now) }
+    ensures { IsTrue result ↔ (entry_of a.entry ≡ b.now) }
 {
     match (a, b) {
         (Content::Places(xs), Entry::Places(ys)) => same_places(xs, ys.as_slice()),
