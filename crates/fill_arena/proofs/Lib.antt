@@ -11,6 +11,7 @@ pub mod Indexed
 pub mod Lists
 pub mod Marking
 pub mod Orders
+pub mod Pooled
 pub mod Samples
 pub mod Scan
 pub mod Sets

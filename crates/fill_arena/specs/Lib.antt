@@ -1,5 +1,6 @@
 pub mod Contents
 pub mod Copied
+pub mod Entries
 pub mod Hash
 pub mod Index
 pub mod Named

@@ -1,9 +1,11 @@
 //! The arena.
 ghost use Rattle.std.specs.Prelude.{◌≡◌, ℕ, ◌+◌, ◌<◌, ◌≤◌, List, [], ◌∷◌, ◌++◌, Some, slice_get, length, take, IfOk, OnOk, OnErr};
 ghost use Rattle.fill_arena.specs.Contents.{AreDistinct, Extends, HasEdges, HasNodes, Interns, IsAtomSet, IsGraph, IsPlaceSet, IsSourceSet};
+ghost use Rattle.fill_arena.specs.Entries.{entry_of};
 ghost use Rattle.fill_arena.specs.Index.{IsFree};
 ghost use Rattle.fill_arena.specs.WellMade.{AreAtoms, ArePlaces, AreSources, IsEntry, IsGraphOf, IsWellMade};
 
+use crate::entries::{Content, Entries};
 use crate::entry::{AtomItem, Edge, Entry, SourceItem};
 use crate::index::{Found, Index, Slot};
 use crate::numbers::{AtomSet, GraphId, Mark, PlaceSet, SourceSet};
@@ -16,7 +18,7 @@ use std::marker::Model;
 /// Sets and graphs, each under a number that it keeps until a cut takes it away.
 #[derive(Debug, Drop)]
 pub struct Arena {
-    entries: Vec<Entry>,
+    entries: Entries,
     index: Index,
 }
 
@@ -29,9 +31,9 @@ impl Model for Arena {
 
     ghost Value = { List Entry };
 
-    ghost view = { λ arena. arena.entries.items };
+    ghost view = { λ arena. arena.entries };
 
-    ghost invariant = { λ arena. IsWellMade arena.entries.items × AreDistinct arena.entries.items × IsIndexed arena.entries.items arena.index };
+    ghost invariant = { λ arena. IsWellMade arena.entries × AreDistinct arena.entries × IsIndexed arena.entries arena.index };
 }
 
 impl Arena {
@@ -40,7 +42,7 @@ impl Arena {
         ensures { result ≡ [] }
     {
         Arena {
-            entries: Vec::new(alloc),
+            entries: Entries::new(alloc),
             index: Index::new(alloc),
         }
     }
@@ -53,7 +55,7 @@ impl Arena {
         ensures kept { Extends self.old self.new }
         ensures err { OnErr result (self.new ≡ self.old) }
     {
-        let mut copied = List::new(*self.entries.allocator());
+        let mut copied = List::new(self.entries.alloc());
         copied.append(places)?;
         Ok(PlaceSet::at(self.intern(Entry::Places(copied))?))
     }
@@ -104,18 +106,18 @@ impl Arena {
         ensures interned { IfOk result (Interns self.old self.new entry) }
         ensures err { OnErr result (self.new ≡ self.old) }
     {
-        match self.index.find(self.entries.as_slice(), &entry)? {
+        match self.index.find(&self.entries, &entry)? {
             Found::Known(number) => Ok(number),
             Found::Free(slot) => push(&mut self.entries, &mut self.index, entry, slot),
         }
     }
 
     /// What stands under a number.
-    pub(crate) fn entry(&self, number: usize) -> &Entry
+    pub(crate) fn entry(&self, number: usize) -> Content<'_>
         requires { number < length self.now }
-        ensures { slice_get self.now number ≡ Some result.now }
+        ensures { slice_get self.now number ≡ Some (entry_of result) }
     {
-        &self.entries[number]
+        self.entries.get(number)
     }
 
     /// The places of a set, in order.
@@ -123,8 +125,8 @@ impl Arena {
         requires { IsPlaceSet self.now s }
         ensures { slice_get self.now s ≡ Some (Entry.Places result.now) }
     {
-        match &self.entries[s.index()] {
-            Entry::Places(places) => places.as_slice(),
+        match self.entries.get(s.index()) {
+            Content::Places(places) => places,
             _ => unreachable!(),
         }
     }
@@ -134,8 +136,8 @@ impl Arena {
         requires { IsSourceSet self.now s }
         ensures { slice_get self.now s ≡ Some (Entry.Sources result.now) }
     {
-        match &self.entries[s.index()] {
-            Entry::Sources(items) => items.as_slice(),
+        match self.entries.get(s.index()) {
+            Content::Sources(items) => items,
             _ => unreachable!(),
         }
     }
@@ -145,8 +147,8 @@ impl Arena {
         requires { IsAtomSet self.now s }
         ensures { slice_get self.now s ≡ Some (Entry.Atoms result.now) }
     {
-        match &self.entries[s.index()] {
-            Entry::Atoms(items) => items.as_slice(),
+        match self.entries.get(s.index()) {
+            Content::Atoms(items) => items,
             _ => unreachable!(),
         }
     }
@@ -156,8 +158,8 @@ impl Arena {
         requires { IsGraph self.now g }
         ensures { HasNodes self.now g result }
     {
-        match &self.entries[g.index()] {
-            Entry::Graph(nodes, _) => *nodes,
+        match self.entries.get(g.index()) {
+            Content::Graph(nodes, _) => nodes,
             _ => unreachable!(),
         }
     }
@@ -167,8 +169,8 @@ impl Arena {
         requires { IsGraph self.now g }
         ensures { HasEdges self.now g result.now }
     {
-        match &self.entries[g.index()] {
-            Entry::Graph(_, edges) => edges.as_slice(),
+        match self.entries.get(g.index()) {
+            Content::Graph(_, edges) => edges,
             _ => unreachable!(),
         }
     }
@@ -177,7 +179,7 @@ impl Arena {
     pub fn mark(&self) -> Mark
         ensures { result ≡ length self.now }
     {
-        Mark::at(self.entries.as_slice().len())
+        Mark::at(self.entries.len())
     }
 
     /// Takes away what came after the mark, whose arena began as this one.
@@ -186,8 +188,9 @@ impl Arena {
         ensures cut { self.new ≡ take mark self.old }
         ensures kept { Extends self.new self.old }
     {
-        self.entries.truncate(mark.count());
-        self.index.cut(mark.count());
+        let count = mark.count();
+        self.entries.cut(count);
+        self.index.cut(count);
     }
 
     /// What an arena keeps: each of its sets and graphs is well made. It does nothing.
@@ -208,30 +211,30 @@ impl Arena {
     pub fn size(&self) -> u128
         ensures { result ≡ length self.now }
     {
-        self.entries.as_slice().len() as u128
+        self.entries.len() as u128
     }
 }
 
 /// Puts an entry at the end, with its slot, and gives its number.
 fn push(
-    entries: &mut Vec<Entry>,
+    entries: &mut Entries,
     index: &mut Index,
     entry: Entry,
     slot: Slot,
 ) -> Result<usize, NoMemory>
-    requires { IsFree entries.old.items index.old entry slot }
-    ensures number { IfOk result (λ n. n ≡ length entries.old.items) }
-    ensures entries { OnOk result (entries.new.items ≡ entries.old.items ++ entry ∷ []) }
+    requires { IsFree entries.old index.old entry slot }
+    ensures number { IfOk result (λ n. n ≡ length entries.old) }
+    ensures entries { OnOk result (entries.new ≡ entries.old ++ entry ∷ []) }
     ensures slots { OnOk result (index.new ≡ index.old ++ slot ∷ []) }
-    ensures entries_err { OnErr result (entries.new.items ≡ entries.old.items) }
+    ensures entries_err { OnErr result (entries.new ≡ entries.old) }
     ensures slots_err { OnErr result (index.new ≡ index.old) }
 {
-    let number = entries.as_slice().len();
+    let number = entries.len();
     if entries.push(entry).is_err() {
         return Err(NoMemory);
     }
     if let Err(e) = index.push(slot) {
-        entries.truncate(number);
+        entries.cut(number);
         return Err(e);
     }
     Ok(number)

@@ -4,6 +4,7 @@ ghost use Rattle.fill_arena.specs.Contents.{In};
 ghost use Rattle.fill_arena.specs.Index.{IsFound, IsIndexed};
 ghost use Rattle.fill_arena.specs.declared.entry.Entry.{Entry as Listed};
 
+use crate::entries::Entries;
 use crate::entry::Entry;
 use crate::hash::hash_entry;
 use crate::same::same_entry;
@@ -80,7 +81,7 @@ impl Index {
     /// The number of the entry, or its slot where it has none.
     ///
     /// It looks at the numbers of the entry's hash alone. An entry whose hash 2^64 - 1 others have is refused.
-    pub(crate) fn find(&self, entries: &[Entry], entry: &Entry) -> Result<Found, NoMemory>
+    pub(crate) fn find(&self, entries: &Entries, entry: &Entry) -> Result<Found, NoMemory>
         requires { IsIndexed entries.now self.now }
         ensures { IfOk result (IsFound entries.now self.now entry.now) }
     {
@@ -90,7 +91,7 @@ impl Index {
             let Some(number) = self.number(slot) else {
                 return Ok(Found::Free(slot));
             };
-            if same_entry(&entries[number], entry) {
+            if same_entry(entries.get(number), entry) {
                 return Ok(Found::Known(number));
             }
         }

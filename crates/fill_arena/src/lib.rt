@@ -9,6 +9,7 @@
 
 mod arena;
 mod copy;
+mod entries;
 mod entry;
 mod hash;
 mod holds;

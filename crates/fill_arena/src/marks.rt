@@ -2,10 +2,12 @@
 ghost use Rattle.std.specs.Prelude.{◌≡◌, ℕ, ◌<◌, fold, flat_map, length, IfOk};
 ghost use Rattle.fill_arena.specs.Contents.{EachIn, IsGraph};
 ghost use Rattle.fill_arena.specs.Copied.{AreNamed, IsClosure, IsMarked, Spreads, marked};
+ghost use Rattle.fill_arena.specs.Entries.{entry_of};
 ghost use Rattle.fill_arena.specs.Named.{atom_names, condition_names, edge_names, entry_names, source_names};
 
 use crate::arena::Arena;
-use crate::entry::{AtomItem, ConditionItem, Edge, Entry, SourceItem};
+use crate::entries::Content;
+use crate::entry::{AtomItem, ConditionItem, Edge, SourceItem};
 use crate::numbers::GraphId;
 use fill_text::NoMemory;
 use std::alloc::Global;
@@ -74,15 +76,15 @@ fn spread(arena: &Arena, number: usize, marks: &mut [bool])
 }
 
 /// Marks what the entry names.
-fn mark_entry(entry: &Entry, marks: &mut [bool])
-    requires { EachIn (λ n. n < length marks.old) (entry_names entry.now) }
-    ensures { marks.new ≡ fold marked marks.old (entry_names entry.now) }
+fn mark_entry(content: Content<'_>, marks: &mut [bool])
+    requires { EachIn (λ n. n < length marks.old) (entry_names (entry_of content)) }
+    ensures { marks.new ≡ fold marked marks.old (entry_names (entry_of content.entry)) }
 {
-    match entry {
-        Entry::Places(_) => {}
-        Entry::Sources(items) => mark_sources(items.as_slice(), marks),
-        Entry::Atoms(items) => mark_atoms(items.as_slice(), marks),
-        Entry::Graph(_, edges) => mark_edges(edges.as_slice(), marks),
+    match content {
+        Content::Places(_) => {}
+        Content::Sources(items) => mark_sources(items, marks),
+        Content::Atoms(items) => mark_atoms(items, marks),
+        Content::Graph(_, edges) => mark_edges(edges, marks),
     }
 }
 

@@ -3,8 +3,10 @@ ghost use Rattle.std.specs.Prelude.{◌≡◌, flat_map, IfOk};
 ghost use Rattle.std.specs.List.{AllZip};
 ghost use Rattle.fill_arena.specs.Contents.{EachIn};
 ghost use Rattle.fill_arena.specs.Copied.{AtomBecomes, ConditionBecomes, EdgeBecomes, EntryBecomes, HasNew, OptionBecomes, SourceBecomes, Takes};
+ghost use Rattle.fill_arena.specs.Entries.{entry_of};
 ghost use Rattle.fill_arena.specs.Named.{atom_names, condition_names, edge_names, entry_names, option_names, source_names};
 
+use crate::entries::Content;
 use crate::entry::{AtomItem, ConditionItem, Edge, Entry, SelectItem, SourceItem};
 use crate::numbers::{AtomSet, GraphId, PlaceSet, SourceSet};
 use fill_text::{List, NoMemory, Text};
@@ -15,21 +17,21 @@ use std::alloc::Global;
 pub(crate) fn renumber_entry(
     alloc: Global,
     table: &[Option<usize>],
-    entry: &Entry,
+    content: Content<'_>,
 ) -> Result<Entry, NoMemory>
-    requires { EachIn (HasNew table.now) (entry_names entry.now) }
-    ensures { IfOk result (λ made. EntryBecomes (Takes table.now) entry.now made) }
+    requires { EachIn (HasNew table.now) (entry_names (entry_of content)) }
+    ensures { IfOk result (λ made. EntryBecomes (Takes table.now) (entry_of content.entry) made) }
 {
-    match entry {
-        Entry::Places(places) => Ok(Entry::Places(copy_places(alloc, places.as_slice())?)),
-        Entry::Sources(items) => {
-            let made = renumber_sources(alloc, table, items.as_slice())?;
+    match content {
+        Content::Places(places) => Ok(Entry::Places(copy_places(alloc, places)?)),
+        Content::Sources(items) => {
+            let made = renumber_sources(alloc, table, items)?;
             Ok(Entry::Sources(made))
         }
-        Entry::Atoms(items) => Ok(Entry::Atoms(renumber_atoms(alloc, table, items.as_slice())?)),
-        Entry::Graph(nodes, edges) => {
-            let made = renumber_edges(alloc, table, edges.as_slice())?;
-            Ok(Entry::Graph(*nodes, made))
+        Content::Atoms(items) => Ok(Entry::Atoms(renumber_atoms(alloc, table, items)?)),
+        Content::Graph(nodes, edges) => {
+            let made = renumber_edges(alloc, table, edges)?;
+            Ok(Entry::Graph(nodes, made))
         }
     }
 }

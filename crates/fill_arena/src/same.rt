@@ -1,6 +1,8 @@
 //! Whether contents are equal.
 ghost use Rattle.std.specs.Prelude.{◌≡◌, ◌↔◌, IsTrue};
+ghost use Rattle.fill_arena.specs.Entries.{entry_of};
 
+use crate::entries::Content;
 use crate::entry::{AtomItem, ConditionItem, Edge, Entry, SelectItem, SourceItem};
 use crate::numbers::AtomSet;
 use fill_text::Text;
@@ -8,18 +10,18 @@ use fill_tokens::Place;
 use std::cmp::Ordering;
 
 /// Whether both are of one kind and list the same.
-pub(crate) fn same_entry(a: &Entry, b: &Entry) -> bool
-    ensures { IsTrue result ↔ (a.now ≡ b.now) }
+pub(crate) fn same_entry(a: Content<'_>, b: &Entry) -> bool
+    ensures { IsTrue result ↔ (entry_of a.entry ≡ b.now) }
 {
     match (a, b) {
-        (Entry::Places(xs), Entry::Places(ys)) => same_places(xs.as_slice(), ys.as_slice()),
-        (Entry::Sources(xs), Entry::Sources(ys)) => same_sources(xs.as_slice(), ys.as_slice()),
-        (Entry::Atoms(xs), Entry::Atoms(ys)) => same_atoms(xs.as_slice(), ys.as_slice()),
-        (Entry::Graph(m, xs), Entry::Graph(n, ys)) => {
-            if *m != *n {
+        (Content::Places(xs), Entry::Places(ys)) => same_places(xs, ys.as_slice()),
+        (Content::Sources(xs), Entry::Sources(ys)) => same_sources(xs, ys.as_slice()),
+        (Content::Atoms(xs), Entry::Atoms(ys)) => same_atoms(xs, ys.as_slice()),
+        (Content::Graph(m, xs), Entry::Graph(n, ys)) => {
+            if m != *n {
                 return false;
             }
-            same_edges(xs.as_slice(), ys.as_slice())
+            same_edges(xs, ys.as_slice())
         }
         _ => false,
     }

@@ -1,5 +1,6 @@
 use Rattle.std.proofs.Common.{◌<◌, length, slice_get, Some, subst, arith, ◌≡◌}
 use Rattle.fill_arena.specs.Copied.{IsMarked, Takes}
+use Rattle.fill_arena.specs.Entries.{entry_of}
 use Rattle.fill_arena.proofs.Copying.{copied_none, copied_some, entry_made, names_have}
 use Rattle.fill_arena.proofs.Marking.{is_marked, not_marked}
 use Rattle.fill_arena.proofs.copy.copy_next.Goals as goal
@@ -15,7 +16,7 @@ renumber_entry-requires c =
     let arena = c.args.arena.now in
     let marks = c.args.marks.now in
     let n = c.args.number in
-    let e = c.entry.result.now in
+    let e = entry_of c.entry.result in
     let long = c.requires.long in
     let within = c.requires.within in
     let lt : n < length marks = omega arith in
@@ -27,7 +28,7 @@ pub intern-requires : goal.intern-requires
 intern-requires c =
     let arena = c.args.arena.now in
     let n = c.args.number in
-    let e = c.entry.result.now in
+    let e = entry_of c.entry.result in
     entry_made arena c.args.made.now (Takes c.args.table.now) c.requires.copied.right n e c.in_ok-entry.entry c.in_ok-entry.ensures (c.keeps_made.ensures n e c.entry.ensures)
 
 pub returns : goal.returns
@@ -35,7 +36,7 @@ returns c =
     let arena = c.args.arena.now in
     let marks = c.args.marks.now in
     let n = c.args.number in
-    let e = c.entry.result.now in
+    let e = entry_of c.entry.result in
     let long = c.requires.long in
     let within = c.requires.within in
     let lt : n < length marks = omega arith in

@@ -8,12 +8,11 @@ use Rattle.fill_arena.proofs.arena.Arena.cut.Goals as goal
 
 pub invariant_of-self : goal.invariant_of-self
 invariant_of-self c =
-    let entries = c.self.inside.entries.items in
+    let entries = c.self.inside.entries in
     let slots = c.self.inside.index in
-    let n = c.count.result in
-    let left : c.truncate.new.self.items ≡ take n entries = c.truncate.ensures.items in
-    let index : c.cut.new.self ≡ take n slots = c.cut.ensures ∙ ap (λ m. take m slots) (c.count-2.ensures ∙ sym c.count.ensures) in (
+    let n = c.count-count.result in
+    let left : c.cut.new.self ≡ take n entries = c.cut.ensures in (
       subst IsWellMade (sym left) (made_taken entries n c.self.invariant.0),
       subst AreDistinct (sym left) (distinct_taken entries n c.self.invariant.1),
-      subst (λ l. IsIndexed l c.cut.new.self) (sym left) (subst (λ s. IsIndexed (take n entries) s) (sym index) (indexed_taken entries slots c.self.invariant.2 n)),
+      subst (λ l. IsIndexed l c.cut-2.new.self) (sym left) (subst (λ s. IsIndexed (take n entries) s) (sym c.cut-2.ensures) (indexed_taken entries slots c.self.invariant.2 n)),
     )

@@ -1,11 +1,11 @@
-use Rattle.std.proofs.Common.{rules, ◌≡◌, ◌<◌, inl, inr, length, Some, sym, ap, ◌∙◌, subst, arith}
+use Rattle.std.proofs.Common.{◌≡◌, inl, inr, Some, sym, ap, ◌∙◌, subst, arith}
 use Rattle.std.proofs.lemmas.Bool.{cases_lt}
 use Rattle.std.proofs.lemmas.Option.{slice_get_within}
 use Rattle.fill_arena.specs.Contents.{In}
+use Rattle.fill_arena.specs.Entries.{entry_of}
 use Rattle.fill_arena.specs.Hash.{entry_hash}
 use Rattle.fill_arena.specs.Index.{IsFree, slot_at}
 use Rattle.fill_arena.proofs.Indexed.{free_here}
-use Rattle.fill_arena.proofs.Scan.{here}
 use Rattle.fill_arena.proofs.index.Index.find.Goals as goal
 
 pub returns-in_default : goal.returns-in_default
@@ -18,35 +18,23 @@ returns-in_default c =
     let fresh = subst (λ h. In (slot_at h turn) slots → ⊥) c.hash_entry-hash.ensures none in
     subst (λ h. IsFree entries slots e (slot_at h turn)) (sym c.hash_entry-hash.ensures) (free_here entries slots c.requires e turn c.loop-turn.invariant fresh)
 
-pub bounds-entries-number : goal.bounds-entries-number
-bounds-entries-number c =
+pub get-requires : goal.get-requires
+get-requires c =
     let within = slice_get_within c.args.self.now c.in-Some.number (slot_at c.hash_entry-hash.result c.loop-turn.turn) c.in-Some.ensures in
     let long = c.requires.long in
     omega arith
 
-pub offset_bounds-entries-number : goal.offset_bounds-entries-number
-offset_bounds-entries-number c =
-    let within = slice_get_within c.args.self.now c.in-Some.number (slot_at c.hash_entry-hash.result c.loop-turn.turn) c.in-Some.ensures in
-    let long = c.requires.long in
-    let lt : c.in-Some.number < length c.args.entries.now = omega arith in
-    search rules
-
 pub returns-then-same_entry : goal.returns-then-same_entry
 returns-then-same_entry c =
-    let within = slice_get_within c.args.self.now c.in-Some.number (slot_at c.hash_entry-hash.result c.loop-turn.turn) c.in-Some.ensures in
-    let long = c.requires.long in
-    let there = here c.args.entries.now c.in-Some.number c.index-entries-number.result (omega arith) c.index-entries-number.is in
-    there ∙ ap Some (c.same_entry.ensures.0 c.if-same_entry.true)
+    c.get.ensures ∙ ap Some (c.same_entry.ensures.0 c.if-same_entry.true)
 
 pub loop-turn-preserved : goal.loop-turn-preserved
 loop-turn-preserved c t less =
     let n = c.in-Some.number in
     let e = c.args.entry.now in
     let turn = c.loop-turn.turn in
-    let x = c.index-entries-number.result in
-    let within = slice_get_within c.args.self.now n (slot_at c.hash_entry-hash.result turn) c.in-Some.ensures in
-    let long = c.requires.long in
-    let there = here c.args.entries.now n x (omega arith) c.index-entries-number.is in
+    let x = entry_of c.get.result in
+    let there = c.get.ensures in
     elim (cases_lt t turn) [
       | inl lt ↦ c.loop-turn.invariant t lt
       | inr past ↦

@@ -1,0 +1,147 @@
+//! The sets and graphs of an arena under their numbers.
+ghost use Rattle.std.specs.Prelude.{◌≡◌, ℕ, ◌<◌, ◌≤◌, [], ◌∷◌, ◌++◌, length, take, slice_get, Some, OnOk, OnErr};
+ghost use Rattle.std.specs.Option.{unwrap_or};
+ghost use Rattle.fill_arena.specs.declared.entry.Entry.{Entry as Listed};
+ghost use Rattle.fill_arena.specs.Entries.{AreInPool, IsItems, entry_at, entry_of};
+
+use crate::entry::{AtomItem, Edge, Entry, SourceItem};
+use fill_pool::{Pool, PoolMark, Span};
+use fill_text::{List, NoMemory};
+use fill_tokens::Place;
+use std::alloc::Global;
+use std::marker::Model;
+
+/// What stands under one number, lent.
+#[derive(Clone, Copy)]
+pub(crate) enum Content<'a> {
+    Places(&'a [Place]),
+    Sources(&'a [SourceItem]),
+    Atoms(&'a [AtomItem]),
+    Graph(usize, &'a [Edge]),
+}
+
+/// What is kept under one number. A set of places is kept as its slice of the pool, and with it what the pool had
+/// before.
+#[derive(Debug, Drop)]
+enum Kept {
+    Places(Span, PoolMark),
+    Sources(List<SourceItem>),
+    Atoms(List<AtomItem>),
+    Graph(usize, List<Edge>),
+}
+
+/// Sets and graphs in the order of their numbers. The sets of places are the slices of one pool.
+#[derive(Debug, Drop)]
+pub(crate) struct Entries {
+    kept: Vec<Kept>,
+    places: Pool<Place>,
+}
+
+impl Model for Entries {
+    ghost use Rattle.std.specs.Prelude.{List, map, length};
+    ghost use Rattle.fill_arena.specs.declared.entry.Entry.{Entry};
+    ghost use Rattle.fill_arena.specs.Entries.{AreInPool, entry_at};
+
+    ghost Value = { List Entry };
+
+    ghost view = { λ e. map (entry_at e.places) e.kept.items };
+
+    ghost invariant = { λ e. AreInPool 0 e.kept.items (length e.places) };
+}
+
+impl Entries {
+    /// None, which takes no memory.
+    pub(crate) fn new(alloc: Global) -> Entries
+        ensures { result ≡ [] }
+    {
+        Entries {
+            kept: Vec::new(alloc),
+            places: Pool::new(alloc),
+        }
+    }
+
+    /// The allocator that they were made with.
+    pub(crate) fn alloc(&self) -> Global {
+        *self.kept.allocator()
+    }
+
+    /// How many there are.
+    pub(crate) fn len(&self) -> usize
+        ensures { result ≡ length self.now }
+    {
+        self.kept.len()
+    }
+
+    /// What stands under a number.
+    pub(crate) fn get(&self, number: usize) -> Content<'_>
+        requires { number < length self.now }
+        ensures { slice_get self.now number ≡ Some (entry_of result) }
+    {
+        match &self.kept[number] {
+            Kept::Places(span, _) => Content::Places(self.places.slice(*span)),
+            Kept::Sources(items) => Content::Sources(items.as_slice()),
+            Kept::Atoms(items) => Content::Atoms(items.as_slice()),
+            Kept::Graph(nodes, edges) => Content::Graph(*nodes, edges.as_slice()),
+        }
+    }
+
+    /// Puts an entry at the end.
+    pub(crate) fn push(&mut self, entry: Entry) -> Result<(), NoMemory>
+        ensures ok { OnOk result (self.new ≡ self.old ++ entry ∷ []) }
+        ensures err { OnErr result (self.new ≡ self.old) }
+    {
+        match entry {
+            Entry::Places(places) => self.push_places(places.as_slice()),
+            Entry::Sources(items) => self.push_items(Kept::Sources(items)),
+            Entry::Atoms(items) => self.push_items(Kept::Atoms(items)),
+            Entry::Graph(nodes, edges) => self.push_items(Kept::Graph(nodes, edges)),
+        }
+    }
+
+    /// Puts a set of places at the end.
+    fn push_places(&mut self, places: &[Place]) -> Result<(), NoMemory>
+        ensures ok { OnOk result (self.new ≡ self.old ++ Listed.Places places.now ∷ []) }
+        ensures err { OnErr result (self.new ≡ self.old) }
+    {
+        self.kept.reserve(1)?;
+        let before = self.places.mark();
+        let span = self.places.append(places)?;
+        self.kept.push_reserved(Kept::Places(span, before));
+        Ok(())
+    }
+
+    /// Puts an entry of another kind at the end.
+    fn push_items(&mut self, kept: Kept) -> Result<(), NoMemory>
+        requires { IsItems kept }
+        ensures ok { OnOk result (self.new ≡ self.old ++ entry_at [] kept ∷ []) }
+        ensures err { OnErr result (self.new ≡ self.old) }
+    {
+        self.kept.push(kept)?;
+        Ok(())
+    }
+
+    /// Takes away all but the first ones, with their places.
+    pub(crate) fn cut(&mut self, count: usize)
+        requires { count ≤ length self.old }
+        ensures { self.new ≡ take count self.old }
+    {
+        let end = first_mark(self.kept.as_slice(), count);
+        self.kept.truncate(count);
+        if let Some(mark) = end {
+            self.places.cut(mark);
+        }
+    }
+}
+
+/// What the pool had before the first set of places from a number on, if there is one.
+fn first_mark(kept: &[Kept], from: usize) -> Option<PoolMark>
+    requires { from ≤ length kept.now }
+    ensures { (n : ℕ) → AreInPool 0 kept.now n → AreInPool 0 (take from kept.now) (unwrap_or result n) }
+{
+    for i in from..kept.len() {
+        if let Kept::Places(_, before) = &kept[i] {
+            return Some(*before);
+        }
+    }
+    None
+}
