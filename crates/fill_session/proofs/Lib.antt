@@ -7,6 +7,7 @@ pub mod Fates
 pub mod Firsts
 pub mod Folding
 pub mod Held
+pub mod Lasting
 pub mod Listed
 pub mod Making
 pub mod OneAnswer
@@ -17,4 +18,5 @@ pub mod Reproduced
 pub mod Rising
 pub mod Seen
 pub mod Spliced
+pub mod Stood
 pub mod Taking

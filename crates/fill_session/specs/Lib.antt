@@ -1,4 +1,5 @@
 pub mod Answers
+pub mod Before
 pub mod Branches
 pub mod Change
 pub mod Edited

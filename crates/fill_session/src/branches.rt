@@ -10,25 +10,29 @@ ghost use Rattle.fill_session.specs.Branches.{rule_of_profile, all_rows};
 ghost use Rattle.fill_session.specs.Edits.{rows_of};
 ghost use Rattle.fill_session.specs.Fate.{EachHasProgram, FateIs};
 ghost use Rattle.fill_session.specs.Folded.{ArePicked, ArePickedAll, AreKept, IsGuardOf, IsUnguarded, AreMade, LacksGuard};
-ghost use Rattle.fill_session.specs.State.{AreShown, SpacesStand};
+ghost use Rattle.fill_session.specs.State.{AreShown, IsHeld, SpacesStand};
 
+use crate::before::{guard_before, program_before};
 use crate::branch::Branch;
 use crate::error::EditError;
+use crate::present::Present;
 use fill_guard::guard;
 use fill_space::{Space, Spaces};
 use fill_split::{Fold, Folds};
 use fill_text::{List, NoMemory};
-use fill_tree::{Example, Guard};
+use fill_tree::{Example, Guard, Program};
 use std::alloc::Global;
 
 /// The branches that folds stand for, each with its guard and its program, or the first one that no guard tells from the
-/// later ones.
+/// later ones. What was present before gives those that still hold.
 pub(crate) fn branches_of(
     alloc: Global,
     spaces: &Spaces,
+    before: &Present,
     examples: &[Example],
     folds: &Folds<Spaces>,
 ) -> Result<List<Branch>, EditError>
+    requires before { IsHeld spaces.now before.now.examples before.now.folds before.now.branches }
     requires stand { SpacesStand spaces.now examples.now folds.now }
     requires rule { rule_of folds.now ≡ rule_of_profile spaces.now.ground.settings.profile }
     requires each { All (MayStand spaces.now.ground) examples.now }
@@ -39,7 +43,7 @@ pub(crate) fn branches_of(
 {
     let folds = folds.branches();
     match rows_in_order(alloc, examples, folds) {
-        Ok(rows) => guarded(alloc, spaces, folds, rows.as_slice()),
+        Ok(rows) => guarded(alloc, spaces, before, folds, rows.as_slice()),
         Err(_want) => Err(EditError::NoMemory),
     }
 }
@@ -75,9 +79,11 @@ fn push_rows(rows: &mut List<u32>, examples: &[Example], places: &[usize]) -> Re
 fn guarded(
     alloc: Global,
     spaces: &Spaces,
+    before: &Present,
     folds: &[Fold<Space>],
     rows: &[u32],
 ) -> Result<List<Branch>, EditError>
+    requires before { IsHeld spaces.now before.now.examples before.now.folds before.now.branches }
     requires kept { (lists : Listed (Listed Example)) × AreKept spaces.now folds.now lists × (rows.now ≡ all_rows lists) }
     requires short { length folds.now ≤ 8 }
     requires few { length rows.now ≤ 64 }
@@ -94,11 +100,11 @@ fn guarded(
         let (inside, outside) = rest.split_at(fold.items.len());
         let number = k as u32 + 1;
         let is_last = k + 1 == folds.len();
-        let guard = match guard_of(alloc, spaces, inside, outside, number, is_last) {
+        let guard = match guard_of(alloc, spaces, before, inside, outside, number, is_last) {
             Ok(guard) => guard,
             Err(refusal) => return Err(refusal),
         };
-        match branch_of(alloc, spaces, fold.kept, inside, guard) {
+        match branch_of(alloc, spaces, before, fold.kept, inside, guard) {
             Ok(branch) => match made.push(branch) {
                 Ok(()) => {}
                 Err(_want) => return Err(EditError::NoMemory),
@@ -110,15 +116,18 @@ fn guarded(
     Ok(made)
 }
 
-/// The guard that tells the rows inside from those outside; none for the last branch.
+/// The guard that tells the rows inside from those outside, that of a branch of before where it does; none for the last
+/// branch.
 fn guard_of(
     alloc: Global,
     spaces: &Spaces,
+    before: &Present,
     inside: &[u32],
     outside: &[u32],
     branch: u32,
     is_last: bool,
 ) -> Result<Option<Guard>, EditError>
+    requires before { IsHeld spaces.now before.now.examples before.now.folds before.now.branches }
     requires inside { All (IsRowOf spaces.now.ground.sheet) inside.now }
     requires outside { All (IsRowOf spaces.now.ground.sheet) outside.now }
     requires few { length outside.now ≤ 64 }
@@ -127,6 +136,9 @@ fn guard_of(
 {
     if is_last {
         return Ok(None);
+    }
+    if let Some(guard) = guard_before(spaces, before.branches.as_slice(), inside, outside) {
+        return Ok(Some(guard));
     }
     match guard(alloc, spaces.sheet(), inside, outside, spaces.settings()) {
         Ok(Some(guard)) => Ok(Some(guard)),
@@ -139,11 +151,13 @@ fn guard_of(
 fn branch_of(
     alloc: Global,
     spaces: &Spaces,
+    before: &Present,
     space: Space,
     rows: &[u32],
     guard: Option<Guard>,
 ) -> Result<Branch, NoMemory>
-    requires { (list : Listed Example) × SpaceStands spaces.now space list }
+    requires before { IsHeld spaces.now before.now.examples before.now.folds before.now.branches }
+    requires stands { (list : Listed Example) × SpaceStands spaces.now space list }
     ensures rows { IfOk result (λ made. made.rows ≡ rows.now) }
     ensures guard { IfOk result (λ made. made.guard ≡ guard) }
     ensures program { IfOk result (λ made. (list : Listed Example) → SpaceStands spaces.now space list →
@@ -154,6 +168,26 @@ fn branch_of(
     Ok(Branch {
         rows: copied,
         guard,
-        program: spaces.least(alloc, space)?,
+        program: program_of(alloc, spaces, before, space)?,
     })
+}
+
+/// The chosen program of the examples that the space stands for, that of a branch of before where it has the same space.
+fn program_of(
+    alloc: Global,
+    spaces: &Spaces,
+    before: &Present,
+    space: Space,
+) -> Result<Program, NoMemory>
+    requires before { IsHeld spaces.now before.now.examples before.now.folds before.now.branches }
+    requires stands { (list : Listed Example) × SpaceStands spaces.now space list }
+    ensures { IfOk result (λ p. (list : Listed Example) → SpaceStands spaces.now space list →
+        ChosenOn spaces.now.ground list (program_tree p)) }
+{
+    let folds = before.folds.branches();
+    match program_before(alloc, folds, before.branches.as_slice(), space) {
+        Ok(Some(program)) => Ok(program),
+        Ok(None) => spaces.least(alloc, space),
+        Err(want) => Err(want),
+    }
 }

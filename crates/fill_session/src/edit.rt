@@ -76,7 +76,7 @@ fn changed_present<L: Ledger>(
             return Err(refusal_of(spaces, &present.folds, examples.as_slice(), at, refused));
         }
     };
-    match branches_of(alloc, spaces, examples.as_slice(), &folds) {
+    match branches_of(alloc, spaces, present, examples.as_slice(), &folds) {
         Ok(branches) => Ok(Present {
             examples,
             folds,

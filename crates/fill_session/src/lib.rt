@@ -3,6 +3,7 @@
 
 mod answer;
 mod answers;
+mod before;
 mod branch;
 mod branches;
 mod compaction;
@@ -27,3 +28,5 @@ mod edit_tests;
 mod edits_tests;
 #[cfg(test)]
 mod tests;
+#[cfg(test)]
+mod want_tests;

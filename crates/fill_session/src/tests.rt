@@ -48,7 +48,7 @@ fn counted<L: Ledger>(session: &mut Session, edit: &Edit, blank: Blank) -> Optio
     }
 }
 
-fn make(session: &mut Session, edit: &Edit) -> Option<EditError> {
+pub(crate) fn make(session: &mut Session, edit: &Edit) -> Option<EditError> {
     counted::<Brand>(session, edit, Blank::new(1))
 }
 

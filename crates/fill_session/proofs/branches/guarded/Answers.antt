@@ -15,8 +15,8 @@ split_at-requires c =
     let left = ((c.loop-k.invariant).yet lists c.requires.kept.1 c.requires.kept.2).left in
     (rows_at s lists c.loop-k.k f c.len.result c.loop-k.rest.now at c.len.ensures left).fits
 
-pub branch_of-requires : goal.branch_of-requires
-branch_of-requires c =
+pub branch_of-requires-clause-stands : goal.branch_of-requires-clause-stands
+branch_of-requires-clause-stands c =
     let at = list_of c.args.spaces.now c.args.folds.now c.requires.kept.0 c.loop-k.k c.index-folds-k.result c.requires.kept.1 c.loop-k-test.true c.index-folds-k.is in
     (at.list, (at.for).stands)
 

@@ -8,7 +8,7 @@ use Rattle.fill_space.specs.Ground.{FitsOn, WeighsOn, MayStand}
 use Rattle.fill_session.specs.Edits.{changed}
 use Rattle.fill_session.specs.Fate.{EachHasProgram, FateIs}
 use Rattle.fill_session.specs.State.{AreShown}
-use Rattle.fill_session.proofs.Held.{new_each, new_few, new_stand, new_held, new_programs}
+use Rattle.fill_session.proofs.Held.{held_stays, new_each, new_few, new_stand, new_held, new_programs}
 use Rattle.fill_session.proofs.edit.changed_present.Goals as goal
 
 pub refusal_of-requires-clause-refused : goal.refusal_of-requires-clause-refused
@@ -19,6 +19,11 @@ refusal_of-requires-clause-refused g c =
     subst (λ (over : Ground). Refuses (rule_of p.folds) (FitsOn over) (WeighsOn over) c.as_slice-in-Err-refold.result.now c.args.change.at c.in-Err-refold.refused) (sym c.in-Err-refold.ensures.base)
     (subst (λ v. Refuses (rule_of p.folds) (FitsOn c.args.spaces.now.ground) (WeighsOn c.args.spaces.now.ground) v c.args.change.at c.in-Err-refold.refused) list
     (c.in-Err-refold.ensures.refused p.examples (c.requires.held).stand))
+
+pub branches_of-requires-clause-before : goal.branches_of-requires-clause-before
+branches_of-requires-clause-before g c =
+    let p = c.args.present.now in
+    held_stays c.args.spaces.now c.refold.new.maker p.examples p.folds p.branches c.in-Ok-refold.ensures.base c.in-Ok-refold.ensures.older c.requires.held
 
 pub branches_of-requires-clause-stand : goal.branches_of-requires-clause-stand
 branches_of-requires-clause-stand g c =
