@@ -1,5 +1,5 @@
 -- Cuts by the rising list of them.
-use Rattle.std.proofs.Common.{◌≡◌, ◌↔◌, ◌⊎◌, ⊎_elim, inl, inr, ℕ, zero, suc, ◌+◌, ◌-◌, ◌<◌, ◌≤◌, List, [], ◌∷◌, ◌++◌, length, get_or, reverse, take, Some, slice_get, refl, sym, ap, ◌∙◌, subst, arith}
+use Rattle.std.proofs.Common.{◌≡◌, ⊎_elim, inl, inr, ℕ, zero, suc, ◌+◌, ◌-◌, ◌<◌, ◌≤◌, List, [], ◌∷◌, ◌++◌, length, get_or, reverse, take, Some, slice_get, refl, sym, ap, ◌∙◌, subst, arith}
 use Rattle.std.specs.Prelude.{Contains, All}
 use Rattle.std.specs.List.Sorted.{IsStrictlyIncreasing}
 use Rattle.std.proofs.lemmas.List.{get_or-reverse, length-reverse, take_all}
@@ -9,7 +9,7 @@ use Rattle.fill_tokens.specs.Cuts.{AreCuts, IsRisingListOf}
 use Rattle.fill_tokens.specs.Span.{Begins, Ends}
 use Rattle.fill_tokens.specs.declared.token.Token.{Token}
 use Rattle.fill_tokens.proofs.SpanLaws.{seq_within}
-use Rattle.fill_doubt.specs.Cuts.{AreBegun, AreCutsOf, AreEndsIn, HasAt, IsLookedFor}
+use Rattle.fill_doubt.specs.Cuts.{AreBegun, AreCutsOf, AreEndsIn, IsLookedFor}
 use Rattle.fill_doubt.specs.declared.cuts.Cuts.{Cuts}
 use Rattle.fill_doubt.specs.declared.cuts.Left.{Left}
 use Rattle.fill_arena.proofs.Lists.{get_last, get_pushed}

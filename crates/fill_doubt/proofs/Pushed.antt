@@ -61,5 +61,5 @@ front_more ks i within j =
     let x = get_or ks i 0 in (
       (λ h. ⊎_elim (λ l. inl l) (λ q. inr (sym q)) (Contains-push_cases (take i ks) x j (subst (λ (xs : List ℕ). Contains xs j) e h))),
       (λ h. subst (λ (xs : List ℕ). Contains xs j) (sym e)
-      (⊎_elim (λ l. Contains-append_left (take i ks) (x ∷ []) j l) (λ q. subst (λ m. Contains (take i ks ++ x ∷ []) m) (sym q) (Contains-push (take i ks) x)) h)),
+          (⊎_elim (λ l. Contains-append_left (take i ks) (x ∷ []) j l) (λ q. subst (λ m. Contains (take i ks ++ x ∷ []) m) (sym q) (Contains-push (take i ks) x)) h)),
     )

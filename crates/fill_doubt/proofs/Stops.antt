@@ -1,9 +1,9 @@
 -- Where the pieces that sequences span end, one after the other.
-use Rattle.std.proofs.Common.{◌≡◌, ◌↔◌, ℕ, zero, suc, ◌+◌, ◌<◌, ◌≤◌, ⊎_elim, inl, inr, Bool, List, [], ◌∷◌, ◌++◌, length, drop, Some, slice_get, refl, sym, ap, ◌∙◌, subst, arith}
+use Rattle.std.proofs.Common.{◌≡◌, ◌↔◌, ℕ, zero, suc, ◌+◌, ◌<◌, ◌≤◌, ⊎_elim, inl, inr, Bool, List, [], ◌∷◌, ◌++◌, length, drop, Some, slice_get, sym, ap, ◌∙◌, subst, arith}
 use Rattle.std.proofs.lemmas.Bool.{cases_lt}
 use Rattle.fill_tokens.specs.Cuts.{IsRisingListOf}
 use Rattle.fill_tokens.specs.Kind.{kind_of}
-use Rattle.fill_tokens.specs.Span.{Begins, Ends, IsRun, KindSpans, SeqSpans, Spans}
+use Rattle.fill_tokens.specs.Span.{Ends, IsRun, KindSpans, SeqSpans, Spans}
 use Rattle.fill_tokens.specs.declared.kind.Kind.{Kind}
 use Rattle.fill_tokens.specs.declared.kind.Kind.TheVariants.{AtStart, AtEnd, Run, Single}
 use Rattle.fill_tokens.specs.declared.token.Token.{Token}

@@ -253,7 +253,14 @@ impl Cuts {
     {
         let l = self.look_for(alloc, left, t)?;
         self.last = l;
-        find_cuts(alloc, &mut self.ends, self.lefts[l].stops.as_slice(), right, t, &mut self.found)?;
+        find_cuts(
+            alloc,
+            &mut self.ends,
+            self.lefts[l].stops.as_slice(),
+            right,
+            t,
+            &mut self.found,
+        )?;
         Ok(pick(self.found.as_slice(), count))
     }
 }

@@ -1,4 +1,4 @@
-use Rattle.std.proofs.Common.{◌≡◌, ◌+◌, ◌-◌, ◌≤◌, get_or, length, arith}
+use Rattle.std.proofs.Common.{◌-◌, ◌≤◌, get_or, length, arith}
 use Rattle.fill_tokens.proofs.CutLaws.{from_left}
 use Rattle.fill_doubt.proofs.Cut.{nth_left, nth_within}
 use Rattle.fill_doubt.proofs.cuts.pick_left.Goals as goal

@@ -1,4 +1,4 @@
-use Rattle.std.proofs.Common.{◌≡◌, ◌+◌, ◌-◌, ◌≤◌, get_or, length, reverse, arith}
+use Rattle.std.proofs.Common.{◌-◌, ◌≤◌, get_or, length, reverse, arith}
 use Rattle.std.proofs.lemmas.List.{length-reverse}
 use Rattle.fill_tokens.proofs.CutLaws.{from_right}
 use Rattle.fill_doubt.proofs.Cut.{nth_right, nth_within}

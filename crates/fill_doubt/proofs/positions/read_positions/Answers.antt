@@ -1,4 +1,3 @@
-use Rattle.std.proofs.Common.{◌≡◌, ◌↔◌, ℕ, Option, refl}
 use Rattle.fill_doubt.specs.Gives.{PlaceGives}
 use Rattle.fill_doubt.proofs.Flags.{if_ok}
 use Rattle.fill_doubt.proofs.Gains.{have_same}

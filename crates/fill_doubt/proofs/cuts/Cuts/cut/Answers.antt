@@ -1,6 +1,5 @@
-use Rattle.std.proofs.Common.{◌≡◌, List, ℕ, Some, get_or, slice_get, sym, subst, rules}
-use Rattle.std.specs.Prelude.{All, ◌≤◌, length}
-use Rattle.std.specs.List.Sorted.{IsStrictlyIncreasing}
+use Rattle.std.proofs.Common.{◌≡◌, List, ℕ, get_or, sym, subst, rules}
+use Rattle.std.specs.Prelude.{length}
 use Rattle.std.proofs.lemmas.Option.{slice_get_within}
 use Rattle.fill_tokens.specs.Cuts.{IsRisingListOf}
 use Rattle.fill_tokens.specs.Span.{Ends}

@@ -1,6 +1,5 @@
-use Rattle.std.proofs.Common.{◌≡◌, List, length, arith}
+use Rattle.std.proofs.Common.{◌≡◌, length, arith}
 use Rattle.fill_doubt.specs.Read.{IsReadIn}
-use Rattle.fill_doubt.specs.declared.read.Read.{Read}
 use Rattle.fill_doubt.proofs.Cut.{last_at}
 use Rattle.fill_doubt.proofs.Maps.{pushed_right}
 use Rattle.fill_doubt.proofs.known.Known.number_of.Goals as goal

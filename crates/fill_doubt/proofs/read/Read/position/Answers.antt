@@ -1,4 +1,3 @@
-use Rattle.std.proofs.Common.{ℕ}
 use Rattle.fill_doubt.specs.Read.{ArePositionsOf}
 use Rattle.fill_doubt.specs.declared.answers.Positions.{Positions}
 use Rattle.fill_doubt.proofs.Maps.{found_right}
