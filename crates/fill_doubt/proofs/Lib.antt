@@ -1,4 +1,6 @@
 mod Answered
+mod Cut
+mod Ended
 mod Filled
 mod Flags
 mod Gains
@@ -6,11 +8,12 @@ mod Items
 mod Joins
 mod Laid
 mod Maps
-mod Marked
 mod Marks
 mod Programs
+mod Pushed
 mod Rising
 mod Samples
 mod Spelling
+mod Stops
 mod Tables
 mod Walked

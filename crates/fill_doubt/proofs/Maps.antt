@@ -1,10 +1,11 @@
 -- What every entry of a map keeps as one more is put in.
-use Rattle.std.proofs.Common.{◌≡◌, ◌&&◌, ℕ, List, Bool, true, false, nat_eq, cond, Option, Some, None, refl, sym, ap, subst, ◌∙◌, arith}
+use Rattle.std.proofs.Common.{◌≡◌, ◌≢◌, ◌⊎◌, ⊎_elim, ℕ, ◌<◌, List, [], ◌∷◌, ◌++◌, length, set, slice_get, Bool, true, false, nat_eq, Option, Some, None, refl, sym, subst, ◌∙◌, arith}
+use Rattle.std.proofs.lemmas.Bool.{cases_order}
+use Rattle.fill_arena.proofs.Lists.{get_pushed}
+use Rattle.fill_doubt.proofs.Tables.{set_same, set_other}
 use Rattle.std.specs.Option.{IfSome, option_copied}
 use Rattle.std.proofs.Common.{Bor}
 use Rattle.std.proofs.lemmas.Bool.Decides.{nat_tests}
-use Rattle.std.specs.Str.{bytes_eq}
-use Rattle.std.proofs.lemmas.Slice.Eq.{bytes_eq-Decides}
 
 same_number : (s q : ℕ) → nat_eq s q ≡ true → s ≡ q
 same_number s q h = grind (arith, nat_tests)
@@ -25,28 +26,18 @@ pub found_right : {X : Type 0} (P : X → Type 0) (o : Option (Bor X)) (q : Opti
 found_right P None q e h = tt
 found_right P (Some x) q e h = h x.now (sym e)
 
-both_true : (a b : Bool) → (a && b) ≡ true → (a ≡ true) × (b ≡ true)
-both_true true true h = (refl, refl)
-both_true true false h = absurd cc
-both_true false b h = absurd cc
+-- what each item of a list keeps as one more is put to it, or another in the place of one
+pub pushed_right : {X : Type 0} (P : X → Type 0) (xs new : List X) (x : X) → new ≡ xs ++ x ∷ [] → P x → ((i : ℕ) (y : X) → slice_get xs i ≡ Some y → P y) → (i : ℕ) (y : X) → slice_get new i ≡ Some y → P y
+pushed_right {X} P xs new x is here are i y at =
+    ⊎_elim (λ l. are i y l.1) (λ r. subst (λ z. P z) r.1 here) (get_pushed xs x i y (subst (λ (zs : List X). slice_get zs i ≡ Some y) is at))
 
--- keys of a text and a set
-abbrev pub same_key : List ℕ × ℕ → List ℕ × ℕ → Bool
-same_key x y = bytes_eq x.0 y.0 && nat_eq x.1 y.1
-
-pub one_key : (x y : List ℕ × ℕ) → same_key x y ≡ true → x ≡ y
-one_key x y h =
-    let both = both_true (bytes_eq x.0 y.0) (nat_eq x.1 y.1) h in
-    let a : x ≡ (y.0, x.1) = ap (λ (w : List ℕ). (let z : List ℕ × ℕ = (w, x.1) in z)) ((bytes_eq-Decides x.0 y.0).0 both.0) in
-    a ∙ ap (λ (n : ℕ). (let z : List ℕ × ℕ = (y.0, n) in z)) (same_number x.1 y.1 both.1)
-
-module _ {K A : Type 0} (same : K → K → Bool) (sound : (x y : K) → same x y ≡ true → x ≡ y) (P : K → A → Type 0) (f g : K → Option A) (s : K) (made : A) where
-  put_step : (k : K) (m : A) (b : Bool) → same s k ≡ b → g k ≡ cond b (Some made) (f k) → g k ≡ Some m → P s made → ((q : K) (n : A) → f q ≡ Some n → P q n) → P k m
-  put_step k m true e u h new r =
-      let q : Some made ≡ Some m = sym u ∙ h in
-      let one : made ≡ m = cc in
-      subst (λ v. P k v) one (subst (λ v. P v made) (sound s k e) new)
-  put_step k m false e u h new r = r k m (sym u ∙ h)
-
-  pub put_all : ((k : K) → g k ≡ cond (same s k) (Some made) (f k)) → P s made → ((q : K) (n : A) → f q ≡ Some n → P q n) → (k : K) (m : A) → g k ≡ Some m → P k m
-  put_all u new r k m h = put_step k m (same s k) refl (u k) h new r
+pub set_right : {X : Type 0} (P : X → Type 0) (xs : List X) (n : ℕ) (x : X) → n < length xs → P x → ((i : ℕ) (y : X) → slice_get xs i ≡ Some y → P y) → (i : ℕ) (y : X) → slice_get (set xs n x) i ≡ Some y → P y
+set_right {X} P xs n x within here are i y at = ⊎_elim
+    (λ same.
+    let there : slice_get (set xs n x) n ≡ Some y = subst (λ m. slice_get (set xs n x) m ≡ Some y) same at in
+    let e : x ≡ y = (let q : Some x ≡ Some y = sym (set_same xs n x within) ∙ there in cc) in
+    subst (λ z. P z) e here)
+    (λ o. are i y (sym (set_other xs n i x (apart i n o)) ∙ at)) (cases_order i n)
+  where
+    apart : (a b : ℕ) → (a < b) ⊎ (b < a) → a ≢ b
+    apart a b o e = ⊎_elim (λ l. omega arith) (λ l. omega arith) o

@@ -1,36 +1,52 @@
 -- Where sequences stand in a text.
-use Rattle.std.specs.Prelude.{◌≡◌, ◌↔◌, ◌+◌, ◌<◌, ℕ, Bool, true, false, List, length, slice_get, Some}
-use Rattle.fill_tokens.specs.Span.{Begins, Ends}
+use Rattle.std.specs.Prelude.{◌≡◌, ◌⊎◌, ◌+◌, ◌<◌, ℕ, List, [], Option, Some, length, slice_get, MatchOption, Contains, take}
+use Rattle.fill_tokens.specs.Cuts.{IsRisingListOf}
+use Rattle.fill_tokens.specs.Span.{Begins, Ends, SeqSpans, Spans}
+use Rattle.fill_tokens.specs.Token.{token_number}
 use Rattle.fill_tokens.specs.declared.token.Token.{Token}
+use Rattle.fill_tokens.specs.declared.token.TheConstants.Token.{ALL}
 use Rattle.fill_doubt.specs.declared.cuts.Cuts.{Cuts}
-use Rattle.fill_doubt.specs.declared.cuts.Marked.{Marked}
-use Rattle.fill_doubt.specs.declared.cuts.Side.{Side}
+use Rattle.fill_doubt.specs.declared.cuts.Left.{Left}
+use Rattle.fill_doubt.specs.declared.ends.TokenEnds.{TokenEnds}
 
--- a piece that the sequence spans ends at k, or begins there
-abbrev pub Stands : Bool → List Token → List ℕ → ℕ → Type 0
-Stands true r t k = Ends r t k
-Stands false r t k = Begins r t k
+-- the end of the piece that begins at the position, none where no piece does
+abbrev pub IsEnd : Token → List ℕ → ℕ → Option ℕ → Type 0
+IsEnd token t k end = MatchOption end ((b : ℕ) → Spans token t k b → ⊥) (λ b. Spans token t k b)
 
--- so many flags, and those are set whose numbers have the property
-pub record AreFlags (P : ℕ → Type 0) (n : ℕ) (flags : List Bool) : Type 0 where
-  pub long : length flags ≡ n
-  pub exact : (k : ℕ) → k < n → (slice_get flags k ≡ Some true) ↔ P k
+-- one for each position
+pub record AreEnds (token : Token) (t : List ℕ) (ends : List (Option ℕ)) : Type 0 where
+  pub long : length ends ≡ length t + 1
+  pub each : (k : ℕ) (end : Option ℕ) → slice_get ends k ≡ Some end → IsEnd token t k end
 
--- the flags of the positions of the text are those of the sequence
-abbrev pub IsLookedFor : Bool → List ℕ → Marked → Type 0
-IsLookedFor ends t x = AreFlags (Stands ends x.seq t) (length t + 1) x.at.items
+-- for each token, in the order of the numbers, the ends of its pieces, or nothing yet
+pub record AreEndsIn (t : List ℕ) (rows : List TokenEnds) : Type 0 where
+  pub all : length rows ≡ length ALL
+  pub each : (token : Token) (i : ℕ) (row : TokenEnds) → i + 1 ≡ token_number token → slice_get rows i ≡ Some row → (row.ends.items ≡ []) ⊎ AreEnds token t row.ends.items
+
+-- the end of the pieces that a sequence spans from the position on
+abbrev pub IsSeqEnd : List Token → List ℕ → ℕ → Option ℕ → Type 0
+IsSeqEnd r t k end = MatchOption end ((b : ℕ) → SeqSpans r t k b → ⊥) (λ b. SeqSpans r t k b)
+
+-- the sequence spans a piece up to the position, which begins below a number
+abbrev pub StopsBelow : List Token → List ℕ → ℕ → ℕ → Type 0
+StopsBelow r t n k = (a : ℕ) × (a < n) × SeqSpans r t a k
+
+abbrev pub AreStopsBelow : List Token → List ℕ → ℕ → List ℕ → Type 0
+AreStopsBelow r t n ks = IsRisingListOf (StopsBelow r t n) ks
+
+-- the positions are those up to which the sequence spans a piece
+abbrev pub IsLookedFor : List ℕ → Left → Type 0
+IsLookedFor t x = IsRisingListOf (Ends x.seq t) x.stops.items
 
 -- one of them is of the sequence
-abbrev pub HasAt : Side → List Token → ℕ → Type 0
-HasAt side r i = (x : Marked) × (slice_get side.marked.items i ≡ Some x) × (x.seq ≡ r)
+abbrev pub HasAt : Cuts → List Token → ℕ → Type 0
+HasAt cuts r i = (x : Left) × (slice_get cuts.lefts.items i ≡ Some x) × (x.seq ≡ r)
 
--- each of them was looked for in the text
-abbrev pub IsSideOf : List ℕ → Side → Type 0
-IsSideOf t side = (i : ℕ) (x : Marked) → slice_get side.marked.items i ≡ Some x → IsLookedFor side.ends t x
-
--- the sides before positions and after them
+-- what was found is so in the text
 pub record AreCutsOf (t : List ℕ) (cuts : Cuts) : Type 0 where
-  pub before : cuts.lefts.ends ≡ true
-  pub after : cuts.rights.ends ≡ false
-  pub lefts : IsSideOf t cuts.lefts
-  pub rights : IsSideOf t cuts.rights
+  pub ends : AreEndsIn t cuts.ends.tokens.items
+  pub lefts : (i : ℕ) (x : Left) → slice_get cuts.lefts.items i ≡ Some x → IsLookedFor t x
+
+-- of the positions before a place of the list those from which on the sequence spans a piece
+abbrev pub AreBegun : List ℕ → ℕ → List Token → List ℕ → List ℕ → Type 0
+AreBegun stops place r t found = IsRisingListOf (λ k. Contains (take place stops) k × Begins r t k) found

@@ -1,8 +1,7 @@
 -- The answers of sets on the row that is read, and what was found of them.
-use Rattle.std.specs.Prelude.{◌≡◌, ◌↔◌, ◌&&◌, ℕ, ◌≤◌, List, Option, None, Some, length, option_map}
-use Rattle.std.specs.HashMap.{get, get_by}
+use Rattle.std.specs.Prelude.{◌≡◌, ◌↔◌, ℕ, ◌≤◌, List, Option, None, Some, length, option_map, slice_get}
+use Rattle.std.specs.HashMap.{get}
 use Rattle.std.specs.Bool.{nat_eq}
-use Rattle.std.specs.Str.{bytes_eq}
 use Rattle.fill_tables.specs.Keys.{KeysDistinguish}
 use Rattle.fill_tree.specs.Grammar.{IsPart}
 use Rattle.fill_tree.specs.Tree.{SourceTree, AtomTree, Atoms}
@@ -16,13 +15,14 @@ use Rattle.fill_arena.specs.declared.entry.ConditionItem.{ConditionItem}
 use Rattle.fill_arena.specs.declared.entry.Edge.{Edge}
 use Rattle.fill_arena.specs.declared.entry.SourceItem.{SourceItem}
 use Rattle.fill_eval.specs.Piece.{IsWithin}
-use Rattle.fill_doubt.specs.Answers.{TextsHave, PiecesHave, PositionsHave}
-use Rattle.fill_doubt.specs.Gives.{PlaceGives, SourceGives, AtomGives}
+use Rattle.fill_doubt.specs.Answers.{TextsHave, PiecesHave}
+use Rattle.fill_doubt.specs.Gives.{SourceGives, AtomGives}
+use Rattle.fill_doubt.specs.Read.{IsReadIn}
 use Rattle.fill_doubt.specs.Rows.{Choice, RowText, is_part, has_part}
 use Rattle.fill_doubt.specs.declared.answers.Texts.{Texts}
 use Rattle.fill_doubt.specs.declared.answers.Pieces.{Pieces}
-use Rattle.fill_doubt.specs.declared.answers.Positions.{Positions}
 use Rattle.fill_doubt.specs.declared.known.Known.{Known}
+use Rattle.fill_doubt.specs.declared.read.Read.{Read}
 use Rattle.fill_doubt.specs.declared.row.OnRow.{OnRow}
 
 -- the sheet has the row, the tables' keys distinguish their rows, and the arena is well made
@@ -77,18 +77,15 @@ abbrev pub RowAnswers : OnRow → List ConditionItem → Option RowText → Type
 RowAnswers on is o = (cs : Atoms) × ConditionsFit cs on.arena.now is
     × IsValue (ConditionsAre on.sheet.now on.tables.now on.row cs) (option_map (λ r. r.texts) o) × IsRowOf cs o
 
--- the positions that were kept for a text and a set of places
-abbrev pub positions_in : Known → List ℕ × ℕ → Option Positions
-positions_in known k = get_by (λ y. bytes_eq k.0 y.0.now && nat_eq k.1 y.1) known.positions
-
-abbrev pub ArePositionsOf : OnRow → List ℕ × ℕ → Positions → Type 0
-ArePositionsOf on k f = (o : Option ℕ) → PositionsHave f o ↔ PlaceGives on.arena.now k.1 k.0 o
-
 -- what was found is what the sets answer
 pub record AreKnown (on : OnRow) (known : Known) : Type 0 where
   pub sources : (s : ℕ) (f : Texts) → get nat_eq known.sources s ≡ Some f → (o : Option (List ℕ)) → TextsHave f o ↔ SourceAnswers on s o
   pub parts : (s : ℕ) (f : Pieces) → get nat_eq known.parts s ≡ Some f → EachIn IsWithin f.pieces.items × ((o : Option (List ℕ)) → PiecesHave f o ↔ PartAnswers on s o)
-  pub positions : (k : List ℕ × ℕ) (f : Positions) → positions_in known k ≡ Some f → ArePositionsOf on k f
+  pub reads : (i : ℕ) (x : Read) → slice_get known.reads.items i ≡ Some x → IsReadIn on.arena.now x
+
+-- the text is the one of this number among those that were read
+abbrev pub IsReadAt : Known → List ℕ → ℕ → Type 0
+IsReadAt known t n = (x : Read) × (slice_get known.reads.items n ≡ Some x) × (x.text.now ≡ t)
 
 -- the answers of an edge's atoms
 abbrev pub EdgeAnswers : OnRow → Edge → Option (List ℕ) → Type 0

@@ -1,66 +1,35 @@
 //! The values of places in a text, for which each sequence is looked for in the text once.
-ghost use Rattle.std.specs.Prelude.{◌≡◌, ◌↔◌, ◌+◌, ◌<◌, ◌≤◌, ◌++◌, ◌∷◌, [], ℕ, List as Items, length, slice_get, Some, true, false, IsTrue, IfOk, IfSome, OnOk, MatchOption};
-ghost use Rattle.fill_tokens.specs.Span.{IsCut};
+ghost use Rattle.std.specs.Prelude.{◌≡◌, ◌+◌, ◌<◌, ◌≤◌, ℕ, List as Items, length, slice_get, Some, true, false, IsTrue, IfOk, IfSome, OnOk, MatchOption, All};
+ghost use Rattle.std.specs.List.Sorted.{IsStrictlyIncreasing};
+ghost use Rattle.fill_tokens.specs.Cuts.{AreCuts};
 ghost use Rattle.fill_tokens.specs.Value.{HasValue, IsCutFromLeft, IsCutFromRight};
-ghost use Rattle.fill_doubt.specs.Cuts.{AreCutsOf, AreFlags, HasAt, IsLookedFor, IsSideOf, Stands};
+ghost use Rattle.fill_tokens.specs.declared.token.Token.{Token as Listed};
+ghost use Rattle.fill_doubt.specs.Cuts.{AreBegun, AreCutsOf, AreEndsIn, HasAt};
 
+use crate::ends::{Ends, push_number};
 use fill_text::{NoMemory, Text};
-use fill_tokens::{Place, Seq, left_match, place_value, right_match};
+use fill_tokens::{Place, Seq, place_value};
 use std::alloc::Global;
 use std::cmp::Ordering;
 use std::collections::HashMap;
 
-/// A sequence, and for each position of a text whether it stands there.
+/// A sequence, and the positions of a text in order up to which it spans a piece.
 #[derive(Drop)]
-pub(crate) struct Marked {
+pub(crate) struct Left {
     pub(crate) seq: Seq,
-    pub(crate) at: Vec<bool>,
+    pub(crate) stops: Vec<usize>,
 }
 
-/// The sequences that were looked for on one side of positions: before them, where they end there, or after them. A table
-/// tells by a sequence's code which of them it may be.
-#[derive(Drop)]
-pub(crate) struct Side {
-    pub(crate) ends: bool,
-    pub(crate) marked: Vec<Marked>,
-    numbers: HashMap<u32, usize>,
-}
-
-/// The sequences that were looked for in a text.
+/// What was found of a text: the pieces of tokens, and the sequences before positions that were looked for. Where a
+/// sequence stands in the list is guessed: it is often the last one that was asked for, and else a table tells by its code
+/// which one it may be.
 #[derive(Drop)]
 pub(crate) struct Cuts {
-    pub(crate) lefts: Side,
-    pub(crate) rights: Side,
-}
-
-/// Whether the sequence spans a piece up to the position, or one from it on.
-fn stands(ends: bool, seq: &Seq, t: &Text, k: usize) -> bool
-    requires { k ≤ length t.now }
-    ensures { IsTrue result ↔ Stands ends seq.now t.now k }
-{
-    if ends {
-        left_match(seq, t, k)
-    } else {
-        right_match(seq, t, k)
-    }
-}
-
-fn push_flag(at: &mut Vec<bool>, flag: bool) -> Result<(), NoMemory>
-    ensures { OnOk result (at.new.items ≡ at.old.items ++ flag ∷ []) }
-{
-    at.push(flag)?;
-    Ok(())
-}
-
-/// Where the sequence stands in the text.
-fn flags(alloc: Global, ends: bool, seq: &Seq, t: &Text) -> Result<Vec<bool>, NoMemory>
-    ensures { IfOk result (λ at. AreFlags (Stands ends seq.now t.now) (length t.now + 1) at.items) }
-{
-    let mut at = Vec::new(alloc);
-    for k in 0..t.len() + 1 {
-        push_flag(&mut at, stands(ends, seq, t, k))?;
-    }
-    Ok(at)
+    pub(crate) ends: Ends,
+    pub(crate) lefts: Vec<Left>,
+    numbers: HashMap<u32, usize>,
+    last: usize,
+    found: Vec<usize>,
 }
 
 fn number_at(seq: &Seq, i: usize) -> u32
@@ -80,7 +49,7 @@ fn code_of(seq: &Seq) -> u32 {
     }
 }
 
-fn is_of(x: &Marked, seq: &Seq) -> bool
+fn is_of(x: &Left, seq: &Seq) -> bool
     ensures { IsTrue result → x.now.seq ≡ seq.now }
 {
     match x.seq.compare(seq) {
@@ -96,130 +65,95 @@ fn keep_number(numbers: &mut HashMap<u32, usize>, code: u32, i: usize) -> Result
     }
 }
 
-impl Side {
-    fn new(alloc: Global, ends: bool) -> Side
-        ensures kind { result.ends ≡ ends }
-        ensures right { (t : Items ℕ) → IsSideOf t result }
-    {
-        Side {
-            ends,
-            marked: Vec::new(alloc),
-            numbers: HashMap::new(alloc),
-        }
+/// Puts the position of this place to the list, if the sequence spans a piece from it on.
+fn put_cut(
+    alloc: Global,
+    ends: &mut Ends,
+    stops: &[usize],
+    place: usize,
+    right: &Seq,
+    t: &Text,
+    found: &mut Vec<usize>,
+) -> Result<(), NoMemory>
+    requires place { place < length stops.now }
+    requires within { All (λ k. k ≤ length t.now) stops.now }
+    requires rising { IsStrictlyIncreasing stops.now }
+    requires ends { AreEndsIn t.now ends.old.tokens.items }
+    ensures ends { OnOk result (AreEndsIn t.now ends.new.tokens.items) }
+    ensures found { OnOk result (AreBegun stops.now place right.now t.now found.old.items → AreBegun stops.now (place + 1) right.now t.now found.new.items) }
+{
+    let k = stops[place];
+    if !ends.begins(alloc, right, t, k)? {
+        return Ok(());
     }
-
-    /// Which one of them is of the sequence, where it was looked for already.
-    fn find(&self, seq: &Seq) -> Option<usize>
-        ensures { IfSome result (HasAt self.now seq.now) }
-    {
-        let i = *self.numbers.get(&code_of(seq))?;
-        if i >= self.marked.len() {
-            return None;
-        }
-        if !is_of(&self.marked[i], seq) {
-            return None;
-        }
-        Some(i)
-    }
-
-    /// Looks for the sequence in the text.
-    fn put(&mut self, alloc: Global, seq: &Seq, t: &Text) -> Result<usize, NoMemory>
-        requires { IsSideOf t.now self.old }
-        ensures right { OnOk result (IsSideOf t.now self.new) }
-        ensures kind { OnOk result (self.new.ends ≡ self.old.ends) }
-        ensures there { IfOk result (HasAt self.new seq.now) }
-    {
-        let at = flags(alloc, self.ends, seq, t)?;
-        let i = self.marked.len();
-        self.marked.push(Marked { seq: *seq, at })?;
-        keep_number(&mut self.numbers, code_of(seq), i)?;
-        Ok(i)
-    }
-
-    /// Which one of them is of the sequence.
-    fn look_for(&mut self, alloc: Global, seq: &Seq, t: &Text) -> Result<usize, NoMemory>
-        requires { IsSideOf t.now self.old }
-        ensures right { OnOk result (IsSideOf t.now self.new) }
-        ensures kind { OnOk result (self.new.ends ≡ self.old.ends) }
-        ensures there { IfOk result (HasAt self.new seq.now) }
-    {
-        if let Some(i) = self.find(seq) {
-            return Ok(i);
-        }
-        self.put(alloc, seq, t)
-    }
+    push_number(found, k)
 }
 
-fn is_cut(l: &Marked, r: &Marked, t: &Text, k: usize) -> bool
-    requires within { k ≤ length t.now }
-    requires left { IsLookedFor true t.now l.now }
-    requires right { IsLookedFor false t.now r.now }
-    ensures { IsTrue result ↔ IsCut l.now.seq r.now.seq t.now k }
+/// Lists those of the positions from which on the sequence spans a piece.
+fn find_cuts(
+    alloc: Global,
+    ends: &mut Ends,
+    stops: &[usize],
+    right: &Seq,
+    t: &Text,
+    found: &mut Vec<usize>,
+) -> Result<(), NoMemory>
+    requires within { All (λ k. k ≤ length t.now) stops.now }
+    requires rising { IsStrictlyIncreasing stops.now }
+    requires ends { AreEndsIn t.now ends.old.tokens.items }
+    ensures ends { OnOk result (AreEndsIn t.now ends.new.tokens.items) }
+    ensures found { OnOk result (AreBegun stops.now (length stops.now) right.now t.now found.new.items) }
 {
-    let _text = t;
-    if !l.at[k] {
-        return false;
+    found.clear();
+    for i in 0..stops.len() {
+        put_cut(alloc, ends, stops, i, right, t, found)?;
     }
-    r.at[k]
+    Ok(())
 }
 
 /// The cut of this number from the left.
-fn cut_from_left(l: &Marked, r: &Marked, t: &Text, number: u32) -> Option<usize>
-    requires number { 0 < number }
-    requires left { IsLookedFor true t.now l.now }
-    requires right { IsLookedFor false t.now r.now }
-    ensures { MatchOption result
-        ((k : ℕ) → IsCutFromLeft l.now.seq r.now.seq t.now number k → ⊥)
-        (λ k. IsCutFromLeft l.now.seq r.now.seq t.now number k) }
+fn pick_left(cuts: &[usize], number: u32) -> Option<usize>
+    requires { 0 < number }
+    ensures { (l : Items Listed) (r : Items Listed) (t : Items ℕ) → AreCuts l r t cuts.now → MatchOption result
+        ((k : ℕ) → IsCutFromLeft l r t number k → ⊥)
+        (λ k. IsCutFromLeft l r t number k) }
 {
-    let mut passed = 0;
-    for k in 0..t.len() + 1 {
-        if is_cut(l, r, t, k) {
-            passed += 1;
-            if passed == number {
-                return Some(k);
-            }
-        }
+    let place = number as usize - 1;
+    if place < cuts.len() {
+        Some(cuts[place])
+    } else {
+        None
     }
-    None
 }
 
 /// The cut of this number from the right.
-fn cut_from_right(l: &Marked, r: &Marked, t: &Text, number: u32) -> Option<usize>
-    requires number { 0 < number }
-    requires left { IsLookedFor true t.now l.now }
-    requires right { IsLookedFor false t.now r.now }
-    ensures { MatchOption result
-        ((k : ℕ) → IsCutFromRight l.now.seq r.now.seq t.now number k → ⊥)
-        (λ k. IsCutFromRight l.now.seq r.now.seq t.now number k) }
+fn pick_right(cuts: &[usize], number: u32) -> Option<usize>
+    requires { 0 < number }
+    ensures { (l : Items Listed) (r : Items Listed) (t : Items ℕ) → AreCuts l r t cuts.now → MatchOption result
+        ((k : ℕ) → IsCutFromRight l r t number k → ⊥)
+        (λ k. IsCutFromRight l r t number k) }
 {
-    let mut passed = 0;
-    for k in (0..t.len() + 1).rev() {
-        if is_cut(l, r, t, k) {
-            passed += 1;
-            if passed == number {
-                return Some(k);
-            }
-        }
+    let count = number as usize;
+    if count <= cuts.len() {
+        Some(cuts[cuts.len() - count])
+    } else {
+        None
     }
-    None
 }
 
 /// The cut of this number from the left, or below 0 from the right.
-fn cut_of(l: &Marked, r: &Marked, t: &Text, count: i32) -> Option<usize>
-    requires left { IsLookedFor true t.now l.now }
-    requires right { IsLookedFor false t.now r.now }
-    ensures { MatchOption result
-        ((k : ℕ) → HasValue (Place.Pos l.now.seq r.now.seq count) t.now k → ⊥)
-        (λ k. HasValue (Place.Pos l.now.seq r.now.seq count) t.now k) }
+fn pick(cuts: &[usize], count: i32) -> Option<usize>
+    ensures { (l : Items Listed) (r : Items Listed) (t : Items ℕ) → AreCuts l r t cuts.now → MatchOption result
+        ((k : ℕ) → HasValue (Place.Pos l r count) t k → ⊥)
+        (λ k. HasValue (Place.Pos l r count) t k) }
 {
     match count {
         0 => None,
         _ => {
             if count > 0 {
-                cut_from_left(l, r, t, count.unsigned_abs())
+                pick_left(cuts, count.unsigned_abs())
             } else {
-                cut_from_right(l, r, t, count.unsigned_abs())
+                pick_right(cuts, count.unsigned_abs())
             }
         }
     }
@@ -227,13 +161,65 @@ fn cut_of(l: &Marked, r: &Marked, t: &Text, count: i32) -> Option<usize>
 
 impl Cuts {
     /// Where nothing was looked for yet.
-    pub(crate) fn new(alloc: Global) -> Cuts
-        ensures { (t : Items ℕ) → AreCutsOf t result }
+    pub(crate) fn new(alloc: Global) -> Result<Cuts, NoMemory>
+        ensures { IfOk result (λ made. (t : Items ℕ) → AreCutsOf t made) }
     {
-        Cuts {
-            lefts: Side::new(alloc, true),
-            rights: Side::new(alloc, false),
+        Ok(Cuts {
+            ends: Ends::new(alloc)?,
+            lefts: Vec::new(alloc),
+            numbers: HashMap::new(alloc),
+            last: 0,
+            found: Vec::new(alloc),
+        })
+    }
+
+    /// Whether that sequence is the one at this place.
+    fn has_at(&self, i: usize, seq: &Seq) -> bool
+        ensures { IsTrue result → HasAt self.now seq.now i }
+    {
+        if i >= self.lefts.len() {
+            return false;
         }
+        is_of(&self.lefts[i], seq)
+    }
+
+    /// Which one of them is the sequence, where it was looked for already.
+    fn find(&self, seq: &Seq) -> Option<usize>
+        ensures { IfSome result (HasAt self.now seq.now) }
+    {
+        if self.has_at(self.last, seq) {
+            return Some(self.last);
+        }
+        let i = *self.numbers.get(&code_of(seq))?;
+        if !self.has_at(i, seq) {
+            return None;
+        }
+        Some(i)
+    }
+
+    /// Looks for the sequence in the text.
+    fn put(&mut self, alloc: Global, seq: &Seq, t: &Text) -> Result<usize, NoMemory>
+        requires { AreCutsOf t.now self.old }
+        ensures kept { OnOk result (AreCutsOf t.now self.new) }
+        ensures there { IfOk result (HasAt self.new seq.now) }
+    {
+        let stops = self.ends.stops(alloc, seq, t)?;
+        let i = self.lefts.len();
+        self.lefts.push(Left { seq: *seq, stops })?;
+        keep_number(&mut self.numbers, code_of(seq), i)?;
+        Ok(i)
+    }
+
+    /// Which one of them is the sequence.
+    fn look_for(&mut self, alloc: Global, seq: &Seq, t: &Text) -> Result<usize, NoMemory>
+        requires { AreCutsOf t.now self.old }
+        ensures kept { OnOk result (AreCutsOf t.now self.new) }
+        ensures there { IfOk result (HasAt self.new seq.now) }
+    {
+        if let Some(i) = self.find(seq) {
+            return Ok(i);
+        }
+        self.put(alloc, seq, t)
     }
 
     /// The value of the place in the text.
@@ -265,8 +251,16 @@ impl Cuts {
         ensures kept { OnOk result (AreCutsOf t.now self.new) }
         ensures value { IfOk result (λ o. MatchOption o ((k : ℕ) → HasValue (Place.Pos left.now right.now count) t.now k → ⊥) (λ k. HasValue (Place.Pos left.now right.now count) t.now k)) }
     {
-        let l = self.lefts.look_for(alloc, left, t)?;
-        let r = self.rights.look_for(alloc, right, t)?;
-        Ok(cut_of(&self.lefts.marked[l], &self.rights.marked[r], t, count))
+        let l = self.look_for(alloc, left, t)?;
+        self.last = l;
+        find_cuts(
+            alloc,
+            &mut self.ends,
+            self.lefts[l].stops.as_slice(),
+            right,
+            t,
+            &mut self.found,
+        )?;
+        Ok(pick(self.found.as_slice(), count))
     }
 }

@@ -1,25 +1,24 @@
 //! What was found of sets on a row already, so that each set is looked at once.
-ghost use Rattle.std.specs.Prelude.{◌↔◌, ℕ, List as Items, Option, IfSome, OnOk};
+ghost use Rattle.std.specs.Prelude.{◌≡◌, ◌↔◌, ◌++◌, ◌∷◌, [], ℕ, List as Items, Option, IfOk, IfSome, OnOk};
 ghost use Rattle.fill_arena.specs.Contents.{EachIn};
 ghost use Rattle.fill_eval.specs.Piece.{IsWithin};
-ghost use Rattle.fill_doubt.specs.Answers.{PiecesHave, PositionsHave, TextsHave};
-ghost use Rattle.fill_doubt.specs.Gives.{PlaceGives};
-ghost use Rattle.fill_doubt.specs.Known.{AreKnown, PartAnswers, SourceAnswers};
+ghost use Rattle.fill_doubt.specs.Answers.{PiecesHave, TextsHave};
+ghost use Rattle.fill_doubt.specs.Known.{AreKnown, IsReadAt, PartAnswers, SourceAnswers};
 ghost use Rattle.fill_doubt.specs.declared.row.OnRow.{OnRow};
 
-use crate::answers::{Pieces, Positions, Texts};
-use fill_arena::{AtomSet, PlaceSet, SourceSet};
+use crate::answers::{Pieces, Texts};
+use crate::read::Read;
+use fill_arena::{AtomSet, SourceSet};
 use fill_text::{NoMemory, Text};
 use std::alloc::Global;
 use std::collections::HashMap;
 
-/// The answers of sets: of a set of atoms those of its atoms that are no constants, and of a set of places its positions in
-/// each text that they were asked for.
+/// The answers of sets, those of a set of atoms without its constants, and what was found of the row's texts.
 #[derive(Drop)]
 pub(crate) struct Known<'a> {
     sources: HashMap<SourceSet, Texts<'a>>,
     parts: HashMap<AtomSet, Pieces<'a>>,
-    positions: HashMap<(&'a [char], PlaceSet), Positions>,
+    pub(crate) reads: Vec<Read<'a>>,
 }
 
 impl<'a> Known<'a> {
@@ -29,7 +28,7 @@ impl<'a> Known<'a> {
         Known {
             sources: HashMap::new(alloc),
             parts: HashMap::new(alloc),
-            positions: HashMap::new(alloc),
+            reads: Vec::new(alloc),
         }
     }
 
@@ -44,12 +43,6 @@ impl<'a> Known<'a> {
         ensures within { (on : OnRow) → AreKnown on self.now → IfSome result (λ found. EachIn IsWithin found.now.pieces.items) }
     {
         self.parts.get(&s)
-    }
-
-    pub(crate) fn position(&self, s: PlaceSet, text: &'a Text) -> Option<&Positions>
-        ensures { (on : OnRow) → AreKnown on self.now → IfSome result (λ found. (o : Option ℕ) → PositionsHave found.now o ↔ PlaceGives on.arena.now s text.now o) }
-    {
-        self.positions.get(&(text.as_slice(), s))
     }
 
     pub(crate) fn keep_source(&mut self, s: SourceSet, found: Texts<'a>) -> Result<(), NoMemory>
@@ -70,17 +63,38 @@ impl<'a> Known<'a> {
         }
     }
 
-    pub(crate) fn keep_position(
-        &mut self,
-        s: PlaceSet,
-        text: &'a Text,
-        found: Positions,
-    ) -> Result<(), NoMemory>
-        ensures { OnOk result ((on : OnRow) → AreKnown on self.old → ((o : Option ℕ) → PositionsHave found o ↔ PlaceGives on.arena.now s text.now o) → AreKnown on self.new) }
+    /// Which one of the texts that were read this one is.
+    fn find(&self, text: &Text) -> Option<usize>
+        ensures { IfSome result (IsReadAt self.now text.now) }
     {
-        match self.positions.insert((text.as_slice(), s), found) {
-            Ok(_) => Ok(()),
-            Err(_) => Err(NoMemory),
+        for i in 0..self.reads.len() {
+            if self.reads[i].text.same(text) {
+                return Some(i);
+            }
         }
+        None
+    }
+
+    /// The number of the text among those of the row, where what is found of it is kept.
+    pub(crate) fn number_of(&mut self, alloc: Global, text: &'a Text) -> Result<usize, NoMemory>
+        ensures known { OnOk result ((on : OnRow) → AreKnown on self.old → AreKnown on self.new) }
+        ensures there { IfOk result (IsReadAt self.new text.now) }
+    {
+        if let Some(n) = self.find(text) {
+            return Ok(n);
+        }
+        let n = self.reads.len();
+        let read = Read::new(alloc, text)?;
+        put_read(&mut self.reads, read)?;
+        Ok(n)
+    }
+}
+
+fn put_read<'a>(reads: &mut Vec<Read<'a>>, read: Read<'a>) -> Result<(), NoMemory>
+    ensures { OnOk result (reads.new.items ≡ reads.old.items ++ read.entry ∷ []) }
+{
+    match reads.push(read) {
+        Ok(()) => Ok(()),
+        Err(_) => Err(NoMemory),
     }
 }

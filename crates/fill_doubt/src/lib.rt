@@ -6,11 +6,13 @@
 
 mod answers;
 mod cuts;
+mod ends;
 mod graph;
 mod known;
 mod listing;
 mod pass;
 mod positions;
+mod read;
 mod row;
 mod rows;
 mod sets;

@@ -8,10 +8,12 @@ ghost use Rattle.fill_doubt.specs.Answers.{AreBetween, AreBetweenFrom, Gains, La
 ghost use Rattle.fill_doubt.specs.Cuts.{AreCutsOf};
 ghost use Rattle.fill_doubt.specs.Gives.{PlaceGives};
 ghost use Rattle.fill_doubt.specs.Known.{AreKnown};
+ghost use Rattle.fill_doubt.specs.Read.{IsReadIn};
 
 use crate::answers::{Pieces, Positions};
 use crate::cuts::Cuts;
 use crate::known::Known;
+use crate::read::Read;
 use crate::row::OnRow;
 use fill_arena::{Arena, PlaceSet};
 use fill_eval::Piece;
@@ -19,47 +21,46 @@ use fill_text::{NoMemory, Text};
 use fill_tokens::Place;
 use std::alloc::Global;
 
-/// The positions of the set's places in the text, which are found once for the row.
+/// Positions of the set's places in the text: two answers where few will do, and else all of them. They are found once for
+/// the row.
 pub(crate) fn positions_of<'a>(
     on: &OnRow<'a>,
     known: &mut Known<'a>,
     s: PlaceSet,
     text: &'a Text,
-) -> Result<Positions, NoMemory>
-    requires set { IsPlaceSet on.now.arena.now s }
-    requires known { AreKnown on.now known.old }
-    ensures known { OnOk result (AreKnown on.now known.new) }
-    ensures exact { IfOk result (λ found. (o : Option ℕ) → PositionsHave found o ↔ PlaceGives on.now.arena.now s text.now o) }
-{
-    if let Some(found) = known.position(s, text) {
-        return found.copy(on.alloc);
-    }
-    let mut found = Positions::new(on.alloc);
-    scan_places(on.alloc, on.arena, s, text, false, &mut found)?;
-    known.keep_position(s, text, found.copy(on.alloc)?)?;
-    Ok(found)
-}
-
-/// Positions of places of the set in the text: two answers, or all of them.
-pub(crate) fn some_positions<'a>(
-    on: &OnRow<'a>,
-    known: &mut Known<'a>,
-    s: PlaceSet,
-    text: &'a Text,
+    few: bool,
 ) -> Result<Positions, NoMemory>
     requires set { IsPlaceSet on.now.arena.now s }
     requires known { AreKnown on.now known.old }
     ensures known { OnOk result (AreKnown on.now known.new) }
     ensures sound { IfOk result (λ found. (o : Option ℕ) → PositionsHave found o → PlaceGives on.now.arena.now s text.now o) }
+    ensures all { IfOk result (λ found. few ≡ false → (o : Option ℕ) → PlaceGives on.now.arena.now s text.now o → PositionsHave found o) }
 {
-    if let Some(found) = known.position(s, text) {
-        return found.copy(on.alloc);
+    let n = known.number_of(on.alloc, text)?;
+    read_positions(on.alloc, on.arena, s, few, &mut known.reads[n])
+}
+
+fn read_positions(
+    alloc: Global,
+    arena: &Arena,
+    s: PlaceSet,
+    few: bool,
+    read: &mut Read,
+) -> Result<Positions, NoMemory>
+    requires set { IsPlaceSet arena.now s }
+    requires read { IsReadIn arena.now read.old }
+    ensures read { OnOk result (IsReadIn arena.now read.new) }
+    ensures sound { IfOk result (λ found. (o : Option ℕ) → PositionsHave found o → PlaceGives arena.now s read.old.text.now o) }
+    ensures all { IfOk result (λ found. few ≡ false → (o : Option ℕ) → PlaceGives arena.now s read.old.text.now o → PositionsHave found o) }
+{
+    if let Some(found) = read.position(s) {
+        return found.copy(alloc);
     }
-    let mut found = Positions::new(on.alloc);
-    if !scan_places(on.alloc, on.arena, s, text, true, &mut found)? {
+    let mut found = Positions::new(alloc);
+    if !scan_places(alloc, arena, s, read.text, few, &mut read.cuts, &mut found)? {
         return Ok(found);
     }
-    known.keep_position(s, text, found.copy(on.alloc)?)?;
+    read.keep_position(s, found.copy(alloc)?)?;
     Ok(found)
 }
 
@@ -77,21 +78,23 @@ fn scan_places(
     s: PlaceSet,
     text: &Text,
     few: bool,
+    cuts: &mut Cuts,
     found: &mut Positions,
 ) -> Result<bool, NoMemory>
     requires set { IsPlaceSet arena.now s }
+    requires cuts { AreCutsOf text.now cuts.old }
     requires none { (o : Option ℕ) → ¬ (PositionsHave found.old o) }
+    ensures cuts { OnOk result (AreCutsOf text.now cuts.new) }
     ensures sound { OnOk result ((o : Option ℕ) → PositionsHave found.new o → PlaceGives arena.now s text.now o) }
     ensures all { IfOk result (λ all. IsTrue all → (o : Option ℕ) → PlaceGives arena.now s text.now o → PositionsHave found.new o) }
     ensures whole { IfOk result (λ all. few ≡ false → IsTrue all) }
 {
-    let mut cuts = Cuts::new(alloc);
     let places = arena.places(s);
     for i in 0..places.len() {
         if may_stop(few, found) {
             return Ok(false);
         }
-        put_place(alloc, found, &mut cuts, &places[i], text)?;
+        put_place(alloc, found, cuts, &places[i], text)?;
     }
     Ok(true)
 }

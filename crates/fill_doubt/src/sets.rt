@@ -313,8 +313,8 @@ fn put_pieces<'a>(
     ensures within { OnOk result (EachIn IsWithin found.new.pieces.items) }
     ensures gains { OnOk result (Gains (PiecesHave found.old) (PiecesHave found.new) (SubGives on.now.arena.now lefts rights text.now)) }
 {
-    let lefts = positions_of(on, known, lefts, text)?;
-    let rights = positions_of(on, known, rights, text)?;
+    let lefts = positions_of(on, known, lefts, text, false)?;
+    let rights = positions_of(on, known, rights, text, false)?;
     put_between(found, text, &lefts, &rights)
 }
 

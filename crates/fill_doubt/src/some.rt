@@ -9,7 +9,7 @@ ghost use Rattle.fill_doubt.specs.Known.{AreKnown, AtomAnswers, ConstantItemAnsw
 
 use crate::answers::{Pieces, Texts};
 use crate::known::Known;
-use crate::positions::{put_between, some_positions};
+use crate::positions::{positions_of, put_between};
 use crate::row::OnRow;
 use crate::sets::{atoms_of, put_wholes, sources_of};
 use fill_arena::{AtomItem, AtomSet, PlaceSet};
@@ -108,8 +108,8 @@ fn put_some_pieces<'a>(
     ensures within { OnOk result (EachIn IsWithin found.new.pieces.items) }
     ensures gains { OnOk result (GainsSome (PiecesHave found.old) (PiecesHave found.new) (SubGives on.now.arena.now lefts rights text.now)) }
 {
-    let lefts = some_positions(on, known, lefts, text)?;
-    let rights = some_positions(on, known, rights, text)?;
+    let lefts = positions_of(on, known, lefts, text, true)?;
+    let rights = positions_of(on, known, rights, text, true)?;
     put_between(found, text, &lefts, &rights)
 }
 

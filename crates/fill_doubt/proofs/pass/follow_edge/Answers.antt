@@ -1,4 +1,3 @@
-use Rattle.std.proofs.Common.{◌≡◌}
 use Rattle.fill_doubt.proofs.pass.follow_edge.Goals as goal
 
 pub follow_all-requires-clause-laid : goal.follow_all-requires-clause-laid

@@ -1,4 +1,4 @@
-use Rattle.std.proofs.Common.{◌≡◌, ◌↔◌, ℕ, List, Option, None, Some, true, false, inl, inr, refl, sym, ◌∙◌}
+use Rattle.std.proofs.Common.{None, Some, inl, inr, refl}
 use Rattle.fill_doubt.specs.Known.{EdgeAnswers}
 use Rattle.fill_doubt.proofs.Flags.{match_false}
 use Rattle.fill_doubt.proofs.Laid.{laid_short}

@@ -11,7 +11,7 @@ use Rattle.fill_doubt.proofs.positions.scan_places.Goals as goal
 
 pub loop-i-init : goal.loop-i-init
 loop-i-init c = record {
-  cuts = c.new-cuts.ensures c.args.text.now;
+  cuts = c.requires.cuts;
   gains = below_start (λ p. IsValue (HasValue p c.args.text.now)) c.places-places.result.now (PositionsHave c.args.found.now);
 }
 

@@ -1,3 +1,4 @@
+use Rattle.std.proofs.Common.{refl}
 use Rattle.fill_doubt.specs.Answers.{AreBetween, PositionsHave}
 use Rattle.fill_doubt.specs.Gives.{SubGives}
 use Rattle.fill_doubt.proofs.Flags.{on_ok}
@@ -7,7 +8,7 @@ use Rattle.fill_doubt.proofs.sets.put_pieces.Goals as goal
 
 pub put_between-requires-clause-ends : goal.put_between-requires-clause-ends
 put_between-requires-clause-ends c =
-    ends_within c.args.on.now.arena.now c.args.rights c.args.text.now (PositionsHave c.in_ok-rights.rights) c.in_ok-rights.ensures.exact
+    ends_within c.args.on.now.arena.now c.args.rights c.args.text.now (PositionsHave c.in_ok-rights.rights) (λ o. (c.in_ok-rights.ensures.sound o, c.in_ok-rights.ensures.all refl o))
 
 pub returns-clause-gains : goal.returns-clause-gains
 returns-clause-gains c =
@@ -16,4 +17,5 @@ returns-clause-gains c =
     let L = PositionsHave c.in_ok-lefts.lefts in
     let R = PositionsHave c.in_ok-rights.rights in
     on_ok c.put_between.result c.put_between.ensures.gains
-    (gains_alike _ _ (AreBetween t L R) (SubGives arena c.args.lefts c.args.rights t) (between_gives arena c.args.lefts c.args.rights t L R c.in_ok-lefts.ensures.exact c.in_ok-rights.ensures.exact))
+    (gains_alike _ _ (AreBetween t L R) (SubGives arena c.args.lefts c.args.rights t) (between_gives arena c.args.lefts c.args.rights t L R
+    (λ o. (c.in_ok-lefts.ensures.sound o, c.in_ok-lefts.ensures.all refl o)) (λ o. (c.in_ok-rights.ensures.sound o, c.in_ok-rights.ensures.all refl o))))

@@ -1,4 +1,4 @@
-use Rattle.std.proofs.Common.{◌≡◌, Some, inr}
+use Rattle.std.proofs.Common.{Some, inr}
 use Rattle.fill_eval.specs.Piece.{piece_text}
 use Rattle.fill_doubt.proofs.Flags.{match_option}
 use Rattle.fill_doubt.proofs.Items.{atoms_listed}

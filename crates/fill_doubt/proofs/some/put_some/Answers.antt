@@ -1,4 +1,4 @@
-use Rattle.std.proofs.Common.{◌≡◌, ◌↔◌, ℕ, List, Option, inl}
+use Rattle.std.proofs.Common.{◌↔◌, ℕ, List, Option}
 use Rattle.fill_doubt.specs.Answers.{TextsHave}
 use Rattle.fill_doubt.specs.Gives.{ArePiecesOf, AreWholes}
 use Rattle.fill_doubt.specs.Known.{PartItemAnswers}

@@ -1,4 +1,3 @@
-use Rattle.std.proofs.Common.{◌≡◌, Some}
 use Rattle.fill_doubt.specs.Answers.{AreBetween, PositionsHave}
 use Rattle.fill_doubt.specs.Gives.{SubGives}
 use Rattle.fill_doubt.proofs.Flags.{on_ok}

@@ -1,4 +1,4 @@
-use Rattle.std.proofs.Common.{◌≡◌, ◌<◌, ◌≤◌, length, Some, inl, refl, arith}
+use Rattle.std.proofs.Common.{◌<◌, length, Some, inl, refl, arith}
 use Rattle.fill_arena.proofs.Scan.{here}
 use Rattle.fill_doubt.specs.Answers.{PiecesHave, TextsHave}
 use Rattle.fill_doubt.specs.Gives.{ArePiecesOf, SubGives}

@@ -1,4 +1,4 @@
-use Rattle.std.proofs.Common.{◌≡◌, ⊎_elim, Some, rules}
+use Rattle.std.proofs.Common.{⊎_elim}
 use Rattle.fill_arena.proofs.Scan.{here}
 use Rattle.fill_arena.specs.declared.entry.Entry.TheVariants.{Atoms}
 use Rattle.fill_doubt.proofs.Items.{part_answers}
