@@ -23,13 +23,12 @@ use Rattle.fill_tree.specs.declared.user.Example.{Example}
 use Rattle.fill_space.specs.declared.ground.Ground.{Ground}
 use Rattle.fill_space.specs.Ground.{FitsOn, WeighsOn}
 use Rattle.fill_session.specs.Answers.{AnswerIs, StateIs, TakesRow, cases_of, switch_of, with_branch}
-use Rattle.fill_session.specs.Branches.{AreBranches, AreGuarded, BranchData, IsGuardBefore, lists_of, rule_of_profile}
+use Rattle.fill_session.specs.Branches.{AreGuarded, BranchData, IsGuardBefore, lists_of, rule_of_profile}
 use Rattle.fill_session.specs.Edits.{HasExample, rows_of}
 use Rattle.fill_session.specs.Outcome.{has_example}
 use Rattle.fill_session.specs.State.{AreShown, Shows}
 use Rattle.fill_session.specs.Taken.{IsFirstTaker, NoneTakes, ReadInputs}
 use Rattle.fill_session.specs.declared.answer.Answer.{Answer}
-use Rattle.fill_session.specs.declared.answer.State.{State}
 use Rattle.fill_session.specs.declared.answer.State.TheVariants.{Sure}
 use Rattle.fill_session.specs.declared.branch.Branch.{Branch}
 use Rattle.fill_session.proofs.Held.{lists_long}

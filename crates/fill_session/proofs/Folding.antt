@@ -1,7 +1,6 @@
 -- What the folds of a session tell of their lists: where their examples stand, how many rows they have, and which branches are made of them.
-use Rattle.std.proofs.Common.{◌≡◌, ℕ, zero, suc, ◌+◌, ◌<◌, ◌≤◌, List, [], ◌∷◌, ◌++◌, length, set, get_or, Some, refl, sym, ap, ◌∙◌, subst, ⊎_elim, length-append, arith}
-use Rattle.std.specs.Prelude.{slice_get, slice_set, All, ◌≢◌}
-use Rattle.std.specs.List.{AllZip}
+use Rattle.std.proofs.Common.{◌≡◌, ℕ, zero, suc, ◌+◌, ◌≤◌, List, [], ◌∷◌, ◌++◌, length, set, Some, refl, sym, ap, ◌∙◌, subst, ⊎_elim, length-append, arith}
+use Rattle.std.specs.Prelude.{slice_get, All}
 use Rattle.std.proofs.lemmas.List.Elements.{All-nil, All-cons, All-append}
 use Rattle.fill_guard.specs.Read.{IsRowOf}
 use Rattle.fill_split.specs.Placement.{PlacedFrom, Placed}
@@ -13,14 +12,13 @@ use Rattle.fill_tree.specs.declared.user.Example.{Example}
 use Rattle.fill_space.specs.declared.ground.Ground.{Ground}
 use Rattle.fill_space.specs.Ground.{FitsOn, WeighsOn, MayStand}
 use Rattle.fill_space.specs.Spaces.{SpacesData, SpaceStands}
-use Rattle.fill_session.specs.Branches.{ArePlaced, AreBranches, BranchData, all_rows, lists_of, rule_of_profile}
+use Rattle.fill_session.specs.Branches.{ArePlaced, BranchData, all_rows, lists_of, rule_of_profile}
 use Rattle.fill_session.specs.Edits.{rows_of}
 use Rattle.fill_session.specs.Fate.{EachHasProgram, FateIs}
 use Rattle.fill_session.specs.Folded.{ArePicked, ArePickedAll, AreKept, AreMade, KeptFor, LacksGuard}
 use Rattle.fill_session.specs.State.{AreShown, SpacesStand}
 use Rattle.fill_session.specs.declared.branch.Branch.{Branch}
 use Rattle.fill_session.specs.declared.error.EditError.{EditError}
-use Rattle.fill_session.specs.declared.error.EditError.TheVariants as error
 use Rattle.fill_session.proofs.Held.{SpaceFolds}
 use Rattle.fill_session.proofs.Picked.{below, read, flat_push}
 

@@ -1,8 +1,7 @@
 -- What a session holds, as its spaces grow and as examples change.
-use Rattle.std.proofs.Common.{◌≡◌, ℕ, zero, suc, ◌+◌, ◌-◌, ◌<◌, ◌≤◌, List, [], ◌∷◌, length, get_or, Some, None, refl, sym, ap, ◌∙◌, subst, inl, arith}
+use Rattle.std.proofs.Common.{◌≡◌, ℕ, suc, ◌-◌, ◌<◌, ◌≤◌, List, [], ◌∷◌, length, get_or, Some, None, refl, sym, ap, ◌∙◌, subst, inl, arith}
 use Rattle.std.specs.Prelude.{slice_get, All}
 use Rattle.std.specs.List.{AllZip}
-use Rattle.fill_split.specs.Changes.{changed as changed_at}
 use Rattle.fill_split.specs.Keeping.{Keeps}
 use Rattle.fill_split.specs.Placement.{Placed}
 use Rattle.fill_split.specs.Refusals.{Unplaceable}
@@ -19,14 +18,14 @@ use Rattle.fill_tree.specs.declared.user.Settings.{Settings}
 use Rattle.fill_space.specs.declared.ground.Ground.{Ground}
 use Rattle.fill_space.specs.Ground.{FitsOn, WeighsOn, MayStand}
 use Rattle.fill_space.specs.Spaces.{SpacesData, SpaceStands}
-use Rattle.fill_session.specs.Branches.{ArePlaced, AreBranches, BranchData, lists_of, rule_of_profile}
+use Rattle.fill_session.specs.Branches.{ArePlaced, BranchData, lists_of, rule_of_profile}
 use Rattle.fill_session.specs.Edits.{AreExamples, changed}
 use Rattle.fill_session.specs.Fate.{EachHasProgram}
 use Rattle.fill_session.specs.Outcome.{first_reason}
-use Rattle.fill_session.specs.State.{AreShown, IsAsBefore, IsBranch, IsHeld, IsSession, SessionData, Shows, SpacesStand}
+use Rattle.fill_session.specs.State.{AreShown, IsAsBefore, IsBranch, IsHeld, SessionData, Shows, SpacesStand}
 use Rattle.fill_session.specs.declared.branch.Branch.{Branch}
 use Rattle.fill_session.proofs.Applied.{stay_examples, stay_allowed, stay_few}
-use Rattle.fill_session.proofs.Picked.{below, here, read, map_at}
+use Rattle.fill_session.proofs.Picked.{here}
 
 abbrev pub SpaceFolds : Type 0 → Type 0
 SpaceFolds T = Folds SpacesData Example ℕ T Ground

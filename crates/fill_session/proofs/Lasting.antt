@@ -1,10 +1,8 @@
 -- What of branches that stood before an edit holds after it.
-use Rattle.std.proofs.Common.{◌≡◌, ℕ, zero, suc, ◌+◌, ◌<◌, List, [], ◌∷◌, ◌++◌, drop, get_or, Some, None, Option, refl, sym, ap, ◌∙◌, subst, arith}
-use Rattle.std.specs.Prelude.{slice_get, All, Contains, IfSome}
-use Rattle.std.specs.List.{AllZip}
+use Rattle.std.proofs.Common.{◌≡◌, ℕ, zero, suc, ◌+◌, List, [], ◌∷◌, drop, Some, sym, ap, ◌∙◌, subst, arith}
+use Rattle.std.specs.Prelude.{slice_get, All, Contains}
 use Rattle.std.proofs.lemmas.List.Elements.{All-nil, All-append, All-contains, All-head, All-tail, All-weaker}
 use Rattle.fill_text.specs.Data.{SheetData}
-use Rattle.fill_split.specs.Standing.{BranchStands, branches_of}
 use Rattle.fill_split.specs.declared.folds.Fold.{Fold}
 use Rattle.fill_split.proofs.Zips.{zip_some}
 use Rattle.fill_tree.specs.Guard.{GuardHolds}

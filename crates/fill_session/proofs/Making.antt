@@ -1,5 +1,5 @@
 -- Branches that are made one after the other, each with its guard against the later lists.
-use Rattle.std.proofs.Common.{◌≡◌, ℕ, zero, suc, ◌+◌, ◌<◌, ◌≤◌, List, [], ◌∷◌, ◌++◌, length, take, drop, map, get_or, Bool, true, false, Some, None, Option, refl, sym, ap, ◌∙◌, subst, append_assoc, arith}
+use Rattle.std.proofs.Common.{◌≡◌, ℕ, zero, suc, ◌+◌, ◌<◌, ◌≤◌, List, [], ◌∷◌, ◌++◌, length, take, drop, get_or, Bool, true, false, Some, Option, refl, sym, ap, ◌∙◌, subst, append_assoc, arith}
 use Rattle.std.specs.Prelude.{slice_get, All}
 use Rattle.std.specs.List.{AllZip}
 use Rattle.std.proofs.lemmas.List.{take_all}
@@ -16,7 +16,7 @@ use Rattle.fill_space.specs.Ground.{ChosenOn}
 use Rattle.fill_space.specs.Spaces.{SpacesData, SpaceStands}
 use Rattle.fill_session.specs.Branches.{BranchData, AreGuarded, IsGuardBefore, all_rows, lists_of}
 use Rattle.fill_session.specs.Edits.{rows_of}
-use Rattle.fill_session.specs.Fate.{CanBeGuarded, IsFirstUnguarded}
+use Rattle.fill_session.specs.Fate.{CanBeGuarded}
 use Rattle.fill_session.specs.Folded.{KeptFor, AreKept, AreMade, IsGuardOf, IsUnguarded, LacksGuard}
 use Rattle.fill_session.specs.State.{Shows}
 use Rattle.fill_session.specs.declared.branch.Branch.{Branch}

@@ -1,10 +1,9 @@
 -- What is held tells of its branches.
-use Rattle.std.proofs.Common.{◌≡◌, ℕ, suc, List, [], ◌∷◌, ◌++◌, Some, None, Option, refl, sym, ap, ◌∙◌, subst}
+use Rattle.std.proofs.Common.{◌≡◌, ℕ, List, [], ◌∷◌, ◌++◌, Option, refl, sym, ap, ◌∙◌, subst}
 use Rattle.std.specs.Prelude.{IfSome}
 use Rattle.std.specs.List.{AllZip}
 use Rattle.fill_split.specs.Standing.{BranchStands, branches_of}
 use Rattle.fill_split.specs.declared.folds.Fold.{Fold}
-use Rattle.fill_tree.specs.Meaning.{program_tree}
 use Rattle.fill_tree.specs.Separate.{IsLeastGuard}
 use Rattle.fill_tree.specs.Tree.{Atoms}
 use Rattle.fill_tree.specs.declared.guard.Guard.{Guard}
@@ -12,10 +11,10 @@ use Rattle.fill_tree.specs.declared.user.Example.{Example}
 use Rattle.fill_space.specs.declared.ground.Ground.{Ground}
 use Rattle.fill_space.specs.Ground.{ChosenOn}
 use Rattle.fill_space.specs.Spaces.{SpacesData, SpaceStands}
-use Rattle.fill_session.specs.Before.{AreTold, HasChosen, HaveChosen, IsTold, shown_rows}
+use Rattle.fill_session.specs.Before.{AreTold, HaveChosen, IsTold, shown_rows}
 use Rattle.fill_session.specs.Branches.{AreGuarded, BranchData, IsGuardBefore, all_rows, lists_of}
 use Rattle.fill_session.specs.Edits.{rows_of}
-use Rattle.fill_session.specs.State.{AreShown, IsHeld, Shows}
+use Rattle.fill_session.specs.State.{IsHeld, Shows}
 use Rattle.fill_session.specs.declared.branch.Branch.{Branch}
 use Rattle.fill_session.proofs.Held.{SpaceFolds, matched}
 

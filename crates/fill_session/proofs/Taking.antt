@@ -1,5 +1,5 @@
 -- The fold and the branch that a row takes.
-use Rattle.std.proofs.Common.{◌≡◌, ℕ, ◌+◌, ◌<◌, ◌≤◌, List, length, get_or, Some, refl, sym, ap, ◌∙◌, subst, arith}
+use Rattle.std.proofs.Common.{◌≡◌, ℕ, ◌<◌, List, length, get_or, Some, ap, subst, arith}
 use Rattle.std.specs.Prelude.{slice_get}
 use Rattle.fill_split.specs.Standing.{branches_of, rule_of}
 use Rattle.fill_split.specs.declared.folds.Fold.{Fold}

@@ -1,5 +1,5 @@
 -- Examples in the order of their rows, and what edits make of them.
-use Rattle.std.specs.Prelude.{◌≡◌, ℕ, ◌<◌, ◌==◌, not, List, [], ◌∷◌, filter, map, if◌then◌else◌, nat_lt, Contains}
+use Rattle.std.specs.Prelude.{ℕ, ◌<◌, ◌==◌, not, List, [], ◌∷◌, filter, map, if◌then◌else◌, nat_lt, Contains}
 use Rattle.std.specs.List.{AllPairs}
 use Rattle.fill_tree.specs.declared.user.Edit.{Edit}
 use Rattle.fill_tree.specs.declared.user.Edit.TheVariants.{Add, Correct, Retract, Clear}

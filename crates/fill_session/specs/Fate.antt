@@ -1,5 +1,5 @@
 -- What becomes of examples: they are accepted, or why they are not.
-use Rattle.std.specs.Prelude.{◌≡◌, ℕ, suc, ◌<◌, ◌≤◌, List, [], ◌∷◌, length, drop, Option, None, Some, slice_get}
+use Rattle.std.specs.Prelude.{◌≡◌, ℕ, suc, ◌<◌, ◌≤◌, List, length, drop, Option, None, Some, slice_get}
 use Rattle.fill_tree.specs.Separate.{Separates}
 use Rattle.fill_tree.specs.declared.guard.Guard.{Guard}
 use Rattle.fill_tree.specs.declared.user.Example.{Example}

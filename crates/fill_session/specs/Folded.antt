@@ -1,5 +1,5 @@
 -- Lists of examples that folds stand for, and the branches that are made of them.
-use Rattle.std.specs.Prelude.{◌≡◌, ◌≢◌, ℕ, suc, ◌<◌, List, length, slice_get, Bool, true, false, Option, Some, None}
+use Rattle.std.specs.Prelude.{◌≡◌, ℕ, suc, List, length, slice_get, Bool, true, false, Option, Some, None}
 use Rattle.std.specs.List.{AllZip}
 use Rattle.fill_tree.specs.Separate.{Separates, IsLeastGuard}
 use Rattle.fill_tree.specs.declared.guard.Guard.{Guard}

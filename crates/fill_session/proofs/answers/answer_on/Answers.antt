@@ -1,6 +1,4 @@
-use Rattle.std.proofs.Common.{◌≡◌, ◌<◌, ◌+◌, ℕ, List, Some, get_or, refl, sym, ap, ◌∙◌, subst, arith, rules}
-use Rattle.std.specs.Prelude.{slice_get}
-use Rattle.fill_split.specs.declared.folds.Fold.{Fold}
+use Rattle.std.proofs.Common.{ℕ, List, get_or, refl, sym, subst, rules}
 use Rattle.fill_text.specs.Data.{SheetData, TableData}
 use Rattle.fill_tree.specs.Meaning.{program_tree}
 use Rattle.fill_tree.specs.Value.{IsValue, ProgramIs}

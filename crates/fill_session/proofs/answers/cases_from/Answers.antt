@@ -1,7 +1,7 @@
-use Rattle.std.proofs.Common.{◌∙◌, List, ap, ℕ, length, take}
-use Rattle.std.specs.List.{AllZip, flat_map}
+use Rattle.std.proofs.Common.{◌∙◌, List, ap, length}
+use Rattle.std.specs.List.{flat_map}
 use Rattle.std.proofs.lemmas.List.{take_all}
-use Rattle.std.proofs.Common.{◌≡◌, ◌≤◌, arith}
+use Rattle.std.proofs.Common.{◌≤◌, arith}
 use Rattle.fill_split.proofs.Zips.{zip_lengths}
 use Rattle.fill_session.specs.Branches.{BranchData}
 use Rattle.fill_session.specs.State.{Shows}

@@ -1,4 +1,4 @@
-use Rattle.std.proofs.Common.{List, take, refl, subst}
+use Rattle.std.proofs.Common.{List, refl, subst}
 use Rattle.std.specs.Prelude.{All, Contains}
 use Rattle.std.proofs.lemmas.List.{take_all}
 use Rattle.std.proofs.lemmas.List.Elements.{All-more}

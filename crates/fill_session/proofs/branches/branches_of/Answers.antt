@@ -1,4 +1,4 @@
-use Rattle.std.proofs.Common.{◌≡◌, ◌∙◌}
+use Rattle.std.proofs.Common.{◌∙◌}
 use Rattle.fill_split.proofs.Changing.{if_ok, if_err}
 use Rattle.fill_session.proofs.Folding.{picked_all, kept_all, short_all, few_rows, each_row, made_shown, lacks_fate}
 use Rattle.fill_session.proofs.branches.branches_of.Goals as goal

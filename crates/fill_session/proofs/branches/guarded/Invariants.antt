@@ -1,5 +1,3 @@
-use Rattle.std.proofs.Common.{◌≤◌, length, All}
-use Rattle.fill_guard.specs.Read.{IsRowOf}
 use Rattle.fill_session.proofs.Making.{Yet}
 use Rattle.fill_session.proofs.branches.guarded.Given as goal
 

@@ -1,4 +1,4 @@
-use Rattle.std.proofs.Common.{◌≡◌, ℕ, List, Some, subst, sym, ap, ◌∙◌, rules}
+use Rattle.std.proofs.Common.{ℕ, List, Some, subst, sym, ap, ◌∙◌}
 use Rattle.fill_split.specs.declared.folds.Fold.{Fold}
 use Rattle.fill_tree.specs.declared.user.Example.{Example}
 use Rattle.fill_session.specs.Branches.{all_rows}

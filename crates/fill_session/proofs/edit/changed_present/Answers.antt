@@ -4,7 +4,7 @@ use Rattle.fill_split.specs.Refusals.{Refuses}
 use Rattle.fill_split.specs.Standing.{rule_of}
 use Rattle.fill_tree.specs.declared.user.Example.{Example}
 use Rattle.fill_space.specs.declared.ground.Ground.{Ground}
-use Rattle.fill_space.specs.Ground.{FitsOn, WeighsOn, MayStand}
+use Rattle.fill_space.specs.Ground.{FitsOn, WeighsOn}
 use Rattle.fill_session.specs.Edits.{changed}
 use Rattle.fill_session.specs.Fate.{EachHasProgram, FateIs}
 use Rattle.fill_session.specs.State.{AreShown}

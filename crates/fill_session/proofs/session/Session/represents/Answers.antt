@@ -1,7 +1,6 @@
-use Rattle.std.proofs.Common.{IsTrue, List, subst, sym, ap}
+use Rattle.std.proofs.Common.{IsTrue, subst, sym, ap}
 use Rattle.std.specs.Prelude.{◌↔◌}
 use Rattle.fill_tree.specs.Meaning.{program_tree}
-use Rattle.fill_tree.specs.declared.user.Example.{Example}
 use Rattle.fill_space.specs.Ground.{ExplainsOn}
 use Rattle.fill_space.specs.Spaces.{SpacesData, SpaceStands}
 use Rattle.fill_session.specs.State.{SessionData}
