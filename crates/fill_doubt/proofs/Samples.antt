@@ -1,11 +1,12 @@
 -- The sets and the graph of a small arena.
 use Rattle.std.proofs.Common.{◌≡◌, ℕ, zero, suc, ◌<◌, ◌≤◌, inl, List, [], ◌∷◌, length, slice_get, None, Some, refl, sym, ap, subst, arith}
+use Rattle.fill_arena.proofs.Samples.{each_nil, each_cons}
 use Rattle.std.proofs.lemmas.Option.{slice_get_within}
-use Rattle.fill_arena.specs.Contents.{EachIn, IsPlaceSet, IsSourceSet, IsAtomSet, Extends}
+use Rattle.fill_arena.specs.Contents.{IsSourceSet, IsAtomSet}
 use Rattle.fill_tree.specs.Grammar.{source_depth, atom_depth}
 use Rattle.fill_tree.specs.Tree.{SourceTree, AtomTree, col, select, constant, whole, sub, end, more}
 use Rattle.fill_arena.specs.Stands.{AtomFits, ConditionFits, SourceFits}
-use Rattle.fill_arena.specs.WellMade.{AreAtoms, AreSources, IsAtomItem, IsConditionItem, IsEdge, IsGraphOf, IsSourceItem, OlderAtoms, OlderPlaces, OlderSources, Path}
+use Rattle.fill_arena.specs.WellMade.{AreAtoms, AreSources, IsAtomItem, IsConditionItem, IsEdge, IsGraphOf, IsSourceItem, OlderAtoms, OlderSources, Path}
 use Rattle.fill_arena.specs.declared.entry.AtomItem.TheVariants.{Whole}
 use Rattle.fill_arena.specs.declared.entry.ConditionItem.{ConditionItem}
 use Rattle.fill_arena.specs.declared.entry.SelectItem.{SelectItem}
@@ -16,18 +17,8 @@ use Rattle.fill_arena.specs.declared.entry.Edge.{Edge}
 use Rattle.fill_arena.specs.declared.entry.Entry.{Entry}
 use Rattle.fill_arena.specs.declared.entry.Entry.TheVariants as kind
 
-each_nil : {A : Type 0} (P : A → Type 0) → EachIn P []
-each_nil P k x e = absurd cc
-
-each_cons : {A : Type 0} (P : A → Type 0) (y : A) (ys : List A) → P y → EachIn P ys → EachIn P (y ∷ ys)
-each_cons P y ys first rest zero x e = let same : y ≡ x = cc in subst P same first
-each_cons P y ys first rest (suc k) x e = rest k x e
-
 pub older_sources : (c : List Entry) (s : ℕ) → IsSourceSet c s → OlderSources c (length c) s
 older_sources c s live = (live, slice_get_within c s (kind.Sources live.0) live.1)
-
-pub older_places : (c : List Entry) (s : ℕ) → IsPlaceSet c s → OlderPlaces c (length c) s
-older_places c s live = (live, slice_get_within c s (kind.Places live.0) live.1)
 
 pub sample_whole : (c : List Entry) (s : ℕ) → IsSourceSet c s → AreAtoms c (length c) (Whole s ∷ [])
 sample_whole c s live =
@@ -93,16 +84,6 @@ sample_graph c a b live there =
           let other = placed a b k f further in
           omega (arith, one.1, other.0, same);
     }
-
--- a set is there in what extends its arena
-pub places_later : (c d : List Entry) (s : ℕ) → Extends c d → IsPlaceSet c s → IsPlaceSet d s
-places_later c d s f live = (live.0, f s (kind.Places live.0) live.1)
-
-pub sources_later : (c d : List Entry) (s : ℕ) → Extends c d → IsSourceSet c s → IsSourceSet d s
-sources_later c d s f live = (live.0, f s (kind.Sources live.0) live.1)
-
-pub atoms_later : (c d : List Entry) (s : ℕ) → Extends c d → IsAtomSet c s → IsAtomSet d s
-atoms_later c d s f live = (live.0, f s (kind.Atoms live.0) live.1)
 
 -- the lookup by the whole of column 1
 abbrev by_column : ℕ → SelectItem

@@ -15,11 +15,10 @@ use Rattle.flashfill.specs.Answer.{Ends, Says, status_of}
 -- as the steps of the words' command end, theirs do
 pub ends_on : (files : Files) (words : List (List ℕ)) (command : CommandData) (how : Opened Ready) → Some command ≡ command_in words
     → Told files (λ held. (command_opens command held).outcome ≡ how) → ((n : ℕ) → command ≡ made n → (made_opens n).outcome ≡ how) → Ends files words how
-ends_on files words command how e h own =
-    (
-      subst (λ (o : Option CommandData). Told files (λ held. (asked_opens o held).outcome ≡ how)) e h,
-      λ n asked. own n (let same : Some command ≡ Some (made n) = e ∙ asked in cc),
-    )
+ends_on files words command how e h own = (
+  subst (λ (o : Option CommandData). Told files (λ held. (asked_opens o held).outcome ≡ how)) e h,
+  λ n asked. own n (let same : Some command ≡ Some (made n) = e ∙ asked in cc),
+)
 
 module _ (command : CommandData) (files : Files) (before now : Counts) (r : ℕ) (old new : Option (List ℕ)) (f1 f2 : ℕ) (three : r ≡ 3) where
   abbrev Tells : Option CommandData → Type 0
