@@ -2,4 +2,5 @@ pub mod Compacted
 pub mod Growing
 pub mod Joined
 pub mod Marks
+pub mod Meeting
 pub mod Told

@@ -1,4 +1,5 @@
 pub mod Doubt
 pub mod Ground
+pub mod Met
 pub mod Spaces
 pub mod Weights

@@ -8,6 +8,7 @@
 mod ground;
 pub mod laws;
 mod maker;
+mod met;
 mod space;
 mod spaces;
 

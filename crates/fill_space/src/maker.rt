@@ -5,12 +5,12 @@ ghost use Rattle.fill_space.specs.Spaces.{SpaceStands, first_spaces};
 ghost use Rattle.fill_space.specs.Weights.{one_weight};
 
 use crate::ground::Ground;
+use crate::met::{Met, meet_once};
 use crate::space::Space;
 use crate::spaces::Spaces;
 use fill_arena::Mark;
 use fill_build::build;
 use fill_edge::{Ledger, Steps};
-use fill_meet::meet::meet;
 use fill_split::Maker;
 use fill_text::NoMemory;
 use fill_tree::Example;
@@ -66,9 +66,10 @@ impl Maker for Spaces {
         steps: &mut Steps<L>,
     ) -> Result<Option<Space>, NoMemory> {
         self.arena.keeps_made();
-        Space::of_made(meet(
+        Space::of_made(meet_once(
             self.alloc,
             &mut self.arena,
+            &mut self.met,
             kept.graph(),
             one.graph(),
             steps,
@@ -81,6 +82,7 @@ impl Maker for Spaces {
 
     fn cut(&mut self, mark: Mark) {
         self.arena.cut(mark);
+        self.met = Met::new(self.alloc);
     }
 
     fn weight(&self, kept: Space) -> Result<u64, NoMemory> {

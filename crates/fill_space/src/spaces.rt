@@ -11,6 +11,7 @@ ghost use Rattle.fill_space.specs.Ground.{ChosenOn, ExplainsOn};
 ghost use Rattle.fill_space.specs.Spaces.{SpaceStands, Succeeds, no_spaces};
 
 use crate::ground::Ground;
+use crate::met::Met;
 use crate::space::{Space, graphs_of, put_graphs};
 use fill_arena::{Arena, GraphId};
 use fill_sheet::Sheet;
@@ -26,17 +27,19 @@ pub struct Spaces {
     pub(crate) alloc: Global,
     pub(crate) ground: Ground,
     pub(crate) arena: Arena,
+    pub(crate) met: Met,
 }
 
 impl Model for Spaces {
     ghost use Rattle.fill_tree.specs.Grammar.{AreSettings};
+    ghost use Rattle.fill_space.specs.Met.{AreTold};
     ghost use Rattle.fill_space.specs.Spaces.{SpacesData, spaces_over};
 
     ghost Value = { SpacesData };
 
     ghost view = { λ spaces. spaces_over spaces.ground spaces.arena };
 
-    ghost invariant = { λ spaces. AreSettings spaces.ground.settings };
+    ghost invariant = { λ spaces. AreSettings spaces.ground.settings × AreTold spaces.arena spaces.met };
 }
 
 impl Spaces {
@@ -53,6 +56,7 @@ impl Spaces {
                 tables,
             },
             arena: Arena::new(alloc),
+            met: Met::new(alloc),
         }
     }
 
@@ -142,6 +146,7 @@ impl Spaces {
     {
         let mut graphs = graphs_of(alloc, live)?;
         self.arena = self.arena.copy(alloc, graphs.as_mut_slice())?;
+        self.met = Met::new(self.alloc);
         put_graphs(live, graphs.as_slice());
         Ok(())
     }

@@ -3,6 +3,7 @@ use Rattle.std.specs.Prelude.{IfOk, MatchOption}
 use Rattle.fill_text.specs.declared.error.NoMemory.{NoMemory}
 use Rattle.fill_space.specs.Ground.{FitsOn}
 use Rattle.fill_space.specs.Spaces.{SpaceStands, spaces_over}
+use Rattle.fill_space.proofs.Meeting.{all_stay}
 use Rattle.fill_space.proofs.Told.{older_stay, older_marks, one_told}
 use Rattle.fill_space.proofs.maker.SpacesMaker.first.Goals as goal
 
@@ -18,3 +19,6 @@ returns-clause-one g c =
     let d = c.build.new.arena in
     subst (λ (r : Result (Option ℕ) NoMemory). IfOk r (λ made. MatchOption made (FitsOn c.args.self.now.ground (c.args.item.now ∷ []) → ⊥) (λ k. SpaceStands (spaces_over over d) k (c.args.item.now ∷ []))))
     (sym c.of_made.ensures) (one_told over c.self.inside.arena d c.args.self.now c.self.view_is c.args.item.now c.build.result c.build.ensures.built)
+
+pub invariant_of-self : goal.invariant_of-self
+invariant_of-self g c = (c.self.invariant.0, all_stay c.self.inside.arena c.build.new.arena c.keeps_made.ensures c.build.ensures.kept c.self.inside.met c.self.invariant.1)

@@ -9,20 +9,20 @@ use Rattle.fill_space.proofs.Told.{older_stay, older_marks, both_told}
 use Rattle.fill_space.proofs.maker.SpacesMaker.join.Goals as goal
 
 pub returns-clause-older : goal.returns-clause-older
-returns-clause-older g c = older_stay c.self.inside.ground c.self.inside.arena c.meet.new.arena c.args.self.now c.self.view_is c.keeps_made.ensures c.meet.ensures.kept
+returns-clause-older g c = older_stay c.self.inside.ground c.self.inside.arena c.meet_once.new.arena c.args.self.now c.self.view_is c.keeps_made.ensures c.meet_once.ensures.kept
 
 pub returns-clause-marks : goal.returns-clause-marks
-returns-clause-marks g c = older_marks c.self.inside.ground c.self.inside.arena c.meet.new.arena c.args.self.now c.self.view_is c.meet.ensures.kept
+returns-clause-marks g c = older_marks c.self.inside.ground c.self.inside.arena c.meet_once.new.arena c.args.self.now c.self.view_is c.meet_once.ensures.kept
 
 pub returns-clause-both : goal.returns-clause-both
 returns-clause-both g c =
     let over = c.self.inside.ground in
-    let d = c.meet.new.arena in
+    let d = c.meet_once.new.arena in
     let s = c.args.self.now in
     subst (λ (r : Result (Option ℕ) NoMemory). Both s over d c.args.kept c.args.one r) (sym c.of_made.ensures)
-    (subst (λ (b : ℕ). Both s over d c.args.kept b c.meet.result) c.graph-2.ensures
-    (subst (λ (a : ℕ). Both s over d a c.graph-2.result c.meet.result) c.graph.ensures
-    (both_told over c.self.inside.arena d s c.self.view_is c.graph.result c.graph-2.result c.meet.result c.meet.ensures.met c.meet.ensures.some)))
+    (subst (λ (b : ℕ). Both s over d c.args.kept b c.meet_once.result) c.graph-2.ensures
+    (subst (λ (a : ℕ). Both s over d a c.graph-2.result c.meet_once.result) c.graph.ensures
+    (both_told over c.self.inside.arena d s c.self.view_is c.graph.result c.graph-2.result c.meet_once.result c.meet_once.ensures.met c.meet_once.ensures.some)))
   where
     Both : SpacesData → Ground → List Entry → ℕ → ℕ → Result (Option ℕ) NoMemory → Type 0
     Both s over d a b r = IfOk r (λ made. (l m : List Example) → SpaceStands s a l → SpaceStands s b m

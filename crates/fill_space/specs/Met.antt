@@ -1,0 +1,20 @@
+-- What is known of pairs of graphs that were met.
+use Rattle.std.specs.Prelude.{ℕ, List, Option, MatchOption, OnSome}
+use Rattle.fill_tree.specs.Tree.{Atoms}
+use Rattle.fill_arena.specs.Contents.{IsGraph}
+use Rattle.fill_arena.specs.Stands.{ProgramStands}
+use Rattle.fill_arena.specs.declared.entry.Entry.{Entry}
+use Rattle.fill_meet.specs.Meet.{IsMeet, NoneInBoth}
+use Rattle.fill_meet.specs.Memory.{AreRight}
+use Rattle.fill_space.specs.declared.met.Met.{Met}
+
+-- both are graphs of the arena, and this is the graph of what stands in both; it is none where nothing does
+pub record IsTold (c : List Entry) (a b : ℕ) (made : Option ℕ) : Type 0 where
+  pub first : IsGraph c a
+  pub second : IsGraph c b
+  pub met : MatchOption made (NoneInBoth c a b) (IsMeet c a b c)
+  pub some : OnSome made ((p : Atoms) × ProgramStands c a p × ProgramStands c b p)
+
+-- all that is kept is so in the arena
+abbrev pub AreTold : List Entry → Met → Type 0
+AreTold c met = AreRight (IsTold c) met.table
