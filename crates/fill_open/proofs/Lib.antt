@@ -1,4 +1,6 @@
 pub mod Binds
 pub mod MadeLines
+pub mod MadeOpens
+pub mod MadeRecords
 pub mod Refusals
 pub mod Replays

@@ -1,4 +1,5 @@
 pub mod Made
+pub mod MadeReady
 pub mod Opened
 pub mod Command
 pub mod Lines

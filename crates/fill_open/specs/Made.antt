@@ -28,8 +28,12 @@ character first Space = 32
 abbrev pub made_output : ℕ → List ℕ
 made_output line = if line == 1 then codes "Cd" else (if line == 2 then codes "Ijk" else [])
 
+-- the text of the input cell
+abbrev pub made_cell : ℕ → List ℕ
+made_cell line = map (character (first_letter line)) (pattern line)
+
 abbrev pub made_line : ℕ → List ℕ
-made_line line = map (character (first_letter line)) (pattern line) ++ (44 ∷ (made_output line ++ 10 ∷ []))
+made_line line = made_cell line ++ (44 ∷ (made_output line ++ 10 ∷ []))
 
 -- the lines of the numbers 1 to n, one after the other
 abbrev pub made_sheet : ℕ → List ℕ

@@ -32,12 +32,6 @@ Refuses o (stop.Unread name) = ⊥
 Refuses o (stop.Refused line) = o ≡ Refused (string_bytes line)
 Refuses o stop.NoMemory = ⊤
 
--- no file is missing or can't be read
-abbrev pub ReadsAll : Stop → Type 0
-ReadsAll (stop.Unread name) = ⊥
-ReadsAll (stop.Refused line) = ⊤
-ReadsAll stop.NoMemory = ⊤
-
 -- the line of a stop
 abbrev pub stop_line : Stop → List ℕ
 stop_line (stop.Unread name) = unread_line (string_bytes name)

@@ -4,6 +4,7 @@
 mod command;
 mod file;
 mod generator;
+mod laws;
 mod lines;
 mod script;
 mod session;
@@ -13,6 +14,7 @@ mod tables;
 
 pub use command::{Command, command_of};
 pub use generator::{MadeFiles, made};
+pub use laws::generated_session_opens;
 pub use session::{Ready, open_session};
 pub use stop::Stop;
 

@@ -5,7 +5,7 @@ ghost use Rattle.fill_script.specs.Script.{IsScript};
 ghost use Rattle.fill_open.specs.Command.{IsCommand, command_data, made};
 ghost use Rattle.fill_open.specs.Opened.{Told, Passed};
 ghost use Rattle.fill_open.specs.Steps.{command_opens, made_opens, replay_opens};
-ghost use Rattle.fill_open.specs.Stops.{ReadsAll, Refuses, Stops};
+ghost use Rattle.fill_open.specs.Stops.{Refuses, Stops};
 
 use crate::script::{open_script, script_in};
 use crate::sheet::{open_sheet, sheet_in};
@@ -29,7 +29,7 @@ pub struct Ready {
 /// Opens the session of a command.
 ///
 /// The files are read and checked in this order: the session, the sheet, and then for each `table` line its file. The
-/// first thing that fails decides. For a generated session nothing is read.
+/// first thing that fails decides. For a generated session nothing is read, and it always opens but for want of memory.
 pub fn open_session<C: Cabinet>(
     alloc: Global,
     cabinet: &mut C,
@@ -41,9 +41,8 @@ pub fn open_session<C: Cabinet>(
     ensures stopped { IfErr result (Stops (command_opens (command_data command.now)) (C.files cabinet.old) (C.faults cabinet.old) (C.faults cabinet.new)) }
     ensures files { C.files cabinet.new ≡ C.files cabinet.old }
     ensures later { NoneFell (C.faults cabinet.old) (C.faults cabinet.new) }
-    ensures made { (n : ℕ) → command_data command.now ≡ made n → (cabinet.new ≡ cabinet.old) × IfErr result ReadsAll }
+    ensures made { (n : ℕ) → command_data command.now ≡ made n → (cabinet.new ≡ cabinet.old) × IfErr result (λ stop. stop ≡ Stop.NoMemory) }
     ensures made_ready { (n : ℕ) → command_data command.now ≡ made n → IfOk result (λ ready. (made_opens n).outcome ≡ Passed ready) }
-    ensures made_stopped { (n : ℕ) → command_data command.now ≡ made n → IfErr result (Refuses (made_opens n).outcome) }
 {
     match command {
         Command::Replay { session } => open_replay(alloc, cabinet, session),

@@ -6,7 +6,7 @@ use Rattle.fill_open.specs.Command.{CommandData, command_in, made}
 use Rattle.fill_open.specs.Lines.{unread_line}
 use Rattle.fill_open.specs.Opened.{Told, Opened, Refused}
 use Rattle.fill_open.specs.Steps.{command_opens, asked_opens, made_opens}
-use Rattle.fill_open.specs.Stops.{Counts, Stops, Refuses, IsUnread, ReadFails, stop_line}
+use Rattle.fill_open.specs.Stops.{Counts, Stops, IsUnread, ReadFails, stop_line}
 use Rattle.fill_open.specs.declared.session.Ready.{Ready}
 use Rattle.fill_open.specs.declared.stop.Stop.{Stop}
 use Rattle.fill_open.specs.declared.stop.Stop.TheVariants as stop
@@ -37,8 +37,8 @@ module _ (command : CommandData) (files : Files) (before now : Counts) (r : ℕ)
 module _ (command : CommandData) (files : Files) (words : List (List ℕ)) (before now : Counts) (r : ℕ) (old new : Option (List ℕ)) (f1 f2 : ℕ) (five : r ≡ 5) (is : Some command ≡ command_in words) where
   -- status 5 tells of a file that is refused
   pub tells_refused : (why : Stop) → (r ≢ 6 → (r ≡ status_of why) × Says old new f1 f2 (stop_line why)) → Stops (command_opens command) files before now why
-      → ((n : ℕ) → command ≡ made n → Refuses (made_opens n).outcome why) → (line : List ℕ) × Ends files words (Refused line) × Says old new f1 f2 line
+      → ((n : ℕ) → command ≡ made n → why ≡ stop.NoMemory) → (line : List ℕ) × Ends files words (Refused line) × Says old new f1 f2 line
   tells_refused (stop.Unread name) said stops own = let h = (said (λ e. absurd (omega arith))).0 in absurd (omega arith)
   tells_refused (stop.Refused line) said stops own =
-      (string_bytes line, ends_on files words command (Refused (string_bytes line)) is stops own, (said (λ e. absurd (omega arith))).1)
+      (string_bytes line, ends_on files words command (Refused (string_bytes line)) is stops (λ n of. let memory : stop.Refused line ≡ stop.NoMemory = own n of in cc), (said (λ e. absurd (omega arith))).1)
   tells_refused stop.NoMemory said stops own = let h = (said (λ e. absurd (omega arith))).0 in absurd (omega arith)

@@ -12,7 +12,7 @@ returns-in-Err-clause-unread g c = λ three.
 pub returns-in-Err-clause-refused : goal.returns-in-Err-clause-refused
 returns-in-Err-clause-refused g c = λ five.
     tells_refused (command_data c.in-Some.command) (g.C.Cabinet.files c.args.cabinet.now) (map string_bytes c.args.words.now) _ _ c.tell.result _ _ _ _ five c.in-Some.ensures.is
-    c.in-Err.stop c.tell.ensures.said c.in-Err.ensures.stopped c.in-Err.ensures.made_stopped
+    c.in-Err.stop c.tell.ensures.said c.in-Err.ensures.stopped (λ n of. (c.in-Err.ensures.made n of).1)
 
 pub returns-in-Ok-false-clause-done : goal.returns-in-Ok-false-clause-done
 returns-in-Ok-false-clause-done g c = λ _.
