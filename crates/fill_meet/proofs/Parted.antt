@@ -40,7 +40,6 @@ module _ (c : List Entry) (s t : ℕ) (x y : Ends) (hx : HasEnds c s x) (hy : Ha
   pub rights_apart : AreApart PlaceStands c x.rights y.rights → AreApart AtomStands c s t
   rights_apart h = singles_apart (atoms.sub_apart_right c hx.0 hy.0 x.lefts x.rights y.lefts y.rights h)
 
-
 -- the ends of the edges before a place
 pub record EndsBefore (c : List Entry) (edges : List Edge) (i : ℕ) (ends : List (Option Ends)) : Type 0 where
   pub long : length ends ≡ i
