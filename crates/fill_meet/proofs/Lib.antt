@@ -16,6 +16,7 @@ pub mod Nets
 pub mod Streams
 pub mod Seams
 pub mod Trials
+pub mod Parted
 pub mod WalksOn
 pub mod Meets
 mod Samples

@@ -1,3 +1,4 @@
+pub mod Ends
 pub mod Joins
 pub mod Meet
 pub mod Memory

@@ -97,7 +97,8 @@ fn meets_some(
 
 /// Whether some atom may be of both items.
 ///
-/// The ends are tried first: pairs of nodes that something leads to mostly have a start in common.
+/// The starts are tried first: all pairs of edges out of a pair of nodes ask for the same two sets there, unless a text
+/// comes again, and so find the last answer.
 fn pair_may_meet(
     arena: &Arena,
     tried: &mut Tried,
@@ -115,10 +116,10 @@ fn pair_may_meet(
         (AtomItem::Const(u), AtomItem::Const(v)) => Ok(u.same(v)),
         (AtomItem::Whole(s), AtomItem::Whole(t)) => sources_may_meet(arena, tried, *s, *t),
         (AtomItem::Sub(s, p, q), AtomItem::Sub(t, u, v)) => {
-            if !places_may_meet(arena, tried, tie.to, *q, *v)? {
+            if !places_may_meet(arena, tried, tie.from, *p, *u)? {
                 return Ok(false);
             }
-            if !places_may_meet(arena, tried, tie.from, *p, *u)? {
+            if !places_may_meet(arena, tried, tie.to, *q, *v)? {
                 return Ok(false);
             }
             sources_may_meet(arena, tried, *s, *t)

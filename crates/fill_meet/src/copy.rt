@@ -9,7 +9,7 @@ use std::alloc::Global;
 pub(crate) fn copy_atoms(alloc: Global, items: &[AtomItem]) -> Result<List<AtomItem>, NoMemory>
     ensures { IfOk result (λ copied. copied ≡ items.now) }
 {
-    let mut copied = List::new(alloc);
+    let mut copied = List::with_capacity(alloc, items.len())?;
     for item in items {
         copied.push(copy_atom(item)?)?;
     }
@@ -33,7 +33,7 @@ pub(crate) fn copy_sources(
 ) -> Result<List<SourceItem>, NoMemory>
     ensures { IfOk result (λ copied. copied ≡ items.now) }
 {
-    let mut copied = List::new(alloc);
+    let mut copied = List::with_capacity(alloc, items.len())?;
     for item in items {
         copied.push(copy_source(alloc, item)?)?;
     }
@@ -60,7 +60,7 @@ fn copy_conditions(
 ) -> Result<List<ConditionItem>, NoMemory>
     ensures { IfOk result (λ copied. copied ≡ conditions.now) }
 {
-    let mut copied = List::new(alloc);
+    let mut copied = List::with_capacity(alloc, conditions.len())?;
     for condition in conditions {
         copied.push(copy_condition(condition)?)?;
     }

@@ -8,6 +8,7 @@
 
 mod apart;
 mod copy;
+mod ends;
 pub mod meet;
 mod memo;
 mod outs;

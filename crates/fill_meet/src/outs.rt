@@ -1,36 +1,49 @@
 //! The edges of a graph by the nodes that they come from.
-ghost use Rattle.std.specs.Prelude.{◌≡◌, ◌<◌, ℕ, length, get_or, IfOk};
-ghost use Rattle.fill_arena.specs.Contents.{EachIn};
+ghost use Rattle.std.specs.Prelude.{◌≡◌, ◌<◌, ℕ, length, get_or, slice_get, Some, IfOk};
+ghost use Rattle.fill_arena.specs.Contents.{EachIn, IsAtomSet};
+ghost use Rattle.fill_meet.specs.Ends.{AreEnds};
 ghost use Rattle.fill_meet.specs.Outs.{AreChainedFrom, AreOuts};
 
-use fill_arena::Edge;
+use crate::ends::{Ends, find_ends};
+use fill_arena::{Arena, Edge};
 use fill_text::NoMemory;
 use std::alloc::Global;
 
-/// Edges, for each node the place of the first edge out of it, and for each edge that of the next one out of its node.
+/// Edges, for each node the place of the first edge out of it, and for each edge that of the next one out of its node, and
+/// the ends of what stands on it.
 ///
-/// Where there is none, it is a place past the last edge.
+/// Where there is no such edge, it is a place past the last one.
 #[derive(Drop)]
 pub(crate) struct Outs<'a> {
     pub(crate) edges: &'a [Edge],
     pub(crate) firsts: Vec<usize>,
     pub(crate) nexts: Vec<usize>,
+    pub(crate) ends: Vec<Option<Ends>>,
 }
 
 impl<'a> Outs<'a> {
     /// The edges of so many nodes, gone through once from the back.
-    pub(crate) fn new(alloc: Global, nodes: usize, edges: &'a [Edge]) -> Result<Outs<'a>, NoMemory>
-        requires { EachIn (λ e. e.from < nodes) edges.now }
+    pub(crate) fn new(
+        alloc: Global,
+        arena: &Arena,
+        nodes: usize,
+        edges: &'a [Edge],
+    ) -> Result<Outs<'a>, NoMemory>
+        requires from { EachIn (λ e. e.from < nodes) edges.now }
+        requires sets { EachIn (λ e. IsAtomSet arena.now e.atoms) edges.now }
         ensures outs { IfOk result (AreOuts nodes) }
         ensures edges { IfOk result (λ outs. outs.edges.now ≡ edges.now) }
+        ensures ends { IfOk result (λ outs. AreEnds arena.now outs.edges.now outs.ends.items) }
     {
         let mut firsts = vec![in alloc; edges.len(); nodes]?;
         let mut nexts = vec![in alloc; edges.len(); edges.len()]?;
         chain(firsts.as_mut_slice(), nexts.as_mut_slice(), edges);
+        let ends = find_ends(alloc, arena, edges)?;
         Ok(Outs {
             edges,
             firsts,
             nexts,
+            ends,
         })
     }
 
@@ -48,6 +61,14 @@ impl<'a> Outs<'a> {
         ensures { result ≡ get_or self.now.nexts.items place 0 }
     {
         self.nexts[place]
+    }
+
+    /// The ends of what stands on the edge at this place.
+    pub(crate) fn ends(&self, place: usize) -> Option<Ends>
+        requires { place < length self.now.ends.items }
+        ensures { slice_get self.now.ends.items place ≡ Some result }
+    {
+        self.ends[place]
     }
 }
 

@@ -93,7 +93,7 @@ fn join_ties(
     ensures joined { IfOk result (AreJoined arena.new live.now ties.now) }
 {
     let mut memo = Memo::new(alloc);
-    let mut edges = List::new(alloc);
+    let mut edges = List::with_capacity(alloc, ties.len())?;
     for i in 0..ties.len() {
         let tie = ties[i];
         if !live[tie.to] {

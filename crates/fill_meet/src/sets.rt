@@ -12,6 +12,9 @@ use crate::places::meet_places;
 use fill_arena::{Arena, AtomItem, AtomSet, ConditionItem, SelectItem, SourceItem, SourceSet};
 use fill_text::{List, NoMemory, Text};
 
+/// How many items sets that were met mostly have. An arena keeps a set's list with the room that it was given.
+const MOSTLY: usize = 1;
+
 /// The set of the atoms that stand in both sets, or none where there are none.
 #[cycle(meet)]
 pub(crate) fn meet_atoms(
@@ -59,7 +62,7 @@ pub(crate) fn make_atoms(
     let second = copy_atoms(memo.alloc, arena.atoms(t))?;
     let xs = first.as_slice();
     let ys = second.as_slice();
-    let mut zs = List::new(memo.alloc);
+    let mut zs = List::with_capacity(memo.alloc, MOSTLY)?;
     for i in 0..xs.len() {
         meet_atom_row(arena, memo, s, xs, i, ys, &mut zs)?;
     }

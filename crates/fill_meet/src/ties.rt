@@ -1,11 +1,13 @@
 //! The pairs of edges that may have an atom in common.
-ghost use Rattle.std.specs.Prelude.{◌≡◌, ◌<◌, ◌+◌, ◌*◌, length, IfOk, OnOk};
+ghost use Rattle.std.specs.Prelude.{◌≡◌, ◌<◌, ◌+◌, ◌*◌, length, IfOk, IfSome, OnOk};
 ghost use Rattle.fill_arena.specs.Contents.{IsAtomSet};
+ghost use Rattle.fill_meet.specs.Ends.{AreEnds, HasEnds};
 ghost use Rattle.fill_meet.specs.Product.{ArePairable};
 ghost use Rattle.fill_meet.specs.Ties.{AreRising, AreTies, IsOut, IsTried, NameSets, TieState};
 ghost use Rattle.fill_meet.specs.Tried.{AreTried};
 
 use crate::apart::may_meet;
+use crate::ends::{Ends, are_told_apart};
 use crate::outs::Outs;
 use crate::tried::Tried;
 use fill_arena::{Arena, AtomSet, Edge};
@@ -52,8 +54,8 @@ pub(crate) fn find_ties(
     ensures rising { IfOk result (AreRising nodes) }
     ensures sets { IfOk result (NameSets arena.now) }
 {
-    let firsts = Outs::new(alloc, height, xs)?;
-    let seconds = Outs::new(alloc, width, ys)?;
+    let firsts = Outs::new(alloc, arena, height, xs)?;
+    let seconds = Outs::new(alloc, arena, width, ys)?;
     let mut reached = vec![in alloc; false; nodes]?;
     reached[0] = true;
     let tried = Tried::new(alloc, nodes)?;
@@ -80,6 +82,8 @@ fn tie_nodes(
     at: usize,
     net: &mut Net,
 ) -> Result<(), NoMemory>
+    requires firsts { AreEnds arena.now xs.now.edges.now xs.now.ends.items }
+    requires seconds { AreEnds arena.now ys.now.edges.now ys.now.ends.items }
     requires wide { 0 < net.old.width }
     requires within { at < length net.old.reached.items }
     requires state { TieState arena.now xs.now ys.now at 0 0 net.old }
@@ -106,6 +110,8 @@ fn tie_row(
     at: usize,
     net: &mut Net,
 ) -> Result<(), NoMemory>
+    requires firsts { AreEnds arena.now xs.now.edges.now xs.now.ends.items }
+    requires seconds { AreEnds arena.now ys.now.edges.now ys.now.ends.items }
     requires within { k < length xs.now.edges.now }
     requires from { IsOut xs.now.edges.now k net.old.width node at }
     requires state { TieState arena.now xs.now ys.now at k 0 net.old }
@@ -115,26 +121,39 @@ fn tie_row(
 {
     let mut l = ys.first(node);
     while l < ys.edges.len() {
-        tie_edges(arena, xs.edges[k], ys.edges[l], net)?;
+        tie_edges(arena, xs.edges[k], ys.edges[l], xs.ends(k), ys.ends(l), net)?;
         l = ys.next(l);
     }
     Ok(())
 }
 
-/// Ties two edges, if they may have an atom in common.
-fn tie_edges(arena: &Arena, x: Edge, y: Edge, net: &mut Net) -> Result<(), NoMemory>
+/// Ties two edges, if they may have an atom in common. What stands on them has the given ends.
+fn tie_edges(
+    arena: &Arena,
+    x: Edge,
+    y: Edge,
+    first: Option<Ends>,
+    second: Option<Ends>,
+    net: &mut Net,
+) -> Result<(), NoMemory>
     requires tried { AreTried arena.now net.old.tried }
     requires first { IsAtomSet arena.now x.atoms }
     requires second { IsAtomSet arena.now y.atoms }
+    requires first_ends { IfSome first (HasEnds arena.now x.atoms) }
+    requires second_ends { IfSome second (HasEnds arena.now y.atoms) }
     requires from { x.from * net.old.width + y.from < length net.old.reached.items }
     requires to { x.to * net.old.width + y.to < length net.old.reached.items }
     ensures tried { OnOk result (AreTried arena.now net.new.tried) }
     ensures width { OnOk result (net.new.width ≡ net.old.width) }
     ensures tied { OnOk result (IsTried arena.now x y net.old net.new) }
 {
+    let from = x.from * net.width + y.from;
     let to = x.to * net.width + y.to;
+    if are_told_apart(net.tried.recent.as_slice(), from, to, first, second) {
+        return Ok(());
+    }
     let tie = Tie {
-        from: x.from * net.width + y.from,
+        from,
         to,
         left: x.atoms,
         right: y.atoms,

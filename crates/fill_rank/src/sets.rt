@@ -24,6 +24,9 @@ use fill_tokens::Place;
 use fill_tree::{Atom, Select, Source};
 use std::alloc::Global;
 
+/// How many items are looked at again sooner than what was found of them is kept.
+const FEW_ITEMS: usize = 4;
+
 /// The best place of a set.
 fn place_of(arena: &Arena, known: &mut Known, s: PlaceSet) -> Result<Place, NoMemory>
     requires set { IsPlaceSet arena.now s }
@@ -283,6 +286,24 @@ fn constant_of(arena: &Arena, s: AtomSet) -> Result<Option<Atom>, NoMemory>
     Ok(best)
 }
 
+/// The same, kept only where the set has many items: a graph has many sets of few, and most of them on one edge.
+fn edge_part(
+    alloc: Global,
+    arena: &Arena,
+    known: &mut Known,
+    s: AtomSet,
+) -> Result<Option<Atom>, NoMemory>
+    requires set { IsAtomSet arena.now s }
+    requires known { AreKnown arena.now known.old }
+    ensures known { OnOk result (AreKnown arena.now known.new) }
+    ensures best { IfOk result (λ o. IsBestOf atom_tree atom_rank (PartStands arena.now s) o) }
+{
+    if arena.atoms(s).len() > FEW_ITEMS {
+        return part_of(alloc, arena, known, s);
+    }
+    scan_parts(alloc, arena, known, s)
+}
+
 /// The best atom of a set.
 pub(crate) fn atom_of(
     alloc: Global,
@@ -297,7 +318,7 @@ pub(crate) fn atom_of(
 {
     arena.keeps_made();
     let constant = constant_of(arena, s)?;
-    let part = part_of(alloc, arena, known, s)?;
+    let part = edge_part(alloc, arena, known, s)?;
     let Some(atom) = lesser_atom(constant, part) else {
         unreachable!()
     };

@@ -9,11 +9,11 @@ use Rattle.fill_meet.proofs.apart.pair_may_meet.Goals as goal
 
 pub returns-then-not-branch-clause-apart : goal.returns-then-not-branch-clause-apart
 returns-then-not-branch-clause-apart c = λ e.
-    rw (c.in-Sub-Sub.is-0, c.in-Sub-Sub.is-1) (atoms.sub_apart_right _ _ _ _ _ _ _ (c.in_ok-places_may_meet-in-Sub-Sub.ensures.apart c.if-not-branch.true))
+    rw (c.in-Sub-Sub.is-0, c.in-Sub-Sub.is-1) (atoms.sub_apart_left _ _ _ _ _ _ _ (c.in_ok-places_may_meet-in-Sub-Sub.ensures.apart c.if-not-branch.true))
 
 pub returns-then-not-branch-2-clause-apart : goal.returns-then-not-branch-2-clause-apart
 returns-then-not-branch-2-clause-apart c = λ e.
-    rw (c.in-Sub-Sub.is-0, c.in-Sub-Sub.is-1) (atoms.sub_apart_left _ _ _ _ _ _ _ (c.in_ok-places_may_meet-in-Sub-Sub-2.ensures.apart c.if-not-branch-2.true))
+    rw (c.in-Sub-Sub.is-0, c.in-Sub-Sub.is-1) (atoms.sub_apart_right _ _ _ _ _ _ _ (c.in_ok-places_may_meet-in-Sub-Sub-2.ensures.apart c.if-not-branch-2.true))
 
 pub returns-in-Const-Const-clause-apart : goal.returns-in-Const-Const-clause-apart
 returns-in-Const-Const-clause-apart c = λ e.

@@ -26,7 +26,7 @@ make_atoms-loop-i-init n c =
     record {
       kept = extends_same c.args.arena.now;
       memo = c.requires.memo;
-      pairs = state_start AtomIn IsAtomItem atom_item_stays c.args.arena.now c.args.s c.args.t _ _ _ c.new-zs.ensures (c.keeps_made.ensures c.args.s (Atoms c.as_slice-xs.result.now) hs).each
+      pairs = state_start AtomIn IsAtomItem atom_item_stays c.args.arena.now c.args.s c.args.t _ _ _ c.in_ok-zs.ensures (c.keeps_made.ensures c.args.s (Atoms c.as_slice-xs.result.now) hs).each
           (c.keeps_made.ensures c.args.t (Atoms c.as_slice-ys.result.now) ht).each;
     }
 

@@ -91,7 +91,7 @@ part_in-returns-in_ok-right-in-Sub-clause-best t c =
 pub part_of-returns-clause-known : goal.part_of-returns-clause-known
 part_of-returns-clause-known t c =
     let arena = c.args.arena.now in
-    c.in_ok-keep_part.ensures arena c.in_ok-best.ensures.known (copied_best (PartStands arena c.args.s) c.in_ok-best.best c.in_ok-copy_of.field-0 c.in_ok-copy_of.ensures c.in_ok-best.ensures.best)
+    c.in_ok-keep_part.ensures.kept arena c.in_ok-best.ensures.known (copied_best (PartStands arena c.args.s) c.in_ok-best.best c.in_ok-copy_of.field-0 c.in_ok-copy_of.ensures c.in_ok-best.ensures.best)
 
 pub rows_of-loop-left-init : goal.rows_of-loop-left-init
 rows_of-loop-left-init t c = record {

@@ -6,8 +6,8 @@ use Rattle.fill_rank.specs.Sets.{PartStands}
 use Rattle.fill_rank.proofs.Maps.{put_right}
 use Rattle.fill_rank.proofs.known.Known.keep_part.Goals as goal
 
-pub returns-in-Ok : goal.returns-in-Ok
-returns-in-Ok c cs known best =
+pub returns-in-Ok-clause-kept : goal.returns-in-Ok-clause-kept
+returns-in-Ok-clause-kept c cs known best =
     let u = c.in-Ok.ensures.updates in
     record {
       places = known.places;

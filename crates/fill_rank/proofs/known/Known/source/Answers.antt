@@ -5,5 +5,5 @@ use Rattle.fill_rank.specs.Rank.{IsBest, source_rank}
 use Rattle.fill_rank.proofs.Maps.{found_right}
 use Rattle.fill_rank.proofs.known.Known.source.Goals as goal
 
-pub returns : goal.returns
-returns c cs known = found_right (λ (x : Source). IsBest source_rank (SourceStands cs c.args.s) (source_tree x)) _ _ c.get.ensures.value (known.sources c.args.s)
+pub returns-clause-right : goal.returns-clause-right
+returns-clause-right c cs known = found_right (λ (x : Source). IsBest source_rank (SourceStands cs c.args.s) (source_tree x)) _ _ c.get.ensures.value (known.sources c.args.s)
