@@ -1,59 +1,20 @@
 -- Cuts by the rising list of them.
-use Rattle.std.proofs.Common.{◌≡◌, ⊎_elim, inl, inr, ℕ, zero, suc, ◌+◌, ◌-◌, ◌<◌, ◌≤◌, List, [], ◌∷◌, ◌++◌, length, get_or, reverse, take, Some, slice_get, refl, sym, ap, ◌∙◌, subst, arith}
-use Rattle.std.specs.Prelude.{Contains, All}
-use Rattle.std.specs.List.Sorted.{IsStrictlyIncreasing}
-use Rattle.std.proofs.lemmas.List.{get_or-reverse, length-reverse, take_all}
-use Rattle.std.proofs.lemmas.Option.{slice_get-get_or, slice_get_within}
+use Rattle.std.proofs.Common.{◌≡◌, ⊎_elim, ℕ, zero, suc, ◌+◌, ◌-◌, ◌<◌, ◌≤◌, List, [], ◌∷◌, ◌++◌, length, get_or, reverse, Some, slice_get, sym, ap, ◌∙◌, subst, arith}
+use Rattle.std.proofs.lemmas.List.{get_or-reverse, length-reverse}
+use Rattle.std.proofs.lemmas.Option.{same_Some, slice_get-get_or, slice_get_within}
 use Rattle.fill_text.specs.Data.{nth}
 use Rattle.fill_tokens.specs.Cuts.{AreCuts, IsRisingListOf}
 use Rattle.fill_tokens.specs.Span.{Begins, Ends}
 use Rattle.fill_tokens.specs.declared.token.Token.{Token}
-use Rattle.fill_tokens.proofs.SpanLaws.{seq_within}
-use Rattle.fill_doubt.specs.Cuts.{AreBegun, AreCutsOf, AreEndsIn, IsLookedFor}
-use Rattle.fill_doubt.specs.declared.cuts.Cuts.{Cuts}
-use Rattle.fill_doubt.specs.declared.cuts.Left.{Left}
 use Rattle.fill_arena.proofs.Lists.{get_last, get_pushed}
-use Rattle.fill_doubt.proofs.Pushed.{front_less, front_more, rising_more, rising_none, rising_same}
-
--- the stops of a sequence are positions of the text
-pub stops_within : (r : List Token) (t ks : List ℕ) → IsRisingListOf (Ends r t) ks → All (λ k. k ≤ length t) ks
-stops_within r t ks are i d lt =
-    let e = (are.exact (get_or ks i d)).0 (i, lt, refl_at ks i d) in
-    (seq_within r t e.0 (get_or ks i d) e.1).1
-  where
-    refl_at : (xs : List ℕ) (i : ℕ) (d : ℕ) → get_or xs i (get_or xs i d) ≡ get_or xs i d
-    refl_at [] i d = refl
-    refl_at (x ∷ xs) zero d = refl
-    refl_at (x ∷ xs) (suc i) d = refl_at xs i d
-
--- one cut more, or none
-pub begun_start : (stops : List ℕ) (r : List Token) (t found : List ℕ) → found ≡ [] → AreBegun stops 0 r t found
-begun_start stops r t found e = subst (AreBegun stops 0 r t) (sym e) (rising_none (λ k. Contains (take 0 stops) k × Begins r t k) (λ k h. let w = h.0.1 in omega arith))
-
-pub begun_more : (stops : List ℕ) (i k : ℕ) (r : List Token) (t found new : List ℕ) → IsStrictlyIncreasing stops → i < length stops → k ≡ get_or stops i 0 → Begins r t k → new ≡ found ++ k ∷ []
-    → AreBegun stops i r t found → AreBegun stops (i + 1) r t new
-begun_more stops i k r t found new rising within at b is are = subst (AreBegun stops (i + 1) r t) (sym is)
-    (rising_more (λ j. Contains (take i stops) j × Begins r t j) (λ j. Contains (take (i + 1) stops) j × Begins r t j) found k are
-    (λ j h. subst (λ m. j < m) (sym at) (front_less stops i rising within j h.0))
-    (λ j. let one = front_more stops i within j in (
-      (λ h. ⊎_elim (λ q. inl (q, h.1)) (λ e. inr (e ∙ sym at)) (one.0 h.0)),
-      (λ h. ⊎_elim (λ l. (one.1 (inl l.0), l.1)) (λ e. (one.1 (inr (e ∙ at)), subst (Begins r t) (sym e) b)) h),
-    )))
-
-pub begun_same : (stops : List ℕ) (i k : ℕ) (r : List Token) (t found : List ℕ) → i < length stops → k ≡ get_or stops i 0 → (Begins r t k → ⊥) → AreBegun stops i r t found → AreBegun stops (i + 1) r t found
-begun_same stops i k r t found within at none are =
-    rising_same (λ j. Contains (take i stops) j × Begins r t j) (λ j. Contains (take (i + 1) stops) j × Begins r t j) found are
-    (λ j. let one = front_more stops i within j in (
-      (λ h. (one.1 (inl h.0), h.1)),
-      (λ h. ⊎_elim (λ q. (q, h.1)) (λ e. absurd (none (subst (Begins r t) (e ∙ sym at) h.1))) (one.0 h.0)),
-    ))
-
--- the stops from which on the other sequence spans a piece are the cuts
-pub are_cuts : (l r : List Token) (t stops found : List ℕ) → IsRisingListOf (Ends l t) stops → AreBegun stops (length stops) r t found → AreCuts l r t found
-are_cuts l r t stops found are begun =
-    let cuts = subst (λ (xs : List ℕ). IsRisingListOf (λ k. Contains xs k × Begins r t k) found) (take_all (length stops) stops (omega arith)) begun in
-    rising_same (λ k. Contains stops k × Begins r t k) (λ k. Ends l t k × Begins r t k) found cuts
-    (λ k. ((λ h. ((are.exact k).0 h.0, h.1)), (λ h. ((are.exact k).1 h.0, h.1))))
+use Rattle.fill_arena.proofs.Scan.{here}
+use Rattle.fill_doubt.specs.Cuts.{AreSides, HasAt}
+use Rattle.fill_doubt.specs.Hops.{AreReached, IsReachedBelow}
+use Rattle.fill_doubt.specs.declared.cuts.Pair.{Pair}
+use Rattle.fill_doubt.specs.declared.sides.Side.{Side}
+use Rattle.fill_doubt.specs.declared.sides.Sides.{Sides}
+use Rattle.fill_doubt.proofs.Hopped.{at_contained, contains_at}
+use Rattle.fill_doubt.proofs.Pushed.{rising_same}
 
 -- items by their numbers
 pub nth_within : (ks : List ℕ) (c k : ℕ) → nth ks c ≡ Some k → c ≤ length ks
@@ -71,20 +32,46 @@ nth_right ks (suc c) some lt =
     let m : length ks - 1 - c ≡ length ks - suc c = omega arith in
     slice_get-get_or (reverse ks) c 0 (omega arith) ∙ ap Some (get_or-reverse ks c 0 (omega arith) ∙ ap (λ j. get_or ks j 0) m)
 
--- one sequence more that was looked for
-pub cuts_more : (t : List ℕ) (old new : Cuts) (x : Left) → AreCutsOf t old → AreEndsIn t new.ends.tokens.items → new.lefts.items ≡ old.lefts.items ++ x ∷ [] → IsLookedFor t x → AreCutsOf t new
-cuts_more t old new x are ends is here = record {
-  ends = ends;
-  lefts = λ i y at.
-      let there : slice_get (old.lefts.items ++ x ∷ []) i ≡ Some y = subst (λ (xs : List Left). slice_get xs i ≡ Some y) is at in
-      ⊎_elim (λ l. are.lefts i y l.1) (λ r. subst (λ (z : Left). IsLookedFor t z) r.1 here) (get_pushed old.lefts.items x i y there);
-}
-
-pub cuts_start : (t : List ℕ) (cuts : Cuts) → AreEndsIn t cuts.ends.tokens.items → cuts.lefts.items ≡ [] → AreCutsOf t cuts
-cuts_start t cuts ends is = record { ends = ends; lefts = λ i x at. absurd (none i x (subst (λ (xs : List Left). slice_get xs i ≡ Some x) is at)) }
-  where
-    none : (i : ℕ) (x : Left) → slice_get {X = Left} [] i ≡ Some x → ⊥
-    none i x h = cc
-
+-- the last item of a list with one more
 pub last_at : {A : Type 0} (xs ys : List A) (x : A) (i : ℕ) → ys ≡ xs ++ x ∷ [] → i ≡ length xs → slice_get ys i ≡ Some x
 last_at {A} xs ys x i is at = subst (λ j. slice_get ys j ≡ Some x) (sym at) (subst (λ (zs : List A). slice_get zs (length xs) ≡ Some x) (sym is) (get_last xs x))
+
+-- what is known of the sequences, with one sequence more
+pub sides_more : (P : List Token → ℕ → Type 0) (old new : List Side) (x : Side) → AreSides P old → new ≡ old ++ x ∷ [] → IsRisingListOf (P x.seq) x.positions.items → AreSides P new
+sides_more P old new x are is here i y at =
+    ⊎_elim (λ l. are i y l.1) (λ r. subst (λ (z : Side). IsRisingListOf (P z.seq) z.positions.items) r.1 here) (get_pushed old x i y (subst (λ (xs : List Side). slice_get xs i ≡ Some y) is at))
+
+pub sides_start : (P : List Token → ℕ → Type 0) (sides : List Side) → sides ≡ [] → AreSides P sides
+sides_start P sides is i x at = absurd (none i x (subst (λ (xs : List Side). slice_get xs i ≡ Some x) is at))
+  where
+    none : (i : ℕ) (x : Side) → slice_get {X = Side} [] i ≡ Some x → ⊥
+    none i x h = cc
+
+-- the positions of the sequence that stands at a place
+pub positions_at : (P : List Token → ℕ → Type 0) (sides : Sides) (r : List Token) (i : ℕ) (x : Side) (ks : List ℕ) → AreSides P sides.sides.items → HasAt sides r i → x ≡ get_or sides.sides.items i x
+    → ks ≡ x.positions.items → IsRisingListOf (P r) ks
+positions_at P sides r i x ks are has is same =
+    let at = here sides.sides.items i x (slice_get_within sides.sides.items i has.0 has.1) is in
+    let there = has.1 in
+    let one : x ≡ has.0 = cc in
+    let seq : x.seq ≡ r = subst (λ (y : Side). y.seq ≡ r) (sym one) has.2 in
+    subst (IsRisingListOf (P r)) (sym same) (subst (λ (q : List Token). IsRisingListOf (P q) x.positions.items) seq (are i x at))
+
+-- the positions that both sequences have are the cuts
+pub are_cuts : (l r : List Token) (t stops starts cuts : List ℕ) → IsRisingListOf (Ends l t) stops → IsRisingListOf (Begins r t) starts → AreReached starts stops stops cuts → AreCuts l r t cuts
+are_cuts l r t stops starts cuts ends begins reached = rising_same (IsReachedBelow starts stops stops (length stops)) (λ k. Ends l t k × Begins r t k) cuts reached
+    (λ k. (
+      (λ h. ((ends.exact k).0 (contains_at stops h.0 k h.4), subst (Begins r t) (same_Some h.1 k (sym h.3 ∙ h.4)) ((begins.exact h.1).0 h.5))),
+      (λ h. let at = at_contained stops k ((ends.exact k).1 h.0) in (at.0, k, slice_get_within stops at.0 k at.1, at.1, at.1, (begins.exact k).1 h.1)),
+    ))
+
+pub sides_kept : (P : List Token → ℕ → Type 0) (old new : Sides) → new.sides ≡ old.sides → AreSides P old.sides.items → AreSides P new.sides.items
+sides_kept P old new same are = subst (λ v. AreSides P v.items) (sym same) are
+
+-- of two sequences alone the cuts are kept
+pub cuts_of : (l r : List Token) (t cuts : List ℕ) (p q : Pair) (a b : List Token) → AreCuts l r t cuts → p.left ≡ l → p.right ≡ r → Some p ≡ Some q → q.left ≡ a → q.right ≡ b → AreCuts a b t cuts
+cuts_of l r t cuts p q a b are pl pr same ql qr =
+    let one : p ≡ q = same_Some p q same in
+    let el : l ≡ a = sym pl ∙ ap (λ (x : Pair). x.left) one ∙ ql in
+    let er : r ≡ b = sym pr ∙ ap (λ (x : Pair). x.right) one ∙ qr in
+    subst (λ x. AreCuts x b t cuts) el (subst (λ y. AreCuts l y t cuts) er are)

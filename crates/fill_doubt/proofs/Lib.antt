@@ -1,9 +1,9 @@
 mod Answered
 mod Cut
-mod Ended
 mod Filled
 mod Flags
 mod Gains
+mod Hopped
 mod Items
 mod Joins
 mod Laid
@@ -13,7 +13,7 @@ mod Programs
 mod Pushed
 mod Rising
 mod Samples
+mod Sought
 mod Spelling
-mod Stops
 mod Tables
 mod Walked

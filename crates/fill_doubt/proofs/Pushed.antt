@@ -1,11 +1,10 @@
 -- Rising lists of the numbers that have a property, with one number more.
-use Rattle.std.proofs.Common.{◌≡◌, ◌↔◌, ℕ, ◌+◌, ◌<◌, ◌⊎◌, ⊎_elim, inl, inr, List, [], ◌∷◌, ◌++◌, length, get_or, take, sym, subst, arith}
+use Rattle.std.proofs.Common.{◌≡◌, ◌↔◌, ℕ, ◌+◌, ◌<◌, ◌⊎◌, ⊎_elim, inl, inr, List, [], ◌∷◌, ◌++◌, length, get_or, sym, subst, arith}
 use Rattle.std.specs.Prelude.{Contains}
 use Rattle.std.specs.List.Sorted.{IsStrictlyIncreasing}
 use Rattle.std.proofs.lemmas.Bool.{cases_order}
-use Rattle.std.proofs.lemmas.List.{get_or_push, get_or_append_left, get_or-take, get_or_read, length-append, length-take, take_more}
+use Rattle.std.proofs.lemmas.List.{get_or_push, get_or_append_left, length-append}
 use Rattle.std.proofs.lemmas.List.Elements.{Contains-get_or, Contains-append_left, Contains-push, Contains-push_cases}
-use Rattle.std.proofs.lemmas.List.Kept.{AllPairs-from_increasing}
 use Rattle.fill_tokens.specs.Cuts.{IsRisingListOf}
 
 rising_push : (ks : List ℕ) (n : ℕ) → IsStrictlyIncreasing ks → ((j : ℕ) → j < length ks → get_or ks j 0 < n) → IsStrictlyIncreasing (ks ++ n ∷ [])
@@ -44,22 +43,3 @@ rising_more P Q ks n are low more = record {
     (λ q. ⊎_elim (λ p. Contains-append_left ks (n ∷ []) k ((are.exact k).1 p)) (λ e. subst (λ m. Contains (ks ++ n ∷ []) m) (sym e) (Contains-push ks n)) ((more k).0 q)),
   );
 }
-
--- the numbers of a front of a rising list are less than the next one
-pub front_less : (ks : List ℕ) (i : ℕ) → IsStrictlyIncreasing ks → i < length ks → (j : ℕ) → Contains (take i ks) j → j < get_or ks i 0
-front_less ks i rising within j h =
-    let size = length-take i ks in
-    let less : h.0 < i = omega (arith, h.1) in
-    let there = get_or_read (take i ks) h.0 j h.1 (sym h.2) 0 in
-    let same = get_or-take i ks h.0 0 less in
-    let up = AllPairs-from_increasing ks rising h.0 i 0 less within in
-    omega arith
-
-pub front_more : (ks : List ℕ) (i : ℕ) → i < length ks → (j : ℕ) → Contains (take (i + 1) ks) j ↔ (Contains (take i ks) j ⊎ (j ≡ get_or ks i 0))
-front_more ks i within j =
-    let e = take_more ks i 0 within in
-    let x = get_or ks i 0 in (
-      (λ h. ⊎_elim (λ l. inl l) (λ q. inr (sym q)) (Contains-push_cases (take i ks) x j (subst (λ (xs : List ℕ). Contains xs j) e h))),
-      (λ h. subst (λ (xs : List ℕ). Contains xs j) (sym e)
-          (⊎_elim (λ l. Contains-append_left (take i ks) (x ∷ []) j l) (λ q. subst (λ m. Contains (take i ks ++ x ∷ []) m) (sym q) (Contains-push (take i ks) x)) h)),
-    )

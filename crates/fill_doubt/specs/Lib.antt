@@ -1,8 +1,10 @@
 pub mod Answers
 pub mod Cuts
 pub mod Gives
+pub mod Hops
 pub mod Known
 pub mod Read
 pub mod Rows
+pub mod Tokens
 pub mod Values
 pub mod Walks

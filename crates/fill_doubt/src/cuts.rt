@@ -1,114 +1,33 @@
 //! The values of places in a text, for which each sequence is looked for in the text once.
-ghost use Rattle.std.specs.Prelude.{◌≡◌, ◌+◌, ◌<◌, ◌≤◌, ℕ, List as Items, length, slice_get, Some, true, false, IsTrue, IfOk, IfSome, OnOk, MatchOption, All};
-ghost use Rattle.std.specs.List.Sorted.{IsStrictlyIncreasing};
+ghost use Rattle.std.specs.Prelude.{◌≡◌, ◌<◌, ◌≤◌, ℕ, List as Items, IsTrue, IfOk, OnOk, MatchOption, Some};
 ghost use Rattle.fill_tokens.specs.Cuts.{AreCuts};
 ghost use Rattle.fill_tokens.specs.Value.{HasValue, IsCutFromLeft, IsCutFromRight};
 ghost use Rattle.fill_tokens.specs.declared.token.Token.{Token as Listed};
-ghost use Rattle.fill_doubt.specs.Cuts.{AreBegun, AreCutsOf, AreEndsIn, HasAt};
+ghost use Rattle.fill_doubt.specs.Cuts.{AreCutsOf, HasAt, IsLastPair};
 
-use crate::ends::{Ends, push_number};
+use crate::hops::reach;
+use crate::sides::{Sides, are_same};
+use crate::tokens::Tokens;
 use fill_text::{NoMemory, Text};
 use fill_tokens::{Place, Seq, place_value};
 use std::alloc::Global;
-use std::cmp::Ordering;
-use std::collections::HashMap;
 
-/// A sequence, and the positions of a text in order up to which it spans a piece.
-#[derive(Drop)]
-pub(crate) struct Left {
-    pub(crate) seq: Seq,
-    pub(crate) stops: Vec<usize>,
+/// Two sequences, the one before positions, and the other after them.
+#[derive(Clone, Copy)]
+pub(crate) struct Pair {
+    pub(crate) left: Seq,
+    pub(crate) right: Seq,
 }
 
-/// What was found of a text: the pieces of tokens, and the sequences before positions that were looked for. Where a
-/// sequence stands in the list is guessed: it is often the last one that was asked for, and else a table tells by its code
-/// which one it may be.
+/// What was found of a text: the pieces of tokens, the sequences before and after positions that were looked for, and the
+/// cuts between the last two sequences. Places of a set are in order, so the next one is often between the same two.
 #[derive(Drop)]
 pub(crate) struct Cuts {
-    pub(crate) ends: Ends,
-    pub(crate) lefts: Vec<Left>,
-    numbers: HashMap<u32, usize>,
-    last: usize,
-    found: Vec<usize>,
-}
-
-fn number_at(seq: &Seq, i: usize) -> u32
-    requires { i < length seq.now }
-    ensures { result < 256 }
-{
-    u32::from(seq.token(i).number())
-}
-
-/// A number for the sequence, by which it is found.
-fn code_of(seq: &Seq) -> u32 {
-    match seq.len() {
-        0 => 0,
-        1 => number_at(seq, 0),
-        2 => number_at(seq, 0) * 256 + number_at(seq, 1),
-        _ => number_at(seq, 0) * 65536 + number_at(seq, 1) * 256 + number_at(seq, 2),
-    }
-}
-
-fn is_of(x: &Left, seq: &Seq) -> bool
-    ensures { IsTrue result → x.now.seq ≡ seq.now }
-{
-    match x.seq.compare(seq) {
-        Ordering::Equal => true,
-        _ => false,
-    }
-}
-
-fn keep_number(numbers: &mut HashMap<u32, usize>, code: u32, i: usize) -> Result<(), NoMemory> {
-    match numbers.insert(code, i) {
-        Ok(_) => Ok(()),
-        Err(_) => Err(NoMemory),
-    }
-}
-
-/// Puts the position of this place to the list, if the sequence spans a piece from it on.
-fn put_cut(
-    alloc: Global,
-    ends: &mut Ends,
-    stops: &[usize],
-    place: usize,
-    right: &Seq,
-    t: &Text,
-    found: &mut Vec<usize>,
-) -> Result<(), NoMemory>
-    requires place { place < length stops.now }
-    requires within { All (λ k. k ≤ length t.now) stops.now }
-    requires rising { IsStrictlyIncreasing stops.now }
-    requires ends { AreEndsIn t.now ends.old.tokens.items }
-    ensures ends { OnOk result (AreEndsIn t.now ends.new.tokens.items) }
-    ensures found { OnOk result (AreBegun stops.now place right.now t.now found.old.items → AreBegun stops.now (place + 1) right.now t.now found.new.items) }
-{
-    let k = stops[place];
-    if !ends.begins(alloc, right, t, k)? {
-        return Ok(());
-    }
-    push_number(found, k)
-}
-
-/// Lists those of the positions from which on the sequence spans a piece.
-fn find_cuts(
-    alloc: Global,
-    ends: &mut Ends,
-    stops: &[usize],
-    right: &Seq,
-    t: &Text,
-    found: &mut Vec<usize>,
-) -> Result<(), NoMemory>
-    requires within { All (λ k. k ≤ length t.now) stops.now }
-    requires rising { IsStrictlyIncreasing stops.now }
-    requires ends { AreEndsIn t.now ends.old.tokens.items }
-    ensures ends { OnOk result (AreEndsIn t.now ends.new.tokens.items) }
-    ensures found { OnOk result (AreBegun stops.now (length stops.now) right.now t.now found.new.items) }
-{
-    found.clear();
-    for i in 0..stops.len() {
-        put_cut(alloc, ends, stops, i, right, t, found)?;
-    }
-    Ok(())
+    pub(crate) tokens: Tokens,
+    pub(crate) lefts: Sides,
+    pub(crate) rights: Sides,
+    pub(crate) pair: Option<Pair>,
+    pub(crate) cuts: Vec<usize>,
 }
 
 /// The cut of this number from the left.
@@ -161,65 +80,85 @@ fn pick(cuts: &[usize], count: i32) -> Option<usize>
 
 impl Cuts {
     /// Where nothing was looked for yet.
-    pub(crate) fn new(alloc: Global) -> Result<Cuts, NoMemory>
-        ensures { IfOk result (λ made. (t : Items ℕ) → AreCutsOf t made) }
+    pub(crate) fn new(alloc: Global, t: &Text) -> Result<Cuts, NoMemory>
+        ensures { IfOk result (AreCutsOf t.now) }
     {
         Ok(Cuts {
-            ends: Ends::new(alloc)?,
-            lefts: Vec::new(alloc),
-            numbers: HashMap::new(alloc),
-            last: 0,
-            found: Vec::new(alloc),
+            tokens: Tokens::new(alloc, t)?,
+            lefts: Sides::new(alloc),
+            rights: Sides::new(alloc),
+            pair: None,
+            cuts: Vec::new(alloc),
         })
     }
 
-    /// Whether that sequence is the one at this place.
-    fn has_at(&self, i: usize, seq: &Seq) -> bool
-        ensures { IsTrue result → HasAt self.now seq.now i }
-    {
-        if i >= self.lefts.len() {
-            return false;
-        }
-        is_of(&self.lefts[i], seq)
-    }
-
-    /// Which one of them is the sequence, where it was looked for already.
-    fn find(&self, seq: &Seq) -> Option<usize>
-        ensures { IfSome result (HasAt self.now seq.now) }
-    {
-        if self.has_at(self.last, seq) {
-            return Some(self.last);
-        }
-        let i = *self.numbers.get(&code_of(seq))?;
-        if !self.has_at(i, seq) {
-            return None;
-        }
-        Some(i)
-    }
-
-    /// Looks for the sequence in the text.
-    fn put(&mut self, alloc: Global, seq: &Seq, t: &Text) -> Result<usize, NoMemory>
+    /// Which one of the left ones is the sequence.
+    fn left_of(&mut self, alloc: Global, seq: &Seq, t: &Text) -> Result<usize, NoMemory>
         requires { AreCutsOf t.now self.old }
         ensures kept { OnOk result (AreCutsOf t.now self.new) }
-        ensures there { IfOk result (HasAt self.new seq.now) }
+        ensures there { IfOk result (HasAt self.new.lefts seq.now) }
     {
-        let stops = self.ends.stops(alloc, seq, t)?;
-        let i = self.lefts.len();
-        self.lefts.push(Left { seq: *seq, stops })?;
-        keep_number(&mut self.numbers, code_of(seq), i)?;
-        Ok(i)
-    }
-
-    /// Which one of them is the sequence.
-    fn look_for(&mut self, alloc: Global, seq: &Seq, t: &Text) -> Result<usize, NoMemory>
-        requires { AreCutsOf t.now self.old }
-        ensures kept { OnOk result (AreCutsOf t.now self.new) }
-        ensures there { IfOk result (HasAt self.new seq.now) }
-    {
-        if let Some(i) = self.find(seq) {
+        if let Some(i) = self.lefts.ask(seq) {
             return Ok(i);
         }
-        self.put(alloc, seq, t)
+        let stops = self.tokens.stops(alloc, seq, t)?;
+        self.lefts.put(alloc, seq, stops)
+    }
+
+    /// Which one of the right ones is the sequence.
+    fn right_of(&mut self, alloc: Global, seq: &Seq, t: &Text) -> Result<usize, NoMemory>
+        requires { AreCutsOf t.now self.old }
+        ensures kept { OnOk result (AreCutsOf t.now self.new) }
+        ensures lefts { self.new.lefts ≡ self.old.lefts }
+        ensures there { IfOk result (HasAt self.new.rights seq.now) }
+    {
+        if let Some(i) = self.rights.ask(seq) {
+            return Ok(i);
+        }
+        let starts = self.tokens.starts(alloc, seq, t)?;
+        self.rights.put(alloc, seq, starts)
+    }
+
+    /// Whether the cuts that are kept are those between the two sequences.
+    fn is_last(&self, left: &Seq, right: &Seq) -> bool
+        ensures { IsTrue result → IsLastPair self.now left.now right.now }
+    {
+        match self.pair {
+            Some(last) => {
+                if !are_same(&last.right, right) {
+                    return false;
+                }
+                are_same(&last.left, left)
+            }
+            None => false,
+        }
+    }
+
+    /// Sees to it that the cuts between the two sequences are kept.
+    fn look_between(
+        &mut self,
+        alloc: Global,
+        left: &Seq,
+        right: &Seq,
+        t: &Text,
+    ) -> Result<(), NoMemory>
+        requires { AreCutsOf t.now self.old }
+        ensures kept { OnOk result (AreCutsOf t.now self.new) }
+        ensures cuts { OnOk result (AreCuts left.now right.now t.now self.new.cuts.items) }
+    {
+        if self.is_last(left, right) {
+            return Ok(());
+        }
+        let l = self.left_of(alloc, left, t)?;
+        let r = self.right_of(alloc, right, t)?;
+        let stops = self.lefts.sides[l].positions.as_slice();
+        let starts = self.rights.sides[r].positions.as_slice();
+        reach(starts, stops, stops, &mut self.cuts)?;
+        self.pair = Some(Pair {
+            left: *left,
+            right: *right,
+        });
+        Ok(())
     }
 
     /// The value of the place in the text.
@@ -251,16 +190,7 @@ impl Cuts {
         ensures kept { OnOk result (AreCutsOf t.now self.new) }
         ensures value { IfOk result (λ o. MatchOption o ((k : ℕ) → HasValue (Place.Pos left.now right.now count) t.now k → ⊥) (λ k. HasValue (Place.Pos left.now right.now count) t.now k)) }
     {
-        let l = self.look_for(alloc, left, t)?;
-        self.last = l;
-        find_cuts(
-            alloc,
-            &mut self.ends,
-            self.lefts[l].stops.as_slice(),
-            right,
-            t,
-            &mut self.found,
-        )?;
-        Ok(pick(self.found.as_slice(), count))
+        self.look_between(alloc, left, right, t)?;
+        Ok(pick(self.cuts.as_slice(), count))
     }
 }

@@ -6,8 +6,8 @@
 
 mod answers;
 mod cuts;
-mod ends;
 mod graph;
+mod hops;
 mod known;
 mod listing;
 mod pass;
@@ -16,7 +16,9 @@ mod read;
 mod row;
 mod rows;
 mod sets;
+mod sides;
 mod some;
+mod tokens;
 mod valued;
 
 pub use graph::doubt;

@@ -23,7 +23,7 @@ impl<'a> Read<'a> {
         ensures text { IfOk result (λ made. made.text.now ≡ text.now) }
         ensures right { IfOk result (λ made. (c : Items Kept) → IsReadIn c made) }
     {
-        let cuts = Cuts::new(alloc)?;
+        let cuts = Cuts::new(alloc, text)?;
         Ok(Read {
             text,
             cuts,

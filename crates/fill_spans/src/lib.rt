@@ -9,7 +9,8 @@ mod runs;
 mod spans;
 
 pub use pieces::Pieces;
-pub use spans::{Spans, token_at};
+pub use runs::classes;
+pub use spans::{Spans, pieces_of, token_at};
 
 #[cfg(test)]
 mod tests;

@@ -42,8 +42,13 @@ pub fn token_at(i: usize) -> Token
     Token::ALL[i]
 }
 
-/// The pieces that the token spans.
-fn pieces_of(alloc: Global, token: Token, t: &Text, classes: &[Class]) -> Result<Pieces, NoMemory>
+/// The pieces that the token spans, found from the classes of the text's characters.
+pub fn pieces_of(
+    alloc: Global,
+    token: Token,
+    t: &Text,
+    classes: &[Class],
+) -> Result<Pieces, NoMemory>
     requires { AreClasses t.now classes.now }
     ensures { IfOk result (ArePieces token t.now) }
 {

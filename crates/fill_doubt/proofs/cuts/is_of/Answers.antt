@@ -1,6 +1,0 @@
-use Rattle.std.proofs.Common.{sym}
-use Rattle.fill_tokens.proofs.PlaceLaws.{exact_seqs}
-use Rattle.fill_doubt.proofs.cuts.is_of.Goals as goal
-
-pub returns-in-Equal : goal.returns-in-Equal
-returns-in-Equal c = λ t. exact_seqs c.args.x.now.seq c.args.seq.now (sym c.in-Equal.ensures)
