@@ -1,5 +1,5 @@
 -- Where sequences stand in a text.
-use Rattle.std.specs.Prelude.{◌≡◌, ℕ, List, Option, Some, slice_get}
+use Rattle.std.specs.Prelude.{◌≡◌, ℕ, List, Some, slice_get}
 use Rattle.fill_tokens.specs.Cuts.{AreCuts, IsRisingListOf}
 use Rattle.fill_tokens.specs.Span.{Begins, Ends}
 use Rattle.fill_tokens.specs.declared.token.Token.{Token}
