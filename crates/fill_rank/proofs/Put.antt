@@ -69,7 +69,7 @@ dear_put (Some b) a (Some x) h =
     let same_rest : h.2 ≡ x = (let e = h.5 in cc) in
     let y : Chain = record { cost = link_cost (atom_tree a) + x.cost; atoms = record { atoms = a ∷ x.atoms.atoms } } in
     let less : b.cost < y.cost = subst (λ (z : Chain). b.cost < link_cost (atom_tree a) + z.cost) same_rest
-        (subst (λ d. b.cost < link_cost (atom_tree d) + h.2.cost) same_atom (subst (λ (z : Chain). z.cost < link_cost (atom_tree h.1) + h.2.cost) same_best h.6)) in
+    (subst (λ d. b.cost < link_cost (atom_tree d) + h.2.cost) same_atom (subst (λ (z : Chain). z.cost < link_cost (atom_tree h.1) + h.2.cost) same_best h.6)) in
     let after : Greater ≡ nat_cmp y.cost b.cost = nat_cmp_is y.cost b.cost Greater less in
     (Some y, (y, refl, refl, refl), inr (refl, λ e. greater_first _ _ (sym after) e))
   where

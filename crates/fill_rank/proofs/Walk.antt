@@ -11,9 +11,9 @@ use Rattle.fill_tree.specs.Order.{program_cmp}
 use Rattle.fill_tree.specs.Tree.{AtomTree, Atoms, end, more}
 use Rattle.fill_tree.specs.declared.tree.Atom.{Atom}
 use Rattle.fill_tree.proofs.ProgramOrder.{program_antisymm}
-use Rattle.fill_arena.specs.Contents.{In, HasEdges, HasNodes, IsAtomSet}
+use Rattle.fill_arena.specs.Contents.{In, HasEdges, HasNodes}
 use Rattle.fill_arena.specs.Stands.{AtomStands, ProgramStands, Walks}
-use Rattle.fill_arena.specs.WellMade.{IsWellMade, IsGraphOf, Path}
+use Rattle.fill_arena.specs.WellMade.{IsGraphOf}
 use Rattle.fill_arena.specs.declared.entry.Edge.{Edge}
 use Rattle.fill_arena.specs.declared.entry.Entry.{Entry}
 use Rattle.fill_arena.specs.declared.entry.Entry.TheVariants.{Graph}
