@@ -7,7 +7,7 @@ use Rattle.fill_arena.specs.declared.entry.Entry.{Entry}
 use Rattle.fill_arena.specs.declared.entry.AtomItem.{AtomItem}
 use Rattle.fill_arena.specs.declared.entry.AtomItem.TheVariants.{Sub}
 use Rattle.fill_arena.proofs.Lists.{get_pushed}
-use Rattle.fill_meet.specs.Ends.{AreEnds, HasEnds}
+use Rattle.fill_meet.specs.Ends.{HasEnds}
 use Rattle.fill_meet.specs.Meet.{AreApart}
 use Rattle.fill_meet.specs.Sets.{AtomIn}
 use Rattle.fill_meet.specs.Tried.{IsTold}

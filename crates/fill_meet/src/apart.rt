@@ -116,10 +116,10 @@ fn pair_may_meet(
         (AtomItem::Const(u), AtomItem::Const(v)) => Ok(u.same(v)),
         (AtomItem::Whole(s), AtomItem::Whole(t)) => sources_may_meet(arena, tried, *s, *t),
         (AtomItem::Sub(s, p, q), AtomItem::Sub(t, u, v)) => {
-            if !places_may_meet(arena, tried, tie.from, *p, *u)? {
+            if !places_may_meet(arena, tried, tie.from as usize, *p, *u)? {
                 return Ok(false);
             }
-            if !places_may_meet(arena, tried, tie.to, *q, *v)? {
+            if !places_may_meet(arena, tried, tie.to as usize, *q, *v)? {
                 return Ok(false);
             }
             sources_may_meet(arena, tried, *s, *t)

@@ -65,7 +65,7 @@ fn spread_back(marks: &mut [bool], ties: &[Tie])
     while i > 0 {
         i -= 1;
         let tie = ties[i];
-        spread(marks, tie.to, tie.from);
+        spread(marks, tie.to as usize, tie.from as usize);
     }
 }
 
@@ -96,7 +96,7 @@ fn join_ties(
     let mut edges = List::with_capacity(alloc, ties.len())?;
     for i in 0..ties.len() {
         let tie = ties[i];
-        if !live[tie.to] {
+        if !live[tie.to as usize] {
             continue;
         }
         join(arena, &mut memo, tie, &mut edges)?;
@@ -122,8 +122,8 @@ fn join(
         return Ok(());
     };
     edges.push(Edge {
-        from: tie.from,
-        to: tie.to,
+        from: tie.from as usize,
+        to: tie.to as usize,
         atoms,
     })
 }

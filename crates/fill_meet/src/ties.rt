@@ -16,11 +16,11 @@ use std::alloc::Global;
 
 /// Two edges that may have an atom in common, by the pairs of their nodes and their sets.
 ///
-/// The pair of the nodes `i` and `j` has the number `i * width + j`.
+/// The pair of the nodes `i` and `j` has the number `i * width + j`. It has 32 bits, since there are many ties.
 #[derive(Clone, Copy)]
 pub(crate) struct Tie {
-    pub(crate) from: usize,
-    pub(crate) to: usize,
+    pub(crate) from: u32,
+    pub(crate) to: u32,
     pub(crate) left: AtomSet,
     pub(crate) right: AtomSet,
 }
@@ -153,8 +153,8 @@ fn tie_edges(
         return Ok(());
     }
     let tie = Tie {
-        from,
-        to,
+        from: pair_number(from)?,
+        to: pair_number(to)?,
         left: x.atoms,
         right: y.atoms,
     };
@@ -164,4 +164,14 @@ fn tie_edges(
     net.ties.push(tie)?;
     net.reached[to] = true;
     Ok(())
+}
+
+/// The number of a pair of nodes in 32 bits. Where it needs more, there is no memory for so many pairs.
+fn pair_number(pair: usize) -> Result<u32, NoMemory>
+    ensures { IfOk result (λ number. number ≡ pair) }
+{
+    match u32::try_from(pair) {
+        Ok(number) => Ok(number),
+        Err(_) => Err(NoMemory),
+    }
 }

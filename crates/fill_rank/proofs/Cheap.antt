@@ -1,10 +1,9 @@
 -- What is compared and added up costs less than 2^64.
-use Rattle.std.proofs.Common.{◌≡◌, ◌⊎◌, inl, inr, ℕ, zero, suc, ◌+◌, ◌<◌, ◌≤◌, ◌^◌, List, [], ◌∷◌, length, Option, Some, None, slice_get, refl, sym, ap, ◌∙◌, subst, arith}
+use Rattle.std.proofs.Common.{◌≡◌, ℕ, suc, ◌+◌, ◌<◌, ◌≤◌, ◌^◌, List, ◌∷◌, length, Option, Some, None, slice_get, refl, sym, subst}
 use Rattle.std.specs.Option.{IfSome}
 use Rattle.fill_tree.specs.Cost.{source_cost, atom_cost, condition_cost, conditions_cost, program_cost}
-use Rattle.fill_tree.specs.Grammar.{IsPart}
 use Rattle.fill_tree.specs.Meaning.{atom_tree, source_tree, program_tree}
-use Rattle.fill_tree.specs.Tree.{SourceTree, AtomTree, Atoms, constant, whole, sub, end, more}
+use Rattle.fill_tree.specs.Tree.{AtomTree, Atoms, constant, end, more}
 use Rattle.fill_tree.specs.declared.tree.Atom.{Atom}
 use Rattle.fill_tree.specs.declared.tree.Source.{Source}
 use Rattle.fill_arena.specs.Contents.{EachIn}
@@ -17,7 +16,7 @@ use Rattle.fill_arena.specs.declared.entry.Entry.{Entry}
 use Rattle.fill_arena.specs.declared.entry.SourceItem.{SourceItem}
 use Rattle.fill_arena.proofs.Costs.{source_item_present, atom_item_present, atom_present, row_present}
 use Rattle.fill_rank.specs.Rank.{IsBest, IsBestOf, source_rank, atom_rank}
-use Rattle.fill_rank.specs.Sets.{AreBestRests, AreBestRows, IsBestChain, IsBestPart, IsCheap, IsConstantOf, PartFits, PartStands, ConstantFits, ConstantStands, SomeBelow, WalksAreCheap, link_cost}
+use Rattle.fill_rank.specs.Sets.{AreBestRows, IsBestChain, IsBestPart, IsCheap, IsConstantOf, PartFits, PartStands, ConstantFits, ConstantStands, SomeBelow, WalksAreCheap, link_cost}
 use Rattle.fill_rank.specs.declared.chain.Chain.{Chain}
 use Rattle.fill_rank.specs.declared.rows.Rows.{Rows}
 

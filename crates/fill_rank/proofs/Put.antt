@@ -1,6 +1,9 @@
 -- A best first atom before a best rest, and the best rows of conditions.
-use Rattle.std.proofs.Common.{◌≡◌, ◌⊎◌, ℕ, ◌+◌, List, [], ◌∷◌, Option, Some, None, inl, inr, refl, ap, sym, subst, ◌∙◌}
+use Rattle.std.proofs.Common.{◌≡◌, ◌⊎◌, ℕ, ◌+◌, ◌<◌, List, [], ◌∷◌, Option, Some, None, inl, inr, refl, ap, sym, subst, ◌∙◌}
+use Rattle.std.specs.Cmp.{nat_cmp_is}
 use Rattle.std.specs.Ordering.{nat_cmp, ordering_then}
+use Rattle.std.specs.declared.cmp.Ordering.{Ordering}
+use Rattle.std.specs.declared.cmp.Ordering.TheVariants.{Less, Equal, Greater}
 use Rattle.fill_tree.specs.Cost.{atom_cost, condition_cost, conditions_cost}
 use Rattle.fill_tree.specs.Grammar.{HasPart, IsPart}
 use Rattle.fill_tree.specs.Meaning.{atom_tree, program_tree}
@@ -14,7 +17,7 @@ use Rattle.fill_arena.specs.declared.entry.ConditionItem.{ConditionItem}
 use Rattle.fill_arena.specs.declared.entry.Entry.{Entry}
 use Rattle.fill_text.specs.Orders.{AtMost}
 use Rattle.fill_rank.specs.Rank.{rank, atom_rank, IsBest, IsBestOf, IsLesser, chain_rank}
-use Rattle.fill_rank.specs.Sets.{IsBestPart, IsConstantOf, IsBestChain, AreBestRows, IsPut, link_cost}
+use Rattle.fill_rank.specs.Sets.{IsBestPart, IsConstantOf, IsBestChain, AreBestRows, CostsMore, IsPut, link_cost}
 use Rattle.fill_rank.specs.declared.chain.Chain.{Chain}
 use Rattle.fill_rank.specs.declared.rows.Rows.{Rows}
 use Rattle.fill_rank.proofs.Best.{rank_total, rank_exact, at_most-itself, chains_lesser}
@@ -55,6 +58,25 @@ module _ (own : AtomTree → ℕ) (cost : Atoms → ℕ) (adds : (a : AtomTree) 
         is.3 ∙ ap (λ n. own (atom_tree a) + n) t.0 ∙ sym (adds (atom_tree a) (program_tree x.atoms)) ∙ ap cost (sym is.2) in
         subst (IsBestChain cost (Starts H T)) (sym is.1)
         (carried, subst (IsBest (rank cost atoms_cmp) (Starts H T)) (sym is.2) (best_more (atom_tree a) (program_tree x.atoms) h t.1))
+
+-- what costs more than the best so far is not less
+pub dear_put : (best : Option Chain) (a : Atom) (rest : Option Chain) → CostsMore best (Some a) rest → (along : Option Chain) × IsPut link_cost (Some a) rest along × IsLesser chain_rank best along best
+dear_put None a rest h = absurd (let e = h.3 in cc)
+dear_put (Some b) a None h = absurd (let e = h.5 in cc)
+dear_put (Some b) a (Some x) h =
+    let same_best : h.0 ≡ b = (let e = h.3 in cc) in
+    let same_atom : h.1 ≡ a = (let e = h.4 in cc) in
+    let same_rest : h.2 ≡ x = (let e = h.5 in cc) in
+    let y : Chain = record { cost = link_cost (atom_tree a) + x.cost; atoms = record { atoms = a ∷ x.atoms.atoms } } in
+    let less : b.cost < y.cost = subst (λ (z : Chain). b.cost < link_cost (atom_tree a) + z.cost) same_rest
+    (subst (λ d. b.cost < link_cost (atom_tree d) + h.2.cost) same_atom (subst (λ (z : Chain). z.cost < link_cost (atom_tree h.1) + h.2.cost) same_best h.6)) in
+    let after : Greater ≡ nat_cmp y.cost b.cost = nat_cmp_is y.cost b.cost Greater less in
+    (Some y, (y, refl, refl, refl), inr (refl, λ e. greater_first _ _ (sym after) e))
+  where
+    greater_first : (o p : Ordering) → o ≡ Greater → ordering_then o p ≡ Less → ⊥
+    greater_first Less p g e = absurd (let q = g in cc)
+    greater_first Equal p g e = absurd (let q = g in cc)
+    greater_first Greater p g e = let q = e in cc
 
 -- parts are in the same order as atoms and as conditions
 part_cost : (a : AtomTree) → IsPart a → condition_cost a ≡ 2 + atom_cost a

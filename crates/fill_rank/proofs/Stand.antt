@@ -1,17 +1,13 @@
 -- What stands in a set, by the set's items.
-use Rattle.std.proofs.Common.{◌≡◌, ℕ, List, Some, slice_get, refl, subst}
+use Rattle.std.proofs.Common.{◌≡◌, ℕ, List, Some, slice_get, subst}
 use Rattle.fill_tokens.specs.declared.place.Place.{Place}
-use Rattle.fill_tree.specs.Tree.{SourceTree, AtomTree, col, constant, whole, sub}
-use Rattle.fill_arena.specs.Contents.{In, SomeIn, IsAtomSet}
+use Rattle.fill_tree.specs.Tree.{SourceTree, AtomTree}
+use Rattle.fill_arena.specs.Contents.{In, SomeIn}
 use Rattle.fill_arena.specs.Stands.{AtomFits, AtomStands, PlaceStands, SourceFits, SourceStands}
-use Rattle.fill_arena.specs.WellMade.{IsWellMade, IsSourceItem, IsAtomItem}
 use Rattle.fill_arena.specs.declared.entry.AtomItem.{AtomItem}
-use Rattle.fill_arena.specs.declared.entry.AtomItem.TheVariants as atom
 use Rattle.fill_arena.specs.declared.entry.Entry.{Entry}
 use Rattle.fill_arena.specs.declared.entry.Entry.TheVariants.{Places, Sources, Atoms}
 use Rattle.fill_arena.specs.declared.entry.SourceItem.{SourceItem}
-use Rattle.fill_arena.specs.declared.entry.SourceItem.TheVariants.{Col, Select}
-use Rattle.fill_arena.proofs.Lists.{get_there}
 use Rattle.fill_rank.specs.Rank.{IsBest, place_rank}
 
 pub place_best : (c : List Entry) (s : ℕ) (places : List Place) (x : Place) → slice_get c s ≡ Some (Places places) →

@@ -11,19 +11,19 @@ use Rattle.fill_tree.specs.Order.{program_cmp}
 use Rattle.fill_tree.specs.Tree.{AtomTree, Atoms, end, more}
 use Rattle.fill_tree.specs.declared.tree.Atom.{Atom}
 use Rattle.fill_tree.proofs.ProgramOrder.{program_antisymm}
-use Rattle.fill_arena.specs.Contents.{In, HasEdges, HasNodes, IsAtomSet}
+use Rattle.fill_arena.specs.Contents.{In, HasEdges, HasNodes}
 use Rattle.fill_arena.specs.Stands.{AtomStands, ProgramStands, Walks}
-use Rattle.fill_arena.specs.WellMade.{IsWellMade, IsGraphOf, Path}
+use Rattle.fill_arena.specs.WellMade.{IsGraphOf}
 use Rattle.fill_arena.specs.declared.entry.Edge.{Edge}
 use Rattle.fill_arena.specs.declared.entry.Entry.{Entry}
 use Rattle.fill_arena.specs.declared.entry.Entry.TheVariants.{Graph}
 use Rattle.fill_arena.proofs.Lists.{get_pushed}
 use Rattle.fill_text.specs.Orders.{AtMost}
 use Rattle.fill_rank.specs.Rank.{IsBest, IsLesser, atom_rank, chain_rank}
-use Rattle.fill_rank.specs.Sets.{AreBestRests, IsBestChain, IsFirstEdge, IsPut, link_cost}
+use Rattle.fill_rank.specs.Sets.{AreBestRests, IsBestChain, IsFirstEdge, CostsMore, IsPut, link_cost}
 use Rattle.fill_rank.specs.declared.chain.Chain.{Chain}
 use Rattle.fill_rank.proofs.Best.{chains_lesser}
-use Rattle.fill_rank.proofs.Put.{Starts, as_link, best_put}
+use Rattle.fill_rank.proofs.Put.{Starts, as_link, best_put, dear_put}
 
 same_chain : (cost : Atoms → ℕ) (P S : Atoms → Type 0) → ((p : Atoms) → S p → P p) → ((p : Atoms) → P p → S p) → (o : Option Chain) → IsBestChain cost P o → IsBestChain cost S o
 same_chain cost P S to from None h = λ p s. h p (to p s)
@@ -87,6 +87,13 @@ module _ (c : List Entry) (e : Edge) (rest : List Edge) (last : ℕ) where
             (are.each n o (sym (others n apart) ∙ there))
       ];
     }
+
+    -- an edge along which all costs more than the best so far
+    pub edge_dear : (old : List (Option Chain)) (before next : Option Chain) (a : Atom) → AreBestRests c rest last old → slice_get old e.from ≡ Some before → slice_get old e.to ≡ Some next →
+        IsBest atom_rank (AtomStands c e.atoms) (atom_tree a) → CostsMore before (Some a) next → AreBestRests c (e ∷ rest) last old
+    edge_dear old before next a are at to best dear =
+        let put = dear_put before a next dear in
+        edge_step old old before next put.0 before a are at to best put.1 put.2 at (λ n apart. refl)
 
 -- without edges
 no_walk : (c : List Entry) (a : AtomTree) (q : Atoms) (last at : ℕ) → ¬ (Walks (more a q) c [] last at)

@@ -68,6 +68,10 @@ IsCheap cost (Some a) (Some x) = cost (atom_tree a) + x.cost < 2 ^ 64
 abbrev pub link_cost : AtomTree → ℕ
 link_cost a = 5 + atom_cost a
 
+-- all three are there, and the atom and the rest cost more together than the best
+abbrev pub CostsMore : Option Chain → Option Atom → Option Chain → Type 0
+CostsMore best atom rest = (b : Chain) × (a : Atom) × (x : Chain) × (best ≡ Some b) × (atom ≡ Some a) × (rest ≡ Some x) × (b.cost < link_cost (atom_tree a) + x.cost)
+
 -- the edge leads to a node after its own, and none of the rest leads back to its own
 pub record IsFirstEdge (e : Edge) (rest : List Edge) : Type 0 where
   pub onward : e.from < e.to

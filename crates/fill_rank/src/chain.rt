@@ -5,7 +5,7 @@ ghost use Rattle.fill_tree.specs.Cost.{condition_cost};
 ghost use Rattle.fill_tree.specs.Meaning.{atom_tree, program_tree};
 ghost use Rattle.fill_tree.specs.Tree.{more};
 ghost use Rattle.fill_rank.specs.Rank.{IsLesser, chain_rank};
-ghost use Rattle.fill_rank.specs.Sets.{IsCheap, IsPut, link_cost};
+ghost use Rattle.fill_rank.specs.Sets.{CostsMore, IsCheap, IsPut, link_cost};
 
 use fill_text::{List, NoMemory};
 use fill_tree::{Atom, Program};
@@ -92,4 +92,21 @@ pub(crate) fn put_atom(
     let cost = own + 5 + rest.cost;
     let atoms = followed_by(alloc, atom, &rest.atoms)?;
     Ok(Some(Chain { cost, atoms }))
+}
+
+/// Whether the atom before the rest of a program costs more than the best so far, so that it need not be put together.
+pub(crate) fn is_dearer(best: &Option<Chain>, atom: &Option<Atom>, rest: &Option<Chain>) -> bool
+    requires { IsCheap link_cost atom.now rest.now }
+    ensures { IsTrue result → CostsMore best.now atom.now rest.now }
+{
+    let (Some(atom), Some(rest)) = (atom, rest) else {
+        return false;
+    };
+    let Some(best) = best else {
+        return false;
+    };
+    let Some(own) = atom.cost() else {
+        unreachable!()
+    };
+    best.cost < own + 5 + rest.cost
 }

@@ -9,7 +9,7 @@ ghost use Rattle.fill_arena.specs.declared.entry.Entry.{Entry};
 ghost use Rattle.fill_rank.specs.Known.{AreKnown};
 ghost use Rattle.fill_rank.specs.Sets.{AreBestRests, IsFirstEdge, WalksAreCheap};
 
-use crate::chain::{Chain, lesser, put_atom};
+use crate::chain::{Chain, is_dearer, lesser, put_atom};
 use crate::known::Known;
 use crate::sets::atom_of;
 use fill_arena::{Arena, Edge, GraphId};
@@ -76,6 +76,9 @@ fn take_edge(
         AreBestRests arena.now others last rests.old.items → AreBestRests arena.now (edge ∷ others) last rests.new.items) }
 {
     let atom = Some(atom_of(alloc, arena, known, edge.atoms)?);
+    if is_dearer(&rests[edge.from], &atom, &rests[edge.to]) {
+        return Ok(());
+    }
     let along = put_atom(alloc, &atom, &rests[edge.to])?;
     let before = rests[edge.from].take();
     rests[edge.from] = lesser(before, along);
