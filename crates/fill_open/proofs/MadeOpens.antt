@@ -1,5 +1,5 @@
 -- The generated session opens.
-use Rattle.std.proofs.Common.{◌≡◌, ℕ, zero, suc, ◌+◌, ◌*◌, ◌%◌, ◌<◌, ◌≤◌, List, [], ◌∷◌, false, true, length, map, Option, None, Some, Result, Ok, Err, refl, sym, ap, ◌∙◌, subst, arith}
+use Rattle.std.proofs.Common.{◌≡◌, ℕ, zero, suc, ◌+◌, ◌<◌, ◌≤◌, List, [], ◌∷◌, false, true, length, map, Option, None, Some, Result, Ok, Err, refl, sym, ap, ◌∙◌, subst, arith}
 use Rattle.std.proofs.lemmas.Bool.Decides.{nat_tests}
 use Rattle.std.proofs.lemmas.List.{take_all, length-map}
 use Rattle.std.proofs.lemmas.List.FromFn.{length-range_with_len}
@@ -11,7 +11,7 @@ use Rattle.std.specs.Str.{IsAscii, bytes_eq, is_utf8, chars}
 use Rattle.csv.proofs.OnLiterals.{csv_on_literals}
 use Rattle.fill_records.specs.Records.{records_of}
 use Rattle.fill_records.specs.Texts.{first_bad}
-use Rattle.fill_sheet.specs.Sheet.{read_sheet, row_of, row_records, sheet_of, unless_empty}
+use Rattle.fill_sheet.specs.Sheet.{read_sheet, row_of, row_records, sheet_of}
 use Rattle.fill_script.specs.Line.{between}
 use Rattle.fill_script.specs.Number.{number_in}
 use Rattle.fill_script.specs.Script.{read_script}

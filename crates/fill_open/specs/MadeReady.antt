@@ -1,5 +1,5 @@
 -- What the generated session opens: its script, and its sheet of so many rows.
-use Rattle.std.specs.Prelude.{ℕ, List, [], ◌∷◌, map, codes, Some, false}
+use Rattle.std.specs.Prelude.{ℕ, [], ◌∷◌, map, codes, Some, false}
 use Rattle.std.specs.List.{range_with_len}
 use Rattle.fill_text.specs.Data.{RowData, SheetData}
 use Rattle.fill_sheet.specs.Sheet.{unless_empty}

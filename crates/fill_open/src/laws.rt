@@ -9,5 +9,4 @@ ghost use Rattle.fill_open.specs.Steps.{opened};
 /// session file is read as a script, and its sheet as `n` rows. It does nothing.
 pub fn generated_session_opens()
     ensures { (words : List (List ℕ)) (held : Held) (n : ℕ) → command_in words ≡ Some (made n) → opened words held ≡ Passed (made_ready n) }
-{
-}
+{}
