@@ -5,3 +5,5 @@ pub mod Command
 pub mod Lines
 pub mod Stops
 pub mod Steps
+pub mod Apply
+pub mod Asked

@@ -1,6 +1,8 @@
 //! Opening: from the words of a command and its files to a session that is ready.
 #![tactic(auto)]
 
+mod apply;
+mod asked;
 mod command;
 mod file;
 mod generator;
@@ -12,6 +14,8 @@ mod sheet;
 mod stop;
 mod tables;
 
+pub use apply::{Application, open_application};
+pub use asked::{ApplicationNames, application_of};
 pub use command::{Command, command_of};
 pub use generator::{MadeFiles, made};
 pub use laws::generated_session_opens;

@@ -1,7 +1,9 @@
 -- How a run ends, seen from its words.
-use Rattle.std.proofs.Common.{◌≡◌, ◌≢◌, ◌∙◌, ℕ, List, ◌⊎◌, Option, Some, arith, subst}
+use Rattle.std.proofs.Common.{◌≡◌, ◌≢◌, ◌∙◌, ℕ, List, [], ◌∷◌, ◌⊎◌, Option, Some, arith, subst}
 use Rattle.std.specs.Prelude.{string_bytes}
 use Rattle.fill_edge.specs.Outside.{Files}
+use Rattle.fill_open.specs.Apply.{Names}
+use Rattle.fill_open.specs.Asked.{application_in}
 use Rattle.fill_open.specs.Command.{CommandData, command_in, made}
 use Rattle.fill_open.specs.Lines.{unread_line}
 use Rattle.fill_open.specs.Opened.{Told, Opened, Refused}
@@ -11,6 +13,13 @@ use Rattle.fill_open.specs.declared.session.Ready.{Ready}
 use Rattle.fill_open.specs.declared.stop.Stop.{Stop}
 use Rattle.fill_open.specs.declared.stop.Stop.TheVariants as stop
 use Rattle.flashfill.specs.Answer.{Ends, Says, status_of}
+
+-- no words ask for a session and for an application
+pub not_both : (words : List (List ℕ)) (command : CommandData) (names : Names) → Some command ≡ command_in words → application_in words ≡ Some names → ⊥
+not_both [] command names is asked = cc
+not_both (word ∷ []) command names is asked = cc
+not_both (word ∷ argument ∷ []) command names is asked = cc
+not_both (word ∷ argument ∷ next ∷ more) command names is asked = cc
 
 -- as the steps of the words' command end, theirs do
 pub ends_on : (files : Files) (words : List (List ℕ)) (command : CommandData) (how : Opened Ready) → Some command ≡ command_in words

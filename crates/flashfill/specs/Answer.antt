@@ -1,5 +1,5 @@
 -- What a run leaves on its output, what it says, and its status.
-use Rattle.std.specs.Prelude.{◌≡◌, ◌⊎◌, ℕ, Bool, List, Option, Some, codes}
+use Rattle.std.specs.Prelude.{◌≡◌, ◌≢◌, ◌⊎◌, ℕ, Bool, List, Option, None, Some, codes}
 use Rattle.std.specs.Io.KnownBytes.{Appends}
 use Rattle.fill_edge.specs.Outside.{Files, Rose, AppendsPart}
 use Rattle.fill_space.specs.declared.ground.Ground.{Ground}
@@ -10,6 +10,10 @@ use Rattle.fill_open.specs.Steps.{opened, made_opens}
 use Rattle.fill_open.specs.declared.session.Ready.{Ready}
 use Rattle.fill_open.specs.declared.stop.Stop.{Stop}
 use Rattle.fill_open.specs.declared.stop.Stop.TheVariants as stop
+
+-- the words ask for a session: one that is read, or a generated one
+abbrev pub IsOfSession : List (List ℕ) → Type 0
+IsOfSession words = command_in words ≢ None
 
 -- the steps of the words end so: of a session that is read where files are told, and of a generated one, which reads
 -- none, whether they are or not
@@ -38,7 +42,7 @@ abbrev pub WritesRecords : Files → List (List ℕ) → Option (List ℕ) → O
 WritesRecords files words old new before now = (r : Ready) × Opens files words r × ReportsRecords (ground_of r) r.script.entries old new before now
 
 abbrev pub usage_line : List ℕ
-usage_line = codes "usage: flashfill replay SESSION or flashfill made N\n"
+usage_line = codes "usage: flashfill replay SESSION or flashfill made N or flashfill apply SESSION PROGRAM SHEET\n"
 
 abbrev pub output_line : List ℕ
 output_line = codes "flashfill: output cannot be written\n"

@@ -3,6 +3,8 @@
 
 ghost use Rattle.std.specs.Prelude.{◌≡◌};
 
+mod applied;
+mod apply;
 mod command;
 mod stop;
 

@@ -1,6 +1,7 @@
 //! Whole runs over files and output in memory.
 ghost use Rattle.std.specs.Prelude.{◌≡◌};
 
+mod applied;
 mod noting;
 mod rows;
 
@@ -152,7 +153,7 @@ fn other_words_are_no_command(rt: HostRuntime) -> Result<(), Fail> {
         assert_eq!(rt; out.written(), b"".as_slice());
         assert_eq!(rt;
             err.written(),
-            b"usage: flashfill replay SESSION or flashfill made N\n".as_slice()
+            b"usage: flashfill replay SESSION or flashfill made N or flashfill apply SESSION PROGRAM SHEET\n".as_slice()
         );
     }
     Ok(())

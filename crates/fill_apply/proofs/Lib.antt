@@ -1,0 +1,3 @@
+mod FirstOthers
+mod Shown
+mod Unique

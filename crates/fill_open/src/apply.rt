@@ -1,0 +1,140 @@
+//! What is applied: a saved program, and the sheet on whose rows it is run.
+ghost use Rattle.std.specs.Prelude.{◌≡◌, ◌≢◌, All, Contains, IfErr, IfOk, Ok, string_bytes};
+ghost use Rattle.std.specs.List.Sorted.{IsPermutation};
+ghost use Rattle.fill_edge.specs.Outside.{NoneFell};
+ghost use Rattle.fill_apply.specs.Saved.{SavedIs, columns_read};
+ghost use Rattle.fill_script.specs.Script.{IsScript};
+ghost use Rattle.fill_tree.specs.Switch.{switch_tree};
+ghost use Rattle.fill_open.specs.Apply.{AppliedIs, ApplyStops, ProgramRefuses, application_data, applied_sheet_in, applied_sheet_opens, apply_line, named};
+ghost use Rattle.fill_open.specs.Opened.{Told, Passed};
+ghost use Rattle.fill_open.specs.Stops.{Refuses, Stops};
+
+use crate::Stop;
+use crate::file::open_file;
+use crate::lines::sheet_line;
+use crate::script::open_script;
+use crate::tables::open_tables;
+use fill_apply::{ApplyError, open_switch, saved_programs_are_one};
+use fill_edge::Cabinet;
+use fill_script::Script;
+use fill_sheet::Sheet;
+use fill_tables::Tables;
+use fill_tree::Switch;
+use std::alloc::{AllocError, Global};
+
+/// A conditional program, the sheet on whose rows it is run, and the tables in which it looks up.
+#[derive(Debug, Drop)]
+pub struct Application {
+    pub switch: Switch,
+    pub sheet: Sheet,
+    pub tables: Tables,
+}
+
+/// Opens a saved program and the sheet on whose rows it is run.
+///
+/// The files are read and checked in this order: the session, the report with the program, the sheet, and then for each
+/// `table` line of the session its file. The first thing that fails decides. Of the session only the header line, the
+/// inputs, the tables and the keys are used.
+pub fn open_application<C: Cabinet>(
+    alloc: Global,
+    cabinet: &mut C,
+    session: &str,
+    program: &str,
+    sheet: &str,
+) -> Result<Application, Stop>
+    ensures ready { IfOk result (λ a. Told (C.files cabinet.old) (λ held. AppliedIs (named session.now program.now sheet.now) held (Passed (application_data a)))) }
+    ensures reads { IfOk result (λ a. let s = switch_tree a.switch in let rows = a.sheet in All (Contains rows.inputs) (columns_read s.cases)) }
+    ensures stopped { IfErr result (ApplyStops (named session.now program.now sheet.now) (C.files cabinet.old) (C.faults cabinet.old) (C.faults cabinet.new)) }
+    ensures files { C.files cabinet.new ≡ C.files cabinet.old }
+    ensures later { NoneFell (C.faults cabinet.old) (C.faults cabinet.new) }
+{
+    saved_programs_are_one();
+    let script = match open_script(alloc, cabinet, session) {
+        Ok(script) => script,
+        Err(stop) => return Err(stop),
+    };
+    let bytes = match open_file(alloc, cabinet, program) {
+        Ok(bytes) => bytes,
+        Err(stop) => return Err(stop),
+    };
+    let switch = match program_in(alloc, &script, program, bytes.as_slice()) {
+        Ok(switch) => switch,
+        Err(stop) => return Err(stop),
+    };
+    let sheet = match open_applied_sheet(alloc, cabinet, &script, sheet) {
+        Ok(sheet) => sheet,
+        Err(stop) => return Err(stop),
+    };
+    let tables = match open_tables(alloc, cabinet, session, script.tables.as_slice()) {
+        Ok(tables) => tables,
+        Err(stop) => return Err(stop),
+    };
+    Ok(Application {
+        switch,
+        sheet,
+        tables,
+    })
+}
+
+/// The conditional program that a report's bytes save, for the inputs of a script.
+fn program_in(alloc: Global, script: &Script, program: &str, bytes: &[u8]) -> Result<Switch, Stop>
+    ensures ready { IfOk result (λ s. SavedIs script.now.inputs bytes.now (Ok (switch_tree s))) }
+    ensures reads { IfOk result (λ s. let tree = switch_tree s in All (Contains script.now.inputs) (columns_read tree.cases)) }
+    ensures stopped { IfErr result (ProgramRefuses script.now.inputs program.now bytes.now) }
+{
+    match open_switch(alloc, bytes, script.inputs.as_slice()) {
+        Ok(switch) => Ok(switch),
+        Err(e) => Err(Stop::refused(apply_line(alloc, program, e))),
+    }
+}
+
+/// The line of a report that gives no program.
+fn apply_line(alloc: Global, program: &str, error: ApplyError) -> Result<String, AllocError>
+    ensures line { IfOk result (λ line. string_bytes line ≡ apply_line program.now error) }
+    ensures memory { IfOk result (λ line. error ≢ ApplyError.NoMemory) }
+{
+    match error {
+        ApplyError::NoSwitch => format!(in alloc; "flashfill: {program}: no switch\n"),
+        ApplyError::BadSwitch { at } => {
+            format!(in alloc; "flashfill: {program}: switch is wrong at byte {at}\n")
+        }
+        ApplyError::NoInput { column } => {
+            format!(in alloc; "flashfill: {program}: column {column} is no input\n")
+        }
+        ApplyError::NoMemory => Err(AllocError),
+    }
+}
+
+/// The sheet of a name, by the header line and the inputs of a script.
+fn open_applied_sheet<C: Cabinet>(
+    alloc: Global,
+    cabinet: &mut C,
+    script: &Script,
+    name: &str,
+) -> Result<Sheet, Stop>
+    requires { IsScript script.now }
+    ensures ready { IfOk result (λ sheet. Told (C.files cabinet.old) (λ held. (applied_sheet_opens held script.now name.now).outcome ≡ Passed sheet)) }
+    ensures inputs { IfOk result (λ sheet. IsPermutation script.now.inputs sheet.inputs) }
+    ensures stopped { IfErr result (Stops (λ held. applied_sheet_opens held script.now name.now) (C.files cabinet.old) (C.faults cabinet.old) (C.faults cabinet.new)) }
+    ensures files { C.files cabinet.new ≡ C.files cabinet.old }
+    ensures later { NoneFell (C.faults cabinet.old) (C.faults cabinet.new) }
+{
+    match open_file(alloc, cabinet, name) {
+        Ok(bytes) => applied_sheet_in(alloc, script, name, bytes.as_slice()),
+        Err(stop) => Err(stop),
+    }
+}
+
+/// The sheet in the bytes of the file of a name, by the header line and the inputs of a script.
+fn applied_sheet_in(alloc: Global, script: &Script, name: &str, bytes: &[u8]) -> Result<Sheet, Stop>
+    requires { IsScript script.now }
+    ensures ready { IfOk result (λ sheet. applied_sheet_in script.now name.now bytes.now ≡ Passed sheet) }
+    ensures inputs { IfOk result (λ sheet. IsPermutation script.now.inputs sheet.inputs) }
+    ensures stopped { IfErr result (Refuses (applied_sheet_in script.now name.now bytes.now)) }
+{
+    let inputs = script.inputs.as_slice();
+    match Sheet::read(alloc, bytes, script.header, inputs, None) {
+        Ok(sheet) => Ok(sheet),
+        Err(e) => Err(Stop::refused(sheet_line(alloc, name, e))),
+    }
+}
