@@ -1,9 +1,14 @@
 //! Saved programs: which one a report has, why it has none, and what it gives.
+ghost use Rattle.std.specs.Prelude.{All, Contains};
+ghost use Rattle.fill_tree.specs.Switch.{switch_tree};
+ghost use Rattle.fill_apply.specs.Saved.{columns_read};
+
 use crate::{ApplyError, apply_record, open_switch};
 use fill_print::print_switch;
 use fill_sheet::Sheet;
 use fill_tables::Tables;
 use fill_text::List;
+use fill_tree::Switch;
 use std::alloc::Global;
 use std::test::Fail;
 
@@ -76,16 +81,23 @@ fn refusals_come_in_their_order(rt: HostRuntime) -> Result<(), Fail> {
     Ok(())
 }
 
+/// The records of all rows of a sheet.
+fn records(alloc: Global, switch: &Switch, sheet: &Sheet) -> Result<List<u8>, Fail>
+    requires { let s = switch_tree switch.now in let rows = sheet.now in All (Contains rows.inputs) (columns_read s.cases) }
+{
+    let tables = Tables::new(alloc);
+    let mut to = List::new(alloc);
+    for above in 0..sheet.rows() {
+        apply_record(alloc, &mut to, switch, above + 1, sheet, &tables)?;
+    }
+    Ok(to)
+}
+
 /// The records of the rows of a sheet of one column.
 fn applied(alloc: Global, report: &[u8], cells: &[u8]) -> Result<List<u8>, Fail> {
     let sheet = Sheet::read(alloc, cells, false, &[1], None)?;
-    let tables = Tables::new(alloc);
     let switch = open_switch(alloc, report, sheet.inputs())?;
-    let mut to = List::new(alloc);
-    for above in 0..sheet.rows() {
-        apply_record(alloc, &mut to, &switch, above + 1, &sheet, &tables)?;
-    }
-    Ok(to)
+    records(alloc, &switch, &sheet)
 }
 
 #[test]

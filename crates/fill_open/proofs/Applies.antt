@@ -1,6 +1,6 @@
 -- The steps of an application.
-use Rattle.std.proofs.Common.{◌≡◌, ◌≢◌, ℕ, ◌≤◌, List, [], ◌⊎◌, inl, inr, Option, None, Some, Result, Ok, Err, Contains, refl, sym, ap, ◌∙◌, arith, subst, Global}
-use Rattle.std.specs.Prelude.{IfOk, MatchResult, string_bytes}
+use Rattle.std.proofs.Common.{◌≡◌, ◌≢◌, ℕ, ◌≤◌, List, [], ◌⊎◌, inl, inr, None, Some, Result, Ok, Err, Contains, refl, sym, ap, ◌∙◌, arith, subst, Global}
+use Rattle.std.specs.Prelude.{IfOk, string_bytes}
 use Rattle.std.specs.declared.string.String.{String}
 use Rattle.std.proofs.lemmas.List.Elements.{Contains-append_left}
 use Rattle.fill_text.specs.Data.{SheetData, TableData}
@@ -11,7 +11,7 @@ use Rattle.fill_apply.specs.Saved.{SavedIs}
 use Rattle.fill_apply.specs.declared.error.ApplyError.{ApplyError}
 use Rattle.fill_apply.specs.declared.error.ApplyError.TheVariants as error
 use Rattle.fill_open.specs.Apply.{Applied, AppliedIs, ApplyStops, ApplyUnread, IsReading, Names, ProgramRefuses, Reading, applied_sheet_opens, apply_line, apply_opens, program_in, with_program, with_report, with_script, with_sheet}
-use Rattle.fill_open.specs.Opened.{Held, Told, Opened, Opening, NotACommand, Unread, Refused, Passed, at_once, further}
+use Rattle.fill_open.specs.Opened.{Held, Told, Opened, NotACommand, Unread, Refused, Passed, at_once, further}
 use Rattle.fill_open.specs.Steps.{file_opens, script_opens, tables_open}
 use Rattle.fill_open.specs.Stops.{Counts, IsUnread, ReadFails, Stops}
 use Rattle.fill_open.specs.declared.stop.Stop.{Stop}
@@ -150,7 +150,7 @@ module _ (one : IsOne) (names : Names) (script : Script) (bytes : List ℕ) (s :
   later_stops files before mid now (stop.Refused line) fell p q st =
       let text = string_bytes line in
       let known = told_both files (λ held. (script_opens held names.session).outcome ≡ Passed script) (λ held. (file_opens held names.program).outcome ≡ Passed bytes)
-          (λ held. IsReading names held (Ok s) × Continues (apply_opens (Ok s) names held) (with_program held names script s)) (λ held a b. (is_reading names script bytes (Ok s) saved held a b, to_program held a b)) p q in
+      (λ held. IsReading names held (Ok s) × Continues (apply_opens (Ok s) names held) (with_program held names script s)) (λ held a b. (is_reading names script bytes (Ok s) saved held a b, to_program held a b)) p q in
       told_both files (λ held. IsReading names held (Ok s) × Continues (apply_opens (Ok s) names held) (with_program held names script s)) (λ held. (with_program held names script s).outcome ≡ Refused text)
       (λ held. AppliedIs names held (Refused text)) (λ held k e. (Ok s, k.0, k.1.same ∙ e)) known st
   later_stops files before mid now stop.NoMemory fell p q st = tt
@@ -169,7 +169,7 @@ module _ (one : IsOne) (names : Names) (script : Script) (bytes : List ℕ) (s :
     tables_stop files before first mid now why fell fell_on p q t st =
         let rest = stops_first (λ held. tables_open held names.session [] script.tables) (λ held tables. at_once (Passed (record { switch = s; sheet = sheet; tables = tables }))) mid now files why st in
         let on = told_one files (λ held. (applied_sheet_opens held script names.sheet).outcome ≡ Passed sheet) (λ held. Continues (with_program held names script s) (with_sheet held names script s sheet))
-            (λ held e. goes_on (with_sheet held names script s) (applied_sheet_opens held script names.sheet) sheet e) t in
+        (λ held e. goes_on (with_sheet held names script s) (applied_sheet_opens held script names.sheet) sheet e) t in
         later_stops files before first now why fell p q (stops_later (λ held. with_program held names script s) (λ held. with_sheet held names script s sheet) first mid now fell_on files why on rest)
 
     -- all steps passed

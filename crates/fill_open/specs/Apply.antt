@@ -1,5 +1,5 @@
 -- The steps of applying a saved program: which files it reads, in what order they are checked, and what they open.
-use Rattle.std.specs.Prelude.{◌≡◌, ◌⊎◌, ℕ, List, [], ◌++◌, codes, Option, None, Some, Result, Ok, Err, Contains, string_bytes, ⊤}
+use Rattle.std.specs.Prelude.{◌≡◌, ◌⊎◌, ℕ, List, [], ◌++◌, codes, None, Some, Result, Contains, string_bytes, ⊤}
 use Rattle.std.specs.Fmt.{decimal}
 use Rattle.fill_text.specs.Data.{SheetData, TableData}
 use Rattle.fill_edge.specs.Outside.{Files, Rose}

@@ -85,7 +85,7 @@ pub fn run<C: Cabinet, O: Sink, E: Sink, L: Ledger>(
     // An application ends likewise: with the records of all rows, a proper prefix of them, or its first whole ones. It makes no step.
     ensures application { (names : Names) → application_in (map string_bytes words.now) ≡ Some names →
         EndsApplied names (C.files cabinet.old) result (C.faults cabinet.old) (C.faults cabinet.new) (O.written out.old) (O.written out.new)
-            (Says (E.written err.old) (E.written err.new) (E.faults err.old) (E.faults err.new)) × (steps.new ≡ steps.old) }
+        (Says (E.written err.old) (E.written err.new) (E.faults err.old) (E.faults err.new)) × (steps.new ≡ steps.old) }
 
     ensures statuses { result ≤ 6 }
     ensures files { C.files cabinet.new ≡ C.files cabinet.old }

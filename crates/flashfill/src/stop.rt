@@ -8,7 +8,8 @@ use fill_edge::{Sink, write_all};
 use fill_open::Stop;
 use std::alloc::{AllocError, Global};
 
-pub const USAGE_LINE: &[u8] = b"usage: flashfill replay SESSION or flashfill made N or flashfill apply SESSION PROGRAM SHEET\n";
+pub const USAGE_LINE: &[u8] =
+    b"usage: flashfill replay SESSION or flashfill made N or flashfill apply SESSION PROGRAM SHEET\n";
 
 pub const OUTPUT_LINE: &[u8] = b"flashfill: output cannot be written\n";
 

@@ -11,7 +11,8 @@ const SESSION: &[u8] = b"sheet,gone.csv\nheader\ninputs,2\nkey,t,1\nbegin\nadd,9
 const PLAIN: &[u8] = b"sheet,gone.csv\ninputs,1\nbegin\nadd,99,x\n";
 
 /// What a session of two branches shows.
-const REPORT: &[u8] = b"ok,add,1\nswitch,\nswitch,\"Switch(!Match(1,[Lower],1)&Match(1,[Word],1)=>Concat(Const('k'));else=>Concat(Whole(Col(1))))\"\n";
+const REPORT: &[u8] =
+    b"ok,add,1\nswitch,\nswitch,\"Switch(!Match(1,[Lower],1)&Match(1,[Word],1)=>Concat(Const('k'));else=>Concat(Whole(Col(1))))\"\n";
 
 fn files(alloc: Global, most: usize) -> Result<MemoryCabinet, NoMemory> {
     let mut cabinet = MemoryCabinet::new(alloc, most.max(1));
@@ -19,7 +20,10 @@ fn files(alloc: Global, most: usize) -> Result<MemoryCabinet, NoMemory> {
     cabinet.put("s.csv", SESSION)?;
     cabinet.put("p.csv", REPORT)?;
     cabinet.put("wrong.csv", b"switch,Switch(else=>Concat()")?;
-    cabinet.put("other.csv", b"switch,\"Switch(Match(7,[Dot],1)=>Concat();else=>Concat())\"")?;
+    cabinet.put(
+        "other.csv",
+        b"switch,\"Switch(Match(7,[Dot],1)=>Concat();else=>Concat())\"",
+    )?;
     cabinet.put("b.csv", b"q\nZ\n\"\"\n")?;
     Ok(cabinet)
 }
