@@ -1,5 +1,5 @@
 -- How the run of an application ends.
-use Rattle.std.proofs.Common.{◌≡◌, ◌≢◌, ◌∙◌, ℕ, List, ◌⊎◌, inl, inr, Option, None, Some, arith, sym}
+use Rattle.std.proofs.Common.{◌≡◌, ◌≢◌, ℕ, List, ◌⊎◌, inl, inr, Option, None, Some, arith}
 use Rattle.std.specs.Prelude.{string_bytes}
 use Rattle.std.specs.Io.KnownBytes.{Keeps}
 use Rattle.fill_edge.specs.Outside.{Files}
@@ -14,7 +14,7 @@ use Rattle.fill_open.proofs.Binds.{told_one}
 use Rattle.flashfill.specs.Answer.{status_of}
 use Rattle.flashfill.specs.Applied.{EndsApplied, OpensApplied, WritesApplied, WritesAppliedPart, WritesAppliedRecords}
 
-told_all : (files : Files) (P : Held → Type 0) → ((held : Held) → P held) → Told files P
+pub told_all : (files : Files) (P : Held → Type 0) → ((held : Held) → P held) → Told files P
 told_all None P f = tt
 told_all (Some held) P f = f held
 

@@ -1,3 +1,4 @@
 pub mod Applications
 pub mod Endings
 pub mod Rows
+pub mod Sessions

@@ -1,2 +1,3 @@
 pub mod Answer
 pub mod Applied
+pub mod Sessions

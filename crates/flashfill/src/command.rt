@@ -13,11 +13,10 @@ ghost use Rattle.flashfill.specs.Answer.{Ends, IsOfSession, Says, WritesPart, Wr
 ghost use Rattle.flashfill.specs.Applied.{EndsApplied};
 
 use crate::apply::apply;
-use crate::stop::{MEMORY_LINE, OUTPUT_LINE, USAGE_LINE, say, tell};
+use crate::replay::replay;
+use crate::stop::{USAGE_LINE, say};
 use fill_edge::{Cabinet, Ledger, Sink, Steps};
-use fill_open::{Ready, application_of, command_of, open_session};
-use fill_report::{Halt, write_report};
-use fill_session::Session;
+use fill_open::{application_of, command_of};
 use std::alloc::Global;
 
 /// Runs the command of these words, those after the program's name, and answers the status.
@@ -105,26 +104,5 @@ pub fn run<C: Cabinet, O: Sink, E: Sink, L: Ledger>(
             err,
         );
     };
-    let ready = match open_session(alloc, cabinet, &command) {
-        Ok(ready) => ready,
-        Err(stop) => return tell(alloc, err, &stop),
-    };
-    let Ready {
-        script,
-        sheet,
-        tables,
-    } = ready;
-    let mut session = Session::new(alloc, script.settings, sheet, tables);
-    match write_report(alloc, &mut session, script.entries.as_slice(), out, steps) {
-        Ok(false) => 0,
-        Ok(true) => 1,
-        Err(Halt::Fault) => {
-            say(err, OUTPUT_LINE);
-            4
-        }
-        Err(Halt::NoMemory) => {
-            say(err, MEMORY_LINE);
-            6
-        }
-    }
+    replay(alloc, &command, cabinet, out, err, steps)
 }

@@ -6,6 +6,7 @@ ghost use Rattle.std.specs.Prelude.{◌≡◌};
 mod applied;
 mod apply;
 mod command;
+mod replay;
 mod stop;
 
 use fill_edge::{FolderCabinet, Ledger, StdSink, Steps};
