@@ -26,7 +26,7 @@ pub fn replay<C: Cabinet, O: Sink, E: Sink, L: Ledger>(
     requires { IsCommand (command_data command.now) }
     ensures ends { (words : List (List ℕ)) → Some (command_data command.now) ≡ command_in words →
         EndsSession words (C.files cabinet.old) result (C.faults cabinet.old) (C.faults cabinet.new) (O.written out.old) (O.written out.new) steps.old steps.new
-            (Says (E.written err.old) (E.written err.new) (E.faults err.old) (E.faults err.new)) }
+        (Says (E.written err.old) (E.written err.new) (E.faults err.old) (E.faults err.new)) }
     ensures silent { result ≤ 1 → Keeps (E.written err.old) (E.written err.new) }
     ensures generated { (n : ℕ) → command_data command.now ≡ made n → ((result ≤ 1) ⊎ (result ≡ 4) ⊎ (result ≡ 6)) × (cabinet.new ≡ cabinet.old) }
     ensures fault { result ≡ 4 → Rose (O.faults out.old) (O.faults out.new) }
