@@ -1,0 +1,5 @@
+pub mod BoundLaws
+pub mod ClassLaws
+pub mod KindLaws
+pub mod ReadLaws
+pub mod ValueLaws
