@@ -1,4 +1,5 @@
 mod Answered
+mod Carried
 mod Cut
 mod Filled
 mod Flags
@@ -6,6 +7,7 @@ mod Gains
 mod Hopped
 mod Items
 mod Joins
+mod Kept
 mod Laid
 mod Maps
 mod Marks
@@ -15,5 +17,6 @@ mod Rising
 mod Samples
 mod Sought
 mod Spelling
+mod Spotted
 mod Tables
 mod Walked

@@ -17,13 +17,13 @@ use Rattle.fill_arena.specs.declared.entry.SourceItem.{SourceItem}
 use Rattle.fill_eval.specs.Piece.{IsWithin}
 use Rattle.fill_doubt.specs.Answers.{TextsHave, PiecesHave}
 use Rattle.fill_doubt.specs.Gives.{SourceGives, AtomGives}
-use Rattle.fill_doubt.specs.Read.{IsReadIn}
 use Rattle.fill_doubt.specs.Rows.{Choice, RowText, is_part, has_part}
+use Rattle.fill_doubt.specs.Shapes.{IsShapeOf, ShapesStand}
 use Rattle.fill_doubt.specs.declared.answers.Texts.{Texts}
 use Rattle.fill_doubt.specs.declared.answers.Pieces.{Pieces}
 use Rattle.fill_doubt.specs.declared.known.Known.{Known}
-use Rattle.fill_doubt.specs.declared.read.Read.{Read}
 use Rattle.fill_doubt.specs.declared.row.OnRow.{OnRow}
+use Rattle.fill_doubt.specs.declared.shaped.Shaped.{Shaped}
 
 -- the sheet has the row, the tables' keys distinguish their rows, and the arena is well made
 pub record IsOnRow (on : OnRow) : Type 0 where
@@ -81,11 +81,12 @@ RowAnswers on is o = (cs : Atoms) × ConditionsFit cs on.arena.now is
 pub record AreKnown (on : OnRow) (known : Known) : Type 0 where
   pub sources : (s : ℕ) (f : Texts) → get nat_eq known.sources s ≡ Some f → (o : Option (List ℕ)) → TextsHave f o ↔ SourceAnswers on s o
   pub parts : (s : ℕ) (f : Pieces) → get nat_eq known.parts s ≡ Some f → EachIn IsWithin f.pieces.items × ((o : Option (List ℕ)) → PiecesHave f o ↔ PartAnswers on s o)
-  pub reads : (i : ℕ) (x : Read) → slice_get known.reads.items i ≡ Some x → IsReadIn on.arena.now x
+  pub texts : (i : ℕ) (x : Shaped) → slice_get known.texts.items i ≡ Some x → IsShapeOf x
+  pub shapes : ShapesStand on.arena.now known.shapes
 
--- the text is the one of this number among those that were read
-abbrev pub IsReadAt : Known → List ℕ → ℕ → Type 0
-IsReadAt known t n = (x : Read) × (slice_get known.reads.items n ≡ Some x) × (x.text.now ≡ t)
+-- the text is the one of this number among those whose shapes were found
+abbrev pub IsTextAt : Known → List ℕ → ℕ → Type 0
+IsTextAt known t n = (x : Shaped) × (slice_get known.texts.items n ≡ Some x) × (x.text.now ≡ t)
 
 -- the answers of an edge's atoms
 abbrev pub EdgeAnswers : OnRow → Edge → Option (List ℕ) → Type 0

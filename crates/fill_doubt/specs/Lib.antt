@@ -5,6 +5,8 @@ pub mod Hops
 pub mod Known
 pub mod Read
 pub mod Rows
+pub mod Shapes
+pub mod Spots
 pub mod Tokens
 pub mod Values
 pub mod Walks

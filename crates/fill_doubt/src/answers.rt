@@ -202,21 +202,35 @@ impl Positions {
         }
     }
 
+    /// One answer more: a position, or that there is none.
+    pub(crate) fn put_answer(&mut self, answer: Option<usize>) -> Result<(), NoMemory>
+        ensures { OnOk result (Gains (PositionsHave self.old) (PositionsHave self.new) (λ o. o ≡ answer)) }
+    {
+        match answer {
+            Some(position) => self.put(position),
+            None => {
+                self.none = true;
+                Ok(())
+            }
+        }
+    }
+
+    /// No value is an answer too, where something lacks one.
+    pub(crate) fn put_none(&mut self, lacks: bool)
+        ensures { Gains (PositionsHave self.old) (PositionsHave self.new) (λ o. (o ≡ None) × (lacks ≡ true)) }
+    {
+        if !lacks {
+            return;
+        }
+        self.none = true;
+    }
+
     /// Whether there are two answers or more. What is found does not depend on it, but how soon.
     pub(crate) fn are_several(&self) -> bool {
         if self.none {
             return self.positions.len() > 0;
         }
         self.positions.len() > 1
-    }
-
-    pub(crate) fn copy(&self, alloc: Global) -> Result<Positions, NoMemory>
-        ensures { IfOk result (λ copied. (copied.positions.items ≡ self.now.positions.items) × (copied.none ≡ self.now.none)) }
-    {
-        Ok(Positions {
-            positions: Vec::from_slice(alloc, self.positions.as_slice())?,
-            none: self.none,
-        })
     }
 
     /// Whether there is an answer.

@@ -1,17 +1,21 @@
 //! Whether a graph's programs differ on a row.
-ghost use Rattle.std.specs.Prelude.{◌↔◌, ◌≤◌, length, IsTrue, IfOk};
+ghost use Rattle.std.specs.Prelude.{◌↔◌, ◌≤◌, length, IsTrue, IfOk, OnOk};
 ghost use Rattle.fill_arena.specs.Contents.{IsGraph};
 ghost use Rattle.fill_doubt.specs.Gives.{Differ};
+ghost use Rattle.fill_doubt.specs.Known.{AreKnown, IsOnRow};
+ghost use Rattle.fill_doubt.specs.Shapes.{ShapesStand};
 
 use crate::known::Known;
 use crate::pass::{differs, one_answer};
 use crate::row::OnRow;
+use crate::shapes::Shapes;
 use crate::valued::has_value;
 use fill_arena::{Arena, GraphId};
 use fill_sheet::Sheet;
 use fill_tables::Tables;
 use fill_text::NoMemory;
 use std::alloc::Global;
+use std::mem;
 
 /// Whether two programs that stand in the graph answer differently on the row; to have no value is an answer of its own.
 ///
@@ -31,6 +35,29 @@ pub fn doubt(
     requires graph { IsGraph arena.now g }
     ensures { IfOk result (λ b. IsTrue b ↔ Differ arena.now sheet.now tables.now row g) }
 {
+    let mut shapes = Shapes::new(alloc);
+    doubt_with(alloc, &mut shapes, arena, g, row, sheet, tables)
+}
+
+/// As [`doubt`], with what was found of the shapes of texts for rows before.
+///
+/// Where memory runs out all that was found is forgotten.
+pub fn doubt_with(
+    alloc: Global,
+    shapes: &mut Shapes,
+    arena: &Arena,
+    g: GraphId,
+    row: u32,
+    sheet: &Sheet,
+    tables: &Tables,
+) -> Result<bool, NoMemory>
+    requires first { 1 ≤ row }
+    requires last { row ≤ length sheet.now.rows }
+    requires graph { IsGraph arena.now g }
+    requires shapes { ShapesStand arena.now shapes.old }
+    ensures shapes { ShapesStand arena.now shapes.new }
+    ensures flag { IfOk result (λ b. IsTrue b ↔ Differ arena.now sheet.now tables.now row g) }
+{
     arena.keeps_made();
     tables.keeps_keys();
     let on = OnRow {
@@ -40,11 +67,23 @@ pub fn doubt(
         sheet,
         tables,
     };
-    let mut known = Known::new(alloc);
-    let nodes = arena.nodes(g);
-    let edges = arena.edges(g);
-    match one_answer(&on, &mut known, nodes, edges)? {
-        Some(text) => differs(&on, &mut known, nodes, edges, text.as_slice()),
-        None => has_value(&on, &mut known, nodes, edges),
+    let mut known = Known::new(alloc, mem::replace(shapes, Shapes::new(alloc)));
+    let flag = differ_on(&on, &mut known, g)?;
+    *shapes = known.shapes;
+    Ok(flag)
+}
+
+fn differ_on<'a>(on: &OnRow<'a>, known: &mut Known<'a>, g: GraphId) -> Result<bool, NoMemory>
+    requires row { IsOnRow on.now }
+    requires graph { IsGraph on.now.arena.now g }
+    requires known { AreKnown on.now known.old }
+    ensures known { OnOk result (AreKnown on.now known.new) }
+    ensures flag { IfOk result (λ b. IsTrue b ↔ Differ on.now.arena.now on.now.sheet.now on.now.tables.now on.now.row g) }
+{
+    let nodes = on.arena.nodes(g);
+    let edges = on.arena.edges(g);
+    match one_answer(on, known, nodes, edges)? {
+        Some(text) => differs(on, known, nodes, edges, text.as_slice()),
+        None => has_value(on, known, nodes, edges),
     }
 }

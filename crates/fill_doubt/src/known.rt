@@ -3,32 +3,38 @@ ghost use Rattle.std.specs.Prelude.{◌≡◌, ◌↔◌, ◌++◌, ◌∷◌, [
 ghost use Rattle.fill_arena.specs.Contents.{EachIn};
 ghost use Rattle.fill_eval.specs.Piece.{IsWithin};
 ghost use Rattle.fill_doubt.specs.Answers.{PiecesHave, TextsHave};
-ghost use Rattle.fill_doubt.specs.Known.{AreKnown, IsReadAt, PartAnswers, SourceAnswers};
+ghost use Rattle.fill_doubt.specs.Known.{AreKnown, IsTextAt, PartAnswers, SourceAnswers};
+ghost use Rattle.fill_doubt.specs.Shapes.{ShapesStand};
 ghost use Rattle.fill_doubt.specs.declared.row.OnRow.{OnRow};
 
 use crate::answers::{Pieces, Texts};
-use crate::read::Read;
+use crate::shaped::Shaped;
+use crate::shapes::Shapes;
 use fill_arena::{AtomSet, SourceSet};
+use fill_shapes::Shape;
 use fill_text::{NoMemory, Text};
 use std::alloc::Global;
 use std::collections::HashMap;
 
-/// The answers of sets, those of a set of atoms without its constants, and what was found of the row's texts.
+/// The answers of sets, those of a set of atoms without its constants, the row's texts with their
+/// shapes, and what was found of shapes.
 #[derive(Drop)]
 pub(crate) struct Known<'a> {
     sources: HashMap<SourceSet, Texts<'a>>,
     parts: HashMap<AtomSet, Pieces<'a>>,
-    pub(crate) reads: Vec<Read<'a>>,
+    pub(crate) texts: Vec<Shaped<'a>>,
+    pub(crate) shapes: Shapes,
 }
 
 impl<'a> Known<'a> {
-    pub(crate) fn new(alloc: Global) -> Known<'a>
-        ensures { (on : OnRow) → AreKnown on result }
+    pub(crate) fn new(alloc: Global, shapes: Shapes) -> Known<'a>
+        ensures { (on : OnRow) → ShapesStand on.arena.now shapes → AreKnown on result }
     {
         Known {
             sources: HashMap::new(alloc),
             parts: HashMap::new(alloc),
-            reads: Vec::new(alloc),
+            texts: Vec::new(alloc),
+            shapes,
         }
     }
 
@@ -63,37 +69,43 @@ impl<'a> Known<'a> {
         }
     }
 
-    /// Which one of the texts that were read this one is.
+    /// Which one of the texts this one is.
     fn find(&self, text: &Text) -> Option<usize>
-        ensures { IfSome result (IsReadAt self.now text.now) }
+        ensures { IfSome result (IsTextAt self.now text.now) }
     {
-        for i in 0..self.reads.len() {
-            if self.reads[i].text.same(text) {
+        for i in 0..self.texts.len() {
+            if self.texts[i].text.same(text) {
                 return Some(i);
             }
         }
         None
     }
 
-    /// The number of the text among those of the row, where what is found of it is kept.
+    /// The number of the text among those of the row, where its shape is kept.
     pub(crate) fn number_of(&mut self, alloc: Global, text: &'a Text) -> Result<usize, NoMemory>
         ensures known { OnOk result ((on : OnRow) → AreKnown on self.old → AreKnown on self.new) }
-        ensures there { IfOk result (IsReadAt self.new text.now) }
+        ensures there { IfOk result (IsTextAt self.new text.now) }
     {
         if let Some(n) = self.find(text) {
             return Ok(n);
         }
-        let n = self.reads.len();
-        let read = Read::new(alloc, text)?;
-        put_read(&mut self.reads, read)?;
+        let n = self.texts.len();
+        let shape = Shape::of(alloc, text)?;
+        let number = self.shapes.number_of(alloc, 0, &shape.text)?;
+        let shaped = Shaped {
+            text,
+            shape,
+            number,
+        };
+        put_text(&mut self.texts, shaped)?;
         Ok(n)
     }
 }
 
-fn put_read<'a>(reads: &mut Vec<Read<'a>>, read: Read<'a>) -> Result<(), NoMemory>
-    ensures { OnOk result (reads.new.items ≡ reads.old.items ++ read.entry ∷ []) }
+fn put_text<'a>(texts: &mut Vec<Shaped<'a>>, shaped: Shaped<'a>) -> Result<(), NoMemory>
+    ensures { OnOk result (texts.new.items ≡ texts.old.items ++ shaped.entry ∷ []) }
 {
-    match reads.push(read) {
+    match texts.push(shaped) {
         Ok(()) => Ok(()),
         Err(_) => Err(NoMemory),
     }

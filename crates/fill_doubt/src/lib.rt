@@ -5,6 +5,7 @@
 #![tactic(auto)]
 
 mod answers;
+mod carry;
 mod cuts;
 mod graph;
 mod hops;
@@ -16,13 +17,17 @@ mod read;
 mod row;
 mod rows;
 mod sets;
+mod shaped;
+mod shapes;
 mod sides;
 mod some;
+mod spots;
 mod tokens;
 mod valued;
 
-pub use graph::doubt;
+pub use graph::{doubt, doubt_with};
 pub use listing::{ValueSet, values};
+pub use shapes::Shapes;
 
 #[cfg(test)]
 mod tests;

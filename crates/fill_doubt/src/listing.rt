@@ -13,6 +13,7 @@ ghost use Rattle.fill_doubt.specs.Gives.{AtomGives};
 use crate::known::Known;
 use crate::row::OnRow;
 use crate::sets::atoms_of;
+use crate::shapes::Shapes;
 use fill_arena::{Arena, AtomSet};
 use fill_eval::Piece;
 use fill_sheet::Sheet;
@@ -54,7 +55,7 @@ pub fn values(
         sheet,
         tables,
     };
-    let mut known = Known::new(alloc);
+    let mut known = Known::new(alloc, Shapes::new(alloc));
     let found = atoms_of(&on, &mut known, s)?;
     let texts = sorted(alloc, found.pieces.as_slice())?;
     Ok(ValueSet {

@@ -80,7 +80,8 @@ pub(crate) fn differs<'a>(
     requires row { IsOnRow on.now }
     requires known { AreKnown on.now known.old }
     requires one { Reads (EdgeAnswers on.now) edges.now 0 (nodes - 1) (Some text.now) }
-    ensures { IfOk result (λ b. IsTrue b ↔ Differs (EdgeAnswers on.now) edges.now (nodes - 1)) }
+    ensures known { OnOk result (AreKnown on.now known.new) }
+    ensures answer { IfOk result (λ b. IsTrue b ↔ Differs (EdgeAnswers on.now) edges.now (nodes - 1)) }
 {
     let mut lengths = first_length(on.alloc, nodes)?;
     for i in 0..edges.len() {

@@ -1,28 +1,29 @@
 //! The positions that the places of a set have in a text, and the pieces between two sets' positions.
 ghost use Rattle.std.specs.Prelude.{◌≡◌, ◌↔◌, ◌<◌, ◌≤◌, ℕ, Option, None, Some, false, IsTrue, IfOk, OnOk, length};
 ghost use Rattle.fill_arena.specs.Contents.{EachIn, IsPlaceSet};
-ghost use Rattle.fill_tokens.specs.Value.{HasValue};
-ghost use Rattle.fill_tree.specs.Value.{IsValue};
 ghost use Rattle.fill_eval.specs.Piece.{IsWithin};
 ghost use Rattle.fill_doubt.specs.Answers.{AreBetween, AreBetweenFrom, Gains, Lack, PiecesHave, PositionsHave, between};
-ghost use Rattle.fill_doubt.specs.Cuts.{AreCutsOf};
 ghost use Rattle.fill_doubt.specs.Gives.{PlaceGives};
 ghost use Rattle.fill_doubt.specs.Known.{AreKnown};
 ghost use Rattle.fill_doubt.specs.Read.{IsReadIn};
+ghost use Rattle.fill_doubt.specs.Shapes.{IsShapeOf, ShapesStand};
 
 use crate::answers::{Pieces, Positions};
-use crate::cuts::Cuts;
+use crate::carry::carry;
 use crate::known::Known;
 use crate::read::Read;
 use crate::row::OnRow;
+use crate::shaped::Shaped;
+use crate::shapes::Shapes;
+use crate::spots::Spots;
 use fill_arena::{Arena, PlaceSet};
 use fill_eval::Piece;
+use fill_shapes::laws::values_are_stretched;
 use fill_text::{NoMemory, Text};
-use fill_tokens::Place;
 use std::alloc::Global;
 
-/// Positions of the set's places in the text: two answers where few will do, and else all of them. They are found once for
-/// the row.
+/// Positions of the set's places in the text: two answers where few will do, and else all of them. What they take is found
+/// once for all texts of a shape.
 pub(crate) fn positions_of<'a>(
     on: &OnRow<'a>,
     known: &mut Known<'a>,
@@ -37,7 +38,33 @@ pub(crate) fn positions_of<'a>(
     ensures all { IfOk result (λ found. few ≡ false → (o : Option ℕ) → PlaceGives on.now.arena.now s text.now o → PositionsHave found o) }
 {
     let n = known.number_of(on.alloc, text)?;
-    read_positions(on.alloc, on.arena, s, few, &mut known.reads[n])
+    shape_positions(
+        on.alloc,
+        on.arena,
+        s,
+        few,
+        &known.texts[n],
+        &mut known.shapes,
+    )
+}
+
+fn shape_positions(
+    alloc: Global,
+    arena: &Arena,
+    s: PlaceSet,
+    few: bool,
+    shaped: &Shaped,
+    shapes: &mut Shapes,
+) -> Result<Positions, NoMemory>
+    requires set { IsPlaceSet arena.now s }
+    requires shape { IsShapeOf shaped.now }
+    requires stand { ShapesStand arena.now shapes.old }
+    ensures stand { OnOk result (ShapesStand arena.now shapes.new) }
+    ensures sound { IfOk result (λ found. (o : Option ℕ) → PositionsHave found o → PlaceGives arena.now s shaped.now.text.now o) }
+    ensures all { IfOk result (λ found. few ≡ false → (o : Option ℕ) → PlaceGives arena.now s shaped.now.text.now o → PositionsHave found o) }
+{
+    let n = shapes.number_of(alloc, shaped.number, &shaped.shape.text)?;
+    read_positions(alloc, arena, s, few, shaped, &mut shapes.reads[n])
 }
 
 fn read_positions(
@@ -45,78 +72,25 @@ fn read_positions(
     arena: &Arena,
     s: PlaceSet,
     few: bool,
+    shaped: &Shaped,
     read: &mut Read,
 ) -> Result<Positions, NoMemory>
     requires set { IsPlaceSet arena.now s }
+    requires shape { IsShapeOf shaped.now }
+    requires text { read.old.text ≡ shaped.now.shape.text }
     requires read { IsReadIn arena.now read.old }
     ensures read { OnOk result (IsReadIn arena.now read.new) }
-    ensures sound { IfOk result (λ found. (o : Option ℕ) → PositionsHave found o → PlaceGives arena.now s read.old.text.now o) }
-    ensures all { IfOk result (λ found. few ≡ false → (o : Option ℕ) → PlaceGives arena.now s read.old.text.now o → PositionsHave found o) }
+    ensures sound { IfOk result (λ found. (o : Option ℕ) → PositionsHave found o → PlaceGives arena.now s shaped.now.text.now o) }
+    ensures all { IfOk result (λ found. few ≡ false → (o : Option ℕ) → PlaceGives arena.now s shaped.now.text.now o → PositionsHave found o) }
 {
-    if let Some(found) = read.position(s) {
-        return found.copy(alloc);
+    values_are_stretched();
+    if let Some(spots) = read.spots_of(s) {
+        return carry(alloc, spots, shaped, few);
     }
-    let mut found = Positions::new(alloc);
-    if !scan_places(alloc, arena, s, read.text, few, &mut read.cuts, &mut found)? {
-        return Ok(found);
-    }
-    read.keep_position(s, found.copy(alloc)?)?;
+    let spots = Spots::of(alloc, arena, s, &read.text, &mut read.cuts)?;
+    let found = carry(alloc, &spots, shaped, few)?;
+    read.keep(s, spots)?;
     Ok(found)
-}
-
-fn may_stop(few: bool, found: &Positions) -> bool
-    ensures { few ≡ false → result ≡ false }
-{
-    few && found.are_several()
-}
-
-/// Puts the positions of the places to the answers; where few will do, only until there are two. It tells whether it looked
-/// at all places.
-fn scan_places(
-    alloc: Global,
-    arena: &Arena,
-    s: PlaceSet,
-    text: &Text,
-    few: bool,
-    cuts: &mut Cuts,
-    found: &mut Positions,
-) -> Result<bool, NoMemory>
-    requires set { IsPlaceSet arena.now s }
-    requires cuts { AreCutsOf text.now cuts.old }
-    requires none { (o : Option ℕ) → ¬ (PositionsHave found.old o) }
-    ensures cuts { OnOk result (AreCutsOf text.now cuts.new) }
-    ensures sound { OnOk result ((o : Option ℕ) → PositionsHave found.new o → PlaceGives arena.now s text.now o) }
-    ensures all { IfOk result (λ all. IsTrue all → (o : Option ℕ) → PlaceGives arena.now s text.now o → PositionsHave found.new o) }
-    ensures whole { IfOk result (λ all. few ≡ false → IsTrue all) }
-{
-    let places = arena.places(s);
-    for i in 0..places.len() {
-        if may_stop(few, found) {
-            return Ok(false);
-        }
-        put_place(alloc, found, cuts, &places[i], text)?;
-    }
-    Ok(true)
-}
-
-fn put_place(
-    alloc: Global,
-    found: &mut Positions,
-    cuts: &mut Cuts,
-    place: &Place,
-    text: &Text,
-) -> Result<(), NoMemory>
-    requires { AreCutsOf text.now cuts.old }
-    ensures kept { OnOk result (AreCutsOf text.now cuts.new) }
-    ensures gains { OnOk result (Gains (PositionsHave found.old) (PositionsHave found.new) (IsValue (HasValue place.now text.now))) }
-{
-    match cuts.value_of(alloc, place, text)? {
-        Some(position) => found.put(position),
-        None => {
-            found.none = true;
-            Ok(())
-        }
-    }
 }
 
 /// Whether a left place without a value goes with some right one, or the other way round.

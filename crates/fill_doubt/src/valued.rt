@@ -21,7 +21,8 @@ pub(crate) fn has_value<'a>(
     requires edges { AreEdgesOn on.now nodes edges.now }
     requires row { IsOnRow on.now }
     requires known { AreKnown on.now known.old }
-    ensures { IfOk result (λ b. IsTrue b ↔ ((t : Items ℕ) × Reads (EdgeAnswers on.now) edges.now 0 (nodes - 1) (Some t))) }
+    ensures known { OnOk result (AreKnown on.now known.new) }
+    ensures answer { IfOk result (λ b. IsTrue b ↔ ((t : Items ℕ) × Reads (EdgeAnswers on.now) edges.now 0 (nodes - 1) (Some t))) }
 {
     let mut marks = first_mark(on.alloc, nodes)?;
     for i in 0..edges.len() {

@@ -46,8 +46,8 @@ follow_edge-requires-clause-laid c =
     let at = here c.args.edges.now c.loop-i.i x c.loop-i-test.true c.index-edges-i.is in
     (c.args.edges.now, (c.loop-i.i, at), rw c.as_mut_slice.ensures.value c.loop-i.invariant.laid)
 
-pub returns-then-not-branch : goal.returns-then-not-branch
-returns-then-not-branch c =
+pub returns-then-not-branch-clause-answer : goal.returns-then-not-branch-clause-answer
+returns-then-not-branch-clause-answer c =
     let G = EdgeAnswers c.args.on.now in
     let edges = c.args.edges.now in
     let text = c.args.text.now in
@@ -83,8 +83,8 @@ loop-i-preserved c =
       all = subst (λ (ls : List (Option ℕ)). AllAgree G edges text ls (c.loop-i.i + 1)) (sym is) all;
     }
 
-pub returns : goal.returns
-returns c =
+pub returns-clause-answer : goal.returns-clause-answer
+returns-clause-answer c =
     let G = EdgeAnswers c.args.on.now in
     let edges = c.args.edges.now in
     let e : c.loop-i.i ≡ length edges = (let a = c.loop-i.auto.i-end in let b = c.loop-i-test.false in omega arith) in

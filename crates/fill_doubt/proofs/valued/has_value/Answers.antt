@@ -43,8 +43,8 @@ loop-i-preserved c =
       marks = subst (λ (ms : List Bool). AreMarks G edges ms (c.loop-i.i + 1)) (sym is) more;
     }
 
-pub returns : goal.returns
-returns c =
+pub returns-clause-answer : goal.returns-clause-answer
+returns-clause-answer c =
     let G = EdgeAnswers c.args.on.now in
     let edges = c.args.edges.now in
     let items = c.loop-i.marks.items in

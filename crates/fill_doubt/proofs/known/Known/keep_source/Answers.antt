@@ -11,5 +11,6 @@ returns-in-Ok c on known exact =
     record {
       sources = put_right (λ q. get nat_eq c.args.self.now.sources q) (λ q. get nat_eq c.insert.new.self q) (λ q f. (o : Option (List ℕ)) → TextsHave f o ↔ SourceAnswers on q o) c.args.s c.args.found u.1 u.2 known.sources exact;
       parts = known.parts;
-      reads = known.reads;
+      texts = known.texts;
+      shapes = known.shapes;
     }

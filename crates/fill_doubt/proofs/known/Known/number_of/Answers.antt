@@ -1,18 +1,23 @@
-use Rattle.std.proofs.Common.{◌≡◌, length, arith}
-use Rattle.fill_doubt.specs.Read.{IsReadIn}
+use Rattle.std.proofs.Common.{◌≡◌, length, refl, arith}
+use Rattle.fill_doubt.specs.Shapes.{IsShapeOf}
+use Rattle.fill_doubt.specs.declared.shaped.Shaped.{Shaped}
 use Rattle.fill_doubt.proofs.Cut.{last_at}
 use Rattle.fill_doubt.proofs.Maps.{pushed_right}
 use Rattle.fill_doubt.proofs.known.Known.number_of.Goals as goal
 
 pub returns-clause-known : goal.returns-clause-known
-returns-clause-known c = λ on are. record {
-  sources = are.sources;
-  parts = are.parts;
-  reads = pushed_right (IsReadIn on.arena.now) c.args.self.now.reads.items c.put_read.new.reads.items c.in_ok-read.read c.in_ok-put_read.ensures (c.in_ok-read.ensures.right on.arena.now) are.reads;
-}
+returns-clause-known c = λ on are.
+    let x : Shaped = record { text = c.args.text; shape = c.in_ok-shape.shape; number = c.in_ok-number.number } in
+    record {
+      sources = are.sources;
+      parts = are.parts;
+      texts = pushed_right IsShapeOf c.args.self.now.texts.items c.put_text.new.texts.items x c.in_ok-put_text.ensures c.in_ok-shape.ensures are.texts;
+      shapes = c.in_ok-number.ensures.stand on.arena.now are.shapes;
+    }
 
 pub returns-clause-there : goal.returns-clause-there
 returns-clause-there c =
-    let xs = c.args.self.now.reads in
+    let xs = c.args.self.now.texts in
+    let x : Shaped = record { text = c.args.text; shape = c.in_ok-shape.shape; number = c.in_ok-number.number } in
     let n : c.len-n.result ≡ length xs.items = (let l = xs.ok.0 in let e = c.len-n.ensures in omega arith) in
-    (c.in_ok-read.read, last_at xs.items c.put_read.new.reads.items c.in_ok-read.read c.len-n.result c.in_ok-put_read.ensures n, c.in_ok-read.ensures.text)
+    (x, last_at xs.items c.put_text.new.texts.items x c.len-n.result c.in_ok-put_text.ensures n, refl)

@@ -1,0 +1,93 @@
+//! What was found in the shape of a text, carried over to the text.
+ghost use Rattle.std.specs.Prelude.{◌≡◌, ◌⊎◌, ◌<◌, ◌≤◌, ℕ, Option, Some, false, length, slice_get, IfOk, OnOk};
+ghost use Rattle.fill_arena.specs.Contents.{EachIn, SomeIn};
+ghost use Rattle.fill_tokens.specs.Value.{HasValue};
+ghost use Rattle.fill_tree.specs.Value.{IsValue};
+ghost use Rattle.fill_doubt.specs.Answers.{Gains, GainsSome, PositionsHave};
+ghost use Rattle.fill_doubt.specs.Shapes.{AreAsked, AreCarried};
+
+use crate::answers::Positions;
+use crate::shaped::Shaped;
+use crate::spots::Spots;
+use fill_text::{NoMemory, Text};
+use fill_tokens::{Place, place_value};
+use std::alloc::Global;
+
+/// The positions of the set's places in the text: two answers where few will do, and else all of them.
+pub(crate) fn carry(
+    alloc: Global,
+    spots: &Spots,
+    shaped: &Shaped,
+    few: bool,
+) -> Result<Positions, NoMemory>
+    requires { EachIn (λ i. i < length shaped.now.shape.bounds.items) spots.now.shaped.positions.items }
+    ensures sound { IfOk result (λ found. (o : Option ℕ) → PositionsHave found o →
+        AreCarried shaped.now.shape.bounds.items (PositionsHave spots.now.shaped) o ⊎ AreAsked shaped.now.text.now spots.now.others.items o) }
+    ensures all { IfOk result (λ found. few ≡ false → (o : Option ℕ) →
+        AreCarried shaped.now.shape.bounds.items (PositionsHave spots.now.shaped) o ⊎ AreAsked shaped.now.text.now spots.now.others.items o → PositionsHave found o) }
+{
+    let mut found = Positions::new(alloc);
+    found.put_none(spots.shaped.none);
+    let positions = spots.shaped.positions.as_slice();
+    put_bounds(&mut found, positions, shaped.shape.bounds.as_slice(), few)?;
+    put_asked(&mut found, spots.others.as_slice(), shaped.text, few)?;
+    Ok(found)
+}
+
+fn may_stop(few: bool, found: &Positions) -> bool
+    ensures { few ≡ false → result ≡ false }
+{
+    few && found.are_several()
+}
+
+/// Puts what the positions are in the text.
+fn put_bounds(
+    found: &mut Positions,
+    positions: &[usize],
+    bounds: &[usize],
+    few: bool,
+) -> Result<(), NoMemory>
+    requires { EachIn (λ i. i < length bounds.now) positions.now }
+    ensures some { OnOk result (GainsSome (PositionsHave found.old) (PositionsHave found.new) (λ o. SomeIn (λ i. o ≡ slice_get bounds.now i) positions.now)) }
+    ensures all { OnOk result (few ≡ false → Gains (PositionsHave found.old) (PositionsHave found.new) (λ o. SomeIn (λ i. o ≡ slice_get bounds.now i) positions.now)) }
+{
+    for i in 0..positions.len() {
+        if may_stop(few, found) {
+            return Ok(());
+        }
+        put_bound(found, bounds, positions[i])?;
+    }
+    Ok(())
+}
+
+fn put_bound(found: &mut Positions, bounds: &[usize], i: usize) -> Result<(), NoMemory>
+    requires { i < length bounds.now }
+    ensures { OnOk result (Gains (PositionsHave found.old) (PositionsHave found.new) (λ o. o ≡ slice_get bounds.now i)) }
+{
+    found.put(bounds[i])
+}
+
+/// Puts the values of the places in the text.
+fn put_asked(
+    found: &mut Positions,
+    places: &[Place],
+    text: &Text,
+    few: bool,
+) -> Result<(), NoMemory>
+    ensures some { OnOk result (GainsSome (PositionsHave found.old) (PositionsHave found.new) (AreAsked text.now places.now)) }
+    ensures all { OnOk result (few ≡ false → Gains (PositionsHave found.old) (PositionsHave found.new) (AreAsked text.now places.now)) }
+{
+    for i in 0..places.len() {
+        if may_stop(few, found) {
+            return Ok(());
+        }
+        put_value(found, &places[i], text)?;
+    }
+    Ok(())
+}
+
+fn put_value(found: &mut Positions, place: &Place, text: &Text) -> Result<(), NoMemory>
+    ensures { OnOk result (Gains (PositionsHave found.old) (PositionsHave found.new) (IsValue (HasValue place.now text.now))) }
+{
+    found.put_answer(place_value(place, text))
+}

@@ -1,0 +1,11 @@
+//! A text of the row with its shape.
+use fill_shapes::Shape;
+use fill_text::Text;
+
+/// A text, its shape, and the number that what was found of the shape had when it was sought last.
+#[derive(Drop)]
+pub(crate) struct Shaped<'a> {
+    pub(crate) text: &'a Text,
+    pub(crate) shape: Shape,
+    pub(crate) number: usize,
+}

@@ -1,0 +1,98 @@
+//! What was found of the shapes of texts, kept from row to row.
+ghost use Rattle.std.specs.Prelude.{◌≡◌, ◌++◌, ◌∷◌, [], ℕ, List as Items, IsTrue, IfOk, IfSome, OnOk};
+ghost use Rattle.fill_arena.specs.declared.entry.Entry.{Entry as Kept};
+ghost use Rattle.fill_doubt.specs.Shapes.{IsReadAt, ShapesStand};
+
+use crate::read::Read;
+use fill_text::{NoMemory, Text};
+use std::alloc::Global;
+
+/// So many shapes are kept. Where there are more all are forgotten, so that memory stays bounded and a search short.
+const MOST: usize = 128;
+
+/// What was found of the shapes of texts, kept from row to row. It is of one arena: what was found of a set is used
+/// wherever the set is asked for again.
+#[derive(Drop)]
+pub struct Shapes {
+    pub(crate) reads: Vec<Read>,
+}
+
+impl Shapes {
+    /// Where nothing was found yet. This takes no memory.
+    pub fn new(alloc: Global) -> Shapes
+        ensures { (c : Items Kept) → ShapesStand c result }
+    {
+        Shapes {
+            reads: Vec::new(alloc),
+        }
+    }
+
+    /// Whether the shape with this text is the one of the number.
+    fn is_at(&self, n: usize, w: &Text) -> bool
+        ensures { IsTrue result → IsReadAt self.now w.now n }
+    {
+        if n >= self.reads.len() {
+            return false;
+        }
+        self.reads[n].text.same(w)
+    }
+
+    fn find(&self, w: &Text) -> Option<usize>
+        ensures { IfSome result (IsReadAt self.now w.now) }
+    {
+        for i in 0..self.reads.len() {
+            if self.is_at(i, w) {
+                return Some(i);
+            }
+        }
+        None
+    }
+
+    /// The number of the shape with this text, which it may have had before.
+    pub(crate) fn number_of(
+        &mut self,
+        alloc: Global,
+        before: usize,
+        w: &Text,
+    ) -> Result<usize, NoMemory>
+        ensures stand { OnOk result ((c : Items Kept) → ShapesStand c self.old → ShapesStand c self.new) }
+        ensures there { IfOk result (IsReadAt self.new w.now) }
+    {
+        if self.is_at(before, w) {
+            return Ok(before);
+        }
+        if let Some(n) = self.find(w) {
+            return Ok(n);
+        }
+        self.add(alloc, w)
+    }
+
+    fn add(&mut self, alloc: Global, w: &Text) -> Result<usize, NoMemory>
+        ensures stand { OnOk result ((c : Items Kept) → ShapesStand c self.old → ShapesStand c self.new) }
+        ensures there { IfOk result (IsReadAt self.new w.now) }
+    {
+        let read = Read::new(alloc, w.copy()?)?;
+        self.make_room(alloc);
+        let n = self.reads.len();
+        put_read(&mut self.reads, read)?;
+        Ok(n)
+    }
+
+    fn make_room(&mut self, alloc: Global)
+        ensures { (c : Items Kept) → ShapesStand c self.old → ShapesStand c self.new }
+    {
+        if self.reads.len() < MOST {
+            return;
+        }
+        self.reads = Vec::new(alloc);
+    }
+}
+
+fn put_read(reads: &mut Vec<Read>, read: Read) -> Result<(), NoMemory>
+    ensures { OnOk result (reads.new.items ≡ reads.old.items ++ read ∷ []) }
+{
+    match reads.push(read) {
+        Ok(()) => Ok(()),
+        Err(_) => Err(NoMemory),
+    }
+}
