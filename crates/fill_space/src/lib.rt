@@ -12,6 +12,7 @@ mod met;
 mod space;
 mod spaces;
 
+pub use fill_doubt::Shapes;
 pub use ground::Ground;
 pub use space::Space;
 pub use spaces::Spaces;

@@ -6,6 +6,7 @@ ghost use Rattle.fill_arena.specs.Named.{IsNamed};
 ghost use Rattle.fill_tree.specs.Grammar.{AreSettings};
 ghost use Rattle.fill_tree.specs.Meaning.{program_tree};
 ghost use Rattle.fill_tree.specs.declared.user.Example.{Example};
+ghost use Rattle.fill_doubt.specs.Shapes.{ShapesStand};
 ghost use Rattle.fill_space.specs.Doubt.{IsDoubtful};
 ghost use Rattle.fill_space.specs.Ground.{ChosenOn, ExplainsOn};
 ghost use Rattle.fill_space.specs.Spaces.{SpaceStands, Succeeds, no_spaces};
@@ -14,6 +15,7 @@ use crate::ground::Ground;
 use crate::met::Met;
 use crate::space::{Space, graphs_of, put_graphs};
 use fill_arena::{Arena, GraphId};
+use fill_doubt::Shapes;
 use fill_sheet::Sheet;
 use fill_tables::Tables;
 use fill_text::NoMemory;
@@ -120,9 +122,29 @@ impl Spaces {
         requires last { row ≤ length self.now.ground.sheet.rows }
         ensures { IfOk result (λ b. (l : List Example) → SpaceStands self.now s l → IsTrue b ↔ IsDoubtful self.now.ground l row) }
     {
+        let mut shapes = Shapes::new(alloc);
+        self.doubt_with(alloc, &mut shapes, s, row)
+    }
+
+    /// As [`Spaces::doubt`], with what was found of the shapes of texts before, for any of these spaces and any row.
+    pub fn doubt_with(
+        &self,
+        alloc: Global,
+        shapes: &mut Shapes,
+        s: Space,
+        row: u32,
+    ) -> Result<bool, NoMemory>
+        requires stands { (l : List Example) × SpaceStands self.now s l }
+        requires first { 1 ≤ row }
+        requires last { row ≤ length self.now.ground.sheet.rows }
+        requires shapes { ShapesStand self.now.arena shapes.old }
+        ensures shapes { ShapesStand self.now.arena shapes.new }
+        ensures flag { IfOk result (λ b. (l : List Example) → SpaceStands self.now s l → IsTrue b ↔ IsDoubtful self.now.ground l row) }
+    {
         let ground = &self.ground;
-        fill_doubt::doubt(
+        fill_doubt::doubt_with(
             alloc,
+            shapes,
             &self.arena,
             s.graph(),
             row,
