@@ -5,6 +5,7 @@ ghost use Rattle.fill_split.specs.Standing.{rule_of};
 ghost use Rattle.fill_tree.specs.Guard.{ReadsInputs};
 ghost use Rattle.fill_tree.specs.Switch.{case_tree, switch_tree};
 ghost use Rattle.fill_tree.specs.declared.user.Example.{Example};
+ghost use Rattle.fill_doubt.specs.Shapes.{ShapesStand};
 ghost use Rattle.fill_space.specs.Spaces.{SpaceStands};
 ghost use Rattle.fill_session.specs.Answers.{AnswerIs, StateIs, TakesRow, cases_of, switch_of};
 ghost use Rattle.fill_session.specs.Branches.{rule_of_profile, BranchData};
@@ -16,7 +17,7 @@ use crate::branch::Branch;
 use crate::reasons::is_given;
 use fill_eval::{guard_holds, program_value};
 use fill_sheet::Sheet;
-use fill_space::{Space, Spaces};
+use fill_space::{Shapes, Space, Spaces};
 use fill_split::Folds;
 use fill_text::{List, NoMemory};
 use fill_tree::{Case, Example, Guard, Switch};
@@ -25,6 +26,7 @@ use std::alloc::Global;
 /// The answer on a row of the branches that are shown for the examples.
 pub(crate) fn answer_on(
     alloc: Global,
+    shapes: &mut Shapes,
     spaces: &Spaces,
     examples: &[Example],
     shown: &[Branch],
@@ -36,14 +38,16 @@ pub(crate) fn answer_on(
     requires shown { AreShown spaces.now.ground examples.now shown.now }
     requires first { 1 ≤ row }
     requires last { row ≤ length spaces.now.ground.sheet.rows }
-    ensures { IfOk result (AnswerIs spaces.now.ground examples.now row) }
+    requires shapes { ShapesStand spaces.now.arena shapes.old }
+    ensures shapes { ShapesStand spaces.now.arena shapes.new }
+    ensures answer { IfOk result (AnswerIs spaces.now.ground examples.now row) }
 {
     let folds = folds.branches();
     match first_taker(spaces.sheet(), shown, row) {
         Some(k) => {
             let program = &shown[k].program;
             let text = program_value(alloc, program, row, spaces.sheet(), spaces.tables())?;
-            let state = state_of(alloc, spaces, examples, folds[k].kept, row)?;
+            let state = state_of(alloc, shapes, spaces, examples, folds[k].kept, row)?;
             Ok(Answer {
                 branch: k as u32 + 1,
                 text,
@@ -89,6 +93,7 @@ fn takes(sheet: &Sheet, guard: Option<Guard>, row: u32) -> bool
 /// What is known of the answer on a row of the branch of this space.
 fn state_of(
     alloc: Global,
+    shapes: &mut Shapes,
     spaces: &Spaces,
     examples: &[Example],
     space: Space,
@@ -97,12 +102,14 @@ fn state_of(
     requires stands { (list : Listed Example) × SpaceStands spaces.now space list }
     requires first { 1 ≤ row }
     requires last { row ≤ length spaces.now.ground.sheet.rows }
-    ensures { IfOk result (λ state. (list : Listed Example) → SpaceStands spaces.now space list → StateIs spaces.now.ground examples.now list row state) }
+    requires shapes { ShapesStand spaces.now.arena shapes.old }
+    ensures shapes { ShapesStand spaces.now.arena shapes.new }
+    ensures state { IfOk result (λ state. (list : Listed Example) → SpaceStands spaces.now space list → StateIs spaces.now.ground examples.now list row state) }
 {
     if is_given(examples, row) {
         return Ok(State::Given);
     }
-    if spaces.doubt(alloc, space, row)? {
+    if spaces.doubt_with(alloc, shapes, space, row)? {
         Ok(State::Doubt)
     } else {
         Ok(State::Sure)

@@ -20,6 +20,7 @@ mod session;
 pub use answer::{Answer, State};
 pub use branch::Branch;
 pub use error::{EditError, Part};
+pub use fill_space::Shapes;
 pub use session::Session;
 
 #[cfg(test)]

@@ -4,6 +4,7 @@ ghost use Rattle.fill_tree.specs.Grammar.{AreSettings};
 ghost use Rattle.fill_tree.specs.Meaning.{program_tree};
 ghost use Rattle.fill_tree.specs.Switch.{switch_tree};
 ghost use Rattle.fill_tree.specs.declared.user.Example.{Example};
+ghost use Rattle.fill_doubt.specs.Shapes.{ShapesStand};
 ghost use Rattle.fill_space.specs.Ground.{ExplainsOn, MayStand};
 ghost use Rattle.fill_space.specs.Spaces.{SpaceStands};
 ghost use Rattle.fill_session.specs.Answers.{AnswerIs, switch_of};
@@ -21,7 +22,7 @@ use crate::reasons::first_reason;
 use crate::{Answer, Branch, EditError};
 use fill_edge::{Ledger, Steps};
 use fill_sheet::Sheet;
-use fill_space::{Space, Spaces};
+use fill_space::{Shapes, Space, Spaces};
 use fill_tables::Tables;
 use fill_text::{List, NoMemory};
 use fill_tree::{Edit, Example, Program, Settings, Switch};
@@ -162,9 +163,27 @@ impl Session {
         requires last { row ≤ length self.now.spaces.ground.sheet.rows }
         ensures { IfOk result (AnswerIs self.now.spaces.ground self.now.examples row) }
     {
+        let mut shapes = Shapes::new(alloc);
+        self.answer_with(alloc, &mut shapes, row)
+    }
+
+    /// As [`Session::answer`], with what was found of the shapes of texts before, as long as the session stays as it is.
+    pub fn answer_with(
+        &self,
+        alloc: Global,
+        shapes: &mut Shapes,
+        row: u32,
+    ) -> Result<Answer, NoMemory>
+        requires first { 1 ≤ row }
+        requires last { row ≤ length self.now.spaces.ground.sheet.rows }
+        requires shapes { ShapesStand self.now.spaces.arena shapes.old }
+        ensures shapes { ShapesStand self.now.spaces.arena shapes.new }
+        ensures answer { IfOk result (AnswerIs self.now.spaces.ground self.now.examples row) }
+    {
         let present = &self.present;
         answer_on(
             alloc,
+            shapes,
             &self.spaces,
             present.examples.as_slice(),
             present.branches.as_slice(),

@@ -2,7 +2,7 @@
 ghost use Rattle.std.specs.Prelude.{◌≡◌, ◌≤◌};
 ghost use Rattle.fill_tree.specs.Grammar.{AreSettings};
 
-use crate::{EditError, Session, State};
+use crate::{Answer, EditError, Session, Shapes, State};
 use fill_edge::{Ledger, Steps};
 use fill_sheet::Sheet;
 use fill_tables::Tables;
@@ -137,14 +137,24 @@ fn is_text(alloc: Global, text: &Option<Text>, wanted: Option<&str>) -> Result<b
     }
 }
 
-/// Whether a row has the answer that it is to have.
+/// Whether the answer is the one that a row is to have.
+fn is_wanted(alloc: Global, answer: &Answer, wanted: &Wanted) -> Result<bool, Fail> {
+    let same = is_text(alloc, &answer.text, wanted.text)?;
+    Ok(same && answer.branch == wanted.branch && answer.state == wanted.state)
+}
+
+/// Whether a row has the answer that it is to have, and has it again where the shapes of its texts are known.
 fn answers(alloc: Global, session: &Session, wanted: &Wanted) -> Result<bool, Fail> {
     if wanted.row < 1 || session.sheet().rows() < wanted.row {
         return Ok(false);
     }
-    let answer = session.answer(alloc, wanted.row)?;
-    let same = is_text(alloc, &answer.text, wanted.text)?;
-    Ok(same && answer.branch == wanted.branch && answer.state == wanted.state)
+    let mut shapes = Shapes::new(alloc);
+    let answer = session.answer_with(alloc, &mut shapes, wanted.row)?;
+    if !is_wanted(alloc, &answer, wanted)? {
+        return Ok(false);
+    }
+    let again = session.answer_with(alloc, &mut shapes, wanted.row)?;
+    is_wanted(alloc, &again, wanted)
 }
 
 /// Whether all these rows do.

@@ -61,8 +61,8 @@ overflow_add-result c =
     c.requires.stand c.requires.rule c.requires.shown c.branches-folds.ensures c.in-Some.ensures in
     search rules
 
-pub returns-in_ok-state-in-Some : goal.returns-in_ok-state-in-Some
-returns-in_ok-state-in-Some c =
+pub returns-in_ok-state-in-Some-clause-answer : goal.returns-in_ok-state-in-Some-clause-answer
+returns-in_ok-state-in-Some-clause-answer c =
     let ground = c.args.spaces.now.ground in
     let k : ℕ = c.in-Some.k in
     let first : IsFirstTaker ground.sheet c.args.row c.args.shown.now k = subst (λ sheet. IsFirstTaker sheet c.args.row c.args.shown.now k) c.sheet.ensures c.in-Some.ensures in
@@ -72,11 +72,11 @@ returns-in_ok-state-in-Some c =
     (subst (λ (tables : List TableData). IsValue (ProgramIs ground.sheet tables c.args.row (program_tree (get_or c.args.shown.now k c.index-shown-k.result).program)) c.in_ok-text-in-Some.text) c.tables.ensures
     (subst (λ (sheet : SheetData). IsValue (ProgramIs sheet c.tables.result.now c.args.row (program_tree (get_or c.args.shown.now k c.index-shown-k.result).program)) c.in_ok-text-in-Some.text) c.sheet-in-Some.ensures
     c.in_ok-text-in-Some.ensures)))
-    (λ list at. c.in_ok-state-in-Some.ensures list
+    (λ list at. c.in_ok-state-in-Some.ensures.state list
     (fold_stands c.args.spaces.now c.args.examples.now c.args.shown.now c.args.folds.now c.branches-folds.result.now c.sheet.result.now c.args.row k
     c.requires.stand c.requires.rule c.requires.shown c.branches-folds.ensures c.in-Some.ensures c.index-folds-k.result list at))
 
-pub returns-in-None : goal.returns-in-None
-returns-in-None c =
+pub returns-in-None-clause-answer : goal.returns-in-None-clause-answer
+returns-in-None-clause-answer c =
     let ground = c.args.spaces.now.ground in
     answer_none ground c.args.examples.now c.args.shown.now c.args.row c.requires.shown (subst (λ sheet. NoneTakes sheet c.args.row c.args.shown.now) c.sheet.ensures c.in-None.ensures)
