@@ -12,142 +12,200 @@ fn text(alloc: Global, characters: &str) -> Result<Text, Fail> {
     Ok(Text::from_utf8(alloc, characters.as_bytes())?)
 }
 
-fn constant(alloc: Global, characters: &str) -> Result<Atom, Fail> {
-    Ok(Atom::Const(text(alloc, characters)?))
+/// An atom in a few words.
+#[derive(Clone, Copy)]
+enum Part<'a> {
+    Constant(&'a str),
+    Column(u32),
+    /// The piece of the first column between two counted positions.
+    Piece(i32, i32),
+    /// The piece of the first column between its first and its last hyphen.
+    Number,
 }
 
-/// The piece of the first column between two counted positions.
-fn piece(from: i32, to: i32) -> Atom {
-    Atom::Sub(Source::Col(1), Place::CPos(from), Place::CPos(to))
+fn piece(from: Place, to: Place) -> Atom {
+    Atom::Sub(Source::Col(1), from, to)
 }
 
-/// A lookup of a column by the numbers of a table and a key.
-fn lookup(
-    alloc: Global,
-    (column, table, key): (u32, u32, u32),
-    conditions: List<Atom>,
-) -> Result<Source, Fail> {
-    let select = Select {
-        column,
-        table,
-        key,
-        conditions,
-    };
-    Ok(Source::Select(Box::new(alloc, select)?))
+fn atom_of(alloc: Global, part: Part) -> Result<Atom, Fail> {
+    match part {
+        Part::Constant(characters) => Ok(Atom::Const(text(alloc, characters)?)),
+        Part::Column(column) => Ok(Atom::Whole(Source::Col(column))),
+        Part::Piece(from, to) => Ok(piece(Place::CPos(from), Place::CPos(to))),
+        Part::Number => Ok(piece(
+            Place::Pos(Seq::one(Hyphen), Seq::empty(), 1),
+            Place::Pos(Seq::empty(), Seq::one(Hyphen), -1),
+        )),
+    }
 }
 
-fn one(alloc: Global, a: Atom) -> Result<List<Atom>, Fail> {
+fn atoms_of(alloc: Global, parts: &[Part]) -> Result<List<Atom>, Fail> {
     let mut atoms = List::new(alloc);
-    atoms.push(a)?;
-    Ok(atoms)
-}
-
-fn two(alloc: Global, a: Atom, b: Atom) -> Result<List<Atom>, Fail> {
-    let mut atoms = one(alloc, a)?;
-    atoms.push(b)?;
+    for i in 0..parts.len() {
+        atoms.push(atom_of(alloc, parts[i])?)?;
+    }
     Ok(atoms)
 }
 
 /// Three tables: months by number, prices by item and year, and which month an item is of.
 fn tables(alloc: Global) -> Result<Tables, Fail> {
     let mut tables = Tables::new(alloc);
-    tables.add_table("months", b"01,January\n02,February\n03,March\n")?;
-    tables.add_key("months", &[1])?;
-    tables.add_table(
-        "prices",
-        b"pen,2011,$1\npen,2012,$2\ncup,2011,$5\ncup,2012,$7\n,2012,$9\n",
-    )?;
-    tables.add_key("prices", &[1, 2])?;
-    tables.add_table("items", b"pen,03\ncup,02\nmug,13\njar,\n")?;
-    tables.add_key("items", &[1])?;
+    add_by_first(&mut tables, "months", "01,January\n02,February\n03,March\n")?;
+    add_prices(&mut tables)?;
+    add_by_first(&mut tables, "items", "pen,03\ncup,02\nmug,13\njar,\n")?;
     Ok(tables)
 }
 
-/// What the program of these atoms gives on the first row of a sheet of this one cell; `None!` where it has no value.
-fn given(alloc: Global, cell: &str, atoms: List<Atom>) -> Result<Text, Fail> {
-    let sheet = Sheet::read(alloc, cell.as_bytes(), false, &[1], None)?;
-    let program = Program { atoms };
+/// Adds a table with its first column as its key.
+fn add_by_first(tables: &mut Tables, name: &str, lines: &str) -> Result<(), Fail> {
+    tables.add_table(name, lines.as_bytes())?;
+    tables.add_key(name, &[1])?;
+    Ok(())
+}
+
+fn add_prices(tables: &mut Tables) -> Result<(), Fail> {
+    let lines = "pen,2011,$1\npen,2012,$2\ncup,2011,$5\ncup,2012,$7\n,2012,$9\n";
+    tables.add_table("prices", lines.as_bytes())?;
+    tables.add_key("prices", &[1, 2])?;
+    Ok(())
+}
+
+/// Whether a value is there and has these characters, or there is none where `None!` is expected.
+fn is(alloc: Global, value: &Option<Text>, expected: &str) -> Result<bool, Fail> {
+    match value {
+        Some(value) => Ok(value.same(&text(alloc, expected)?)),
+        None => Ok(expected == "None!"),
+    }
+}
+
+/// Whether the program gives this text on the first row.
+fn first_is(
+    alloc: Global,
+    program: &Program,
+    sheet: &Sheet,
+    tables: &Tables,
+    expected: &str,
+) -> Result<bool, Fail> {
     if sheet.rows() == 0 {
-        return text(alloc, "no row");
+        return Ok(false);
     }
-    match program_value(alloc, &program, 1, &sheet, &tables(alloc)?)? {
-        Some(value) => Ok(value),
-        None => text(alloc, "None!"),
-    }
+    let value = program_value(alloc, program, 1, sheet, tables)?;
+    is(alloc, &value, expected)
 }
 
-/// Whether the program of these atoms gives this text.
+/// Whether the program gives this text on a sheet of this one cell.
+fn cell_gives(alloc: Global, cell: &str, program: &Program, expected: &str) -> Result<bool, Fail> {
+    let sheet = Sheet::read(alloc, cell.as_bytes(), false, &[1], None)?;
+    let tables = tables(alloc)?;
+    first_is(alloc, program, &sheet, &tables, expected)
+}
+
+/// Whether the program of these atoms does.
 fn gives(alloc: Global, cell: &str, atoms: List<Atom>, expected: &str) -> Result<bool, Fail> {
-    Ok(given(alloc, cell, atoms)?.same(&text(alloc, expected)?))
-}
-
-fn whole(source: Source) -> Atom {
-    Atom::Whole(source)
+    let program = Program { atoms };
+    cell_gives(alloc, cell, &program, expected)
 }
 
 #[test]
 fn values_without_tables(rt: HostRuntime) -> Result<(), Fail> {
-    let alloc = rt.alloc();
-    assert!(rt; gives(alloc, "abc", one(alloc, whole(Source::Col(1)))?, "abc")?);
-    assert!(rt; gives(alloc, "abc", one(alloc, piece(1, 1))?, "None!")?);
-    assert!(rt; gives(alloc, "abc", one(alloc, piece(2, 1))?, "None!")?);
-    assert!(rt; gives(alloc, "abc", one(alloc, piece(1, 4))?, "None!")?);
-    assert!(rt; gives(alloc, "abc", one(alloc, piece(1, -1))?, "bc")?);
-    assert!(rt; gives(alloc, "abc", one(alloc, constant(alloc, "")?)?, "None!")?);
-    assert!(rt; gives(alloc, "abc", one(alloc, whole(Source::Col(2)))?, "None!")?);
-    assert!(rt; gives(alloc, "\"\"", one(alloc, whole(Source::Col(1)))?, "None!")?);
-    assert!(rt; gives(alloc, "abc", List::new(alloc), "")?);
-    let atoms = two(alloc, piece(0, 2), constant(alloc, "-é")?)?;
-    assert!(rt; gives(alloc, "abc", atoms, "ab-é")?);
-    let atoms = two(alloc, piece(0, 2), piece(3, 3))?;
-    assert!(rt; gives(alloc, "abc", atoms, "None!")?);
+    for (cell, parts, expected) in [
+        ("abc", &[Part::Column(1)][..], "abc"),
+        ("abc", &[Part::Piece(1, 1)], "None!"),
+        ("abc", &[Part::Piece(2, 1)], "None!"),
+        ("abc", &[Part::Piece(1, 4)], "None!"),
+        ("abc", &[Part::Piece(1, -1)], "bc"),
+        ("abc", &[Part::Constant("")], "None!"),
+        ("abc", &[Part::Column(2)], "None!"),
+        ("\"\"", &[Part::Column(1)], "None!"),
+        ("abc", &[], ""),
+        ("abc", &[Part::Piece(0, 2), Part::Constant("-é")], "ab-é"),
+        ("abc", &[Part::Piece(0, 2), Part::Piece(3, 3)], "None!"),
+    ] {
+        let atoms = atoms_of(rt.alloc(), parts)?;
+        assert!(rt; gives(rt.alloc(), cell, atoms, expected)?, "{expected}");
+    }
     Ok(())
 }
 
-/// The month whose number stands between the hyphens of the first column.
-fn month(alloc: Global) -> Result<Atom, Fail> {
-    let number = Atom::Sub(
-        Source::Col(1),
-        Place::Pos(Seq::one(Hyphen), Seq::empty(), 1),
-        Place::Pos(Seq::empty(), Seq::one(Hyphen), -1),
-    );
-    Ok(whole(lookup(alloc, (2, 1, 1), one(alloc, number)?)?))
+/// The numbers of a column, a table and a key.
+type Numbers = (u32, u32, u32);
+
+/// The lookup of what has these numbers.
+fn looked_up(
+    alloc: Global,
+    (column, table, key): Numbers,
+    conditions: List<Atom>,
+) -> Result<List<Atom>, Fail> {
+    let select = Select {
+        column,
+        table,
+        key,
+        conditions,
+    };
+    let select = Box::new(alloc, select)?;
+    let mut atoms = List::new(alloc);
+    atoms.push(Atom::Whole(Source::Select(select)))?;
+    Ok(atoms)
 }
 
-/// The price of the first column's item in a year.
-fn price(alloc: Global, year: &str) -> Result<Atom, Fail> {
-    let conditions = two(alloc, whole(Source::Col(1)), constant(alloc, year)?)?;
-    Ok(whole(lookup(alloc, (3, 2, 1), conditions)?))
+/// Whether the lookup by these conditions gives this text.
+fn lookup_gives(
+    alloc: Global,
+    cell: &str,
+    numbers: Numbers,
+    parts: &[Part],
+    expected: &str,
+) -> Result<bool, Fail> {
+    let conditions = atoms_of(alloc, parts)?;
+    let atoms = looked_up(alloc, numbers, conditions)?;
+    gives(alloc, cell, atoms, expected)
 }
 
-/// The month of the first column's item.
-fn month_of_item(alloc: Global) -> Result<Atom, Fail> {
-    let item = one(alloc, whole(Source::Col(1)))?;
-    let number = whole(lookup(alloc, (2, 3, 1), item)?);
-    Ok(whole(lookup(alloc, (2, 1, 1), one(alloc, number)?)?))
-}
+/// The month whose number the first column has.
+const MONTH: Numbers = (2, 1, 1);
+/// The price of an item in a year.
+const PRICE: Numbers = (3, 2, 1);
 
 #[test]
 fn values_by_tables(rt: HostRuntime) -> Result<(), Fail> {
-    let alloc = rt.alloc();
-    assert!(rt; gives(alloc, "2012-03-11", one(alloc, month(alloc)?)?, "March")?);
-    assert!(rt; gives(alloc, "1999-07-30", one(alloc, month(alloc)?)?, "None!")?);
-    assert!(rt; gives(alloc, "pen", one(alloc, price(alloc, "2012")?)?, "$2")?);
-    assert!(rt; gives(alloc, "cup", one(alloc, price(alloc, "2012")?)?, "$7")?);
-    assert!(rt; gives(alloc, "cup", one(alloc, price(alloc, "2013")?)?, "None!")?);
-    assert!(rt; gives(alloc, "pen", one(alloc, month_of_item(alloc)?)?, "March")?);
-    assert!(rt; gives(alloc, "mug", one(alloc, month_of_item(alloc)?)?, "None!")?);
-    assert!(rt; gives(alloc, "jar", one(alloc, month_of_item(alloc)?)?, "None!")?);
+    let of_year = [Part::Column(1), Part::Constant("2012")];
+    let of_another = [Part::Column(1), Part::Constant("2013")];
     // An empty constant finds the row whose key cell is empty.
-    let conditions = two(alloc, constant(alloc, "")?, constant(alloc, "2012")?)?;
-    let atoms = one(alloc, whole(lookup(alloc, (3, 2, 1), conditions)?))?;
-    assert!(rt; gives(alloc, "pen", atoms, "$9")?);
+    let of_none = [Part::Constant(""), Part::Constant("2012")];
+    for (cell, numbers, parts, expected) in [
+        ("2012-03-11", MONTH, &[Part::Number][..], "March"),
+        ("1999-07-30", MONTH, &[Part::Number], "None!"),
+        ("pen", PRICE, &of_year, "$2"),
+        ("cup", PRICE, &of_year, "$7"),
+        ("cup", PRICE, &of_another, "None!"),
+        ("pen", PRICE, &of_none, "$9"),
+    ] {
+        assert!(rt;
+            lookup_gives(rt.alloc(), cell, numbers, parts, expected)?,
+            "{expected}"
+        );
+    }
+    Ok(())
+}
+
+/// Whether the month of the first column's item is this one.
+fn month_is(alloc: Global, cell: &str, expected: &str) -> Result<bool, Fail> {
+    let item = atoms_of(alloc, &[Part::Column(1)])?;
+    let number = looked_up(alloc, (2, 3, 1), item)?;
+    let atoms = looked_up(alloc, MONTH, number)?;
+    gives(alloc, cell, atoms, expected)
+}
+
+#[test]
+fn values_by_two_tables(rt: HostRuntime) -> Result<(), Fail> {
+    for (cell, expected) in [("pen", "March"), ("mug", "None!"), ("jar", "None!")] {
+        assert!(rt; month_is(rt.alloc(), cell, expected)?, "{cell}");
+    }
     Ok(())
 }
 
 #[test]
 fn numbers_that_do_not_belong_to_the_tables(rt: HostRuntime) -> Result<(), Fail> {
-    let alloc = rt.alloc();
     for (numbers, expected) in [
         ((2, 1, 1), "January"),
         ((1, 1, 1), "01"),
@@ -159,29 +217,89 @@ fn numbers_that_do_not_belong_to_the_tables(rt: HostRuntime) -> Result<(), Fail>
         ((2, 1, 2), "None!"),
         ((3, 2, 1), "None!"),
     ] {
-        let conditions = one(alloc, whole(Source::Col(1)))?;
-        let atoms = one(alloc, whole(lookup(alloc, numbers, conditions)?))?;
-        assert!(rt; gives(alloc, "01", atoms, expected)?, "{numbers:?}");
+        assert!(rt;
+            lookup_gives(rt.alloc(), "01", numbers, &[Part::Column(1)], expected)?,
+            "{numbers:?}"
+        );
     }
-    let conditions = two(alloc, whole(Source::Col(1)), whole(Source::Col(1)))?;
-    let atoms = one(alloc, whole(lookup(alloc, (2, 1, 1), conditions)?))?;
-    assert!(rt; gives(alloc, "01", atoms, "None!")?);
-    let mut four = two(alloc, piece(0, 1), piece(0, 1))?;
-    four.push(piece(0, 1))?;
-    four.push(piece(0, 1))?;
-    let atoms = one(alloc, whole(lookup(alloc, (2, 1, 1), four)?))?;
-    assert!(rt; gives(alloc, "01", atoms, "None!")?);
-    let atoms = one(alloc, whole(lookup(alloc, (2, 1, 1), List::new(alloc))?))?;
-    assert!(rt; gives(alloc, "01", atoms, "None!")?);
     Ok(())
 }
 
-/// Whether a value is there and has these characters.
-fn is(value: &Option<Text>, alloc: Global, expected: &str) -> Result<bool, Fail> {
-    match value {
-        Some(value) => Ok(value.same(&text(alloc, expected)?)),
-        None => Ok(false),
+#[test]
+fn conditions_that_do_not_belong_to_the_key(rt: HostRuntime) -> Result<(), Fail> {
+    for parts in [
+        &[Part::Column(1), Part::Column(1)][..],
+        &[
+            Part::Piece(0, 1),
+            Part::Piece(0, 1),
+            Part::Piece(0, 1),
+            Part::Piece(0, 1),
+        ],
+        &[],
+    ] {
+        assert!(rt; lookup_gives(rt.alloc(), "01", MONTH, parts, "None!")?);
     }
+    Ok(())
+}
+
+/// A sheet and tables.
+#[derive(Clone, Copy)]
+struct On<'a> {
+    alloc: Global,
+    sheet: &'a Sheet,
+    tables: &'a Tables,
+}
+
+/// Whether the source has this value on the first row.
+fn source_is(on: On, source: &Source, expected: &str) -> Result<bool, Fail> {
+    if on.sheet.rows() == 0 {
+        return Ok(false);
+    }
+    let value = source_value(on.alloc, source, 1, on.sheet, on.tables)?;
+    is(on.alloc, &value, expected)
+}
+
+/// The same of a copy.
+fn copied_source_is(on: On, source: &Source, expected: &str) -> Result<bool, Fail> {
+    let copied = source.copy(on.alloc)?;
+    source_is(on, &copied, expected)
+}
+
+/// Whether the atom has this value on the first row.
+fn atom_is(on: On, atom: &Atom, expected: &str) -> Result<bool, Fail> {
+    if on.sheet.rows() == 0 {
+        return Ok(false);
+    }
+    let value = atom_value(on.alloc, atom, 1, on.sheet, on.tables)?;
+    is(on.alloc, &value, expected)
+}
+
+/// The same of a copy.
+fn copied_atom_is(on: On, atom: &Atom, expected: &str) -> Result<bool, Fail> {
+    let copied = atom.copy(on.alloc)?;
+    atom_is(on, &copied, expected)
+}
+
+/// Whether the copy of the program of this atom has this value on the first row.
+fn copied_program_is(on: On, part: Part, expected: &str) -> Result<bool, Fail> {
+    let program = Program {
+        atoms: atoms_of(on.alloc, &[part])?,
+    };
+    let copied = program.copy(on.alloc)?;
+    first_is(on.alloc, &copied, on.sheet, on.tables, expected)
+}
+
+/// Whether the column has this value as a source, as an atom and as a program.
+fn column_is(on: On, column: u32, expected: &str) -> Result<bool, Fail> {
+    let source = Source::Col(column);
+    if !source_is(on, &source, expected)? || !copied_source_is(on, &source, expected)? {
+        return Ok(false);
+    }
+    let atom = Atom::Whole(source);
+    if !atom_is(on, &atom, expected)? || !copied_atom_is(on, &atom, expected)? {
+        return Ok(false);
+    }
+    copied_program_is(on, Part::Column(column), expected)
 }
 
 #[test]
@@ -189,46 +307,16 @@ fn values_of_parts_and_of_their_copies(rt: HostRuntime) -> Result<(), Fail> {
     let alloc = rt.alloc();
     let sheet = Sheet::read(alloc, b"abc\n", false, &[1], None)?;
     let tables = tables(alloc)?;
-    assert!(rt; sheet.rows() == 1);
-    let source = Source::Col(1);
-    assert!(rt;
-        is(
-            &source_value(alloc, &source, 1, &sheet, &tables)?,
-            alloc,
-            "abc"
-        )?
-    );
-    let copied = source.copy(alloc)?;
-    assert!(rt;
-        is(
-            &source_value(alloc, &copied, 1, &sheet, &tables)?,
-            alloc,
-            "abc"
-        )?
-    );
-    let atom = whole(source);
-    assert!(rt; is(&atom_value(alloc, &atom, 1, &sheet, &tables)?, alloc, "abc")?);
-    let copied = atom.copy(alloc)?;
-    assert!(rt;
-        is(
-            &atom_value(alloc, &copied, 1, &sheet, &tables)?,
-            alloc,
-            "abc"
-        )?
-    );
-    let program = Program {
-        atoms: one(alloc, atom)?,
+    let on = On {
+        alloc,
+        sheet: &sheet,
+        tables: &tables,
     };
-    let copied = program.copy(alloc)?;
-    assert!(rt;
-        is(
-            &program_value(alloc, &copied, 1, &sheet, &tables)?,
-            alloc,
-            "abc"
-        )?
-    );
-    assert!(rt; atom_value(alloc, &piece(1, 1), 1, &sheet, &tables)?.is_none());
-    assert!(rt; source_value(alloc, &Source::Col(2), 1, &sheet, &tables)?.is_none());
+    for (column, expected) in [(1, "abc"), (2, "None!")] {
+        assert!(rt; column_is(on, column, expected)?, "{expected}");
+    }
+    let empty = piece(Place::CPos(1), Place::CPos(1));
+    assert!(rt; atom_is(on, &empty, "None!")?);
     Ok(())
 }
 
@@ -239,45 +327,66 @@ fn switch(alloc: Global) -> Result<Switch, Fail> {
         second: None,
     };
     let program = Program {
-        atoms: one(alloc, whole(Source::Col(1)))?,
+        atoms: atoms_of(alloc, &[Part::Column(1)])?,
     };
     let mut cases = List::new(alloc);
     cases.push(Case { guard, program })?;
     let last = Program {
-        atoms: one(alloc, constant(alloc, "k")?)?,
+        atoms: atoms_of(alloc, &[Part::Constant("k")])?,
     };
     Ok(Switch { cases, last })
 }
 
 /// Whether the switch gives this text on a row of the sheet.
-fn switch_gives(
-    alloc: Global,
-    switch: &Switch,
-    row: u32,
-    sheet: &Sheet,
-    expected: &str,
-) -> Result<bool, Fail> {
-    if row == 0 || row > sheet.rows() || !switch_reads_inputs(switch, sheet) {
+fn switch_gives(on: On, switch: &Switch, row: u32, expected: &str) -> Result<bool, Fail> {
+    if row == 0 || row > on.sheet.rows() || !switch_reads_inputs(switch, on.sheet) {
         return Ok(false);
     }
-    let value = switch_value(alloc, switch, row, sheet, &tables(alloc)?)?;
-    is(&value, alloc, expected)
+    let value = switch_value(on.alloc, switch, row, on.sheet, on.tables)?;
+    is(on.alloc, &value, expected)
+}
+
+/// Whether it gives its texts on three rows.
+fn switch_gives_all(alloc: Global, switch: &Switch) -> Result<bool, Fail> {
+    let sheet = Sheet::read(alloc, b"k\n12\nA-\n", false, &[1], None)?;
+    let tables = tables(alloc)?;
+    let on = On {
+        alloc,
+        sheet: &sheet,
+        tables: &tables,
+    };
+    for (row, expected) in [(1, "k"), (2, "12"), (3, "k")] {
+        if !switch_gives(on, switch, row, expected)? {
+            return Ok(false);
+        }
+    }
+    Ok(true)
 }
 
 #[test]
 fn values_of_a_switch_and_of_its_copy(rt: HostRuntime) -> Result<(), Fail> {
-    let alloc = rt.alloc();
-    let sheet = Sheet::read(alloc, b"k\n12\nA-\n", false, &[1], None)?;
-    let switch = switch(alloc)?;
-    let copied = switch.copy(alloc)?;
-    for (row, expected) in [(1, "k"), (2, "12"), (3, "k")] {
-        assert!(rt; switch_gives(alloc, &switch, row, &sheet, expected)?);
-        assert!(rt; switch_gives(alloc, &copied, row, &sheet, expected)?);
-    }
-    let other = Sheet::read(alloc, b"k,k\n", false, &[2], None)?;
-    assert!(rt; !switch_reads_inputs(&switch, &other));
-    assert_eq!(rt; first_other_column(&switch, &sheet), None);
-    assert_eq!(rt; first_other_column(&switch, &other), Some(1));
+    let switch = switch(rt.alloc())?;
+    assert!(rt; switch_gives_all(rt.alloc(), &switch)?);
+    let copied = switch.copy(rt.alloc())?;
+    assert!(rt; switch_gives_all(rt.alloc(), &copied)?);
+    Ok(())
+}
+
+/// Whether the switch reads inputs alone, and the first other column that it reads.
+fn reads(switch: &Switch, sheet: &Sheet) -> (bool, Option<u32>) {
+    (
+        switch_reads_inputs(switch, sheet),
+        first_other_column(switch, sheet),
+    )
+}
+
+#[test]
+fn columns_that_a_switch_reads(rt: HostRuntime) -> Result<(), Fail> {
+    let switch = switch(rt.alloc())?;
+    let sheet = Sheet::read(rt.alloc(), b"k,k\n", false, &[1], None)?;
+    assert_eq!(rt; reads(&switch, &sheet), (true, None));
+    let other = Sheet::read(rt.alloc(), b"k,k\n", false, &[2], None)?;
+    assert_eq!(rt; reads(&switch, &other), (false, Some(1)));
     Ok(())
 }
 
