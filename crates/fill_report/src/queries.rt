@@ -15,7 +15,7 @@ use crate::records::Record;
 use crate::rows::row_record;
 use fill_edge::Sink;
 use fill_print::{print_guard, print_program, print_switch};
-use fill_session::{Branch, Session};
+use fill_session::{Branch, Session, Shapes};
 use fill_sheet::Sheet;
 use fill_text::{List, NoMemory};
 use fill_tree::{Guard, Switch};
@@ -117,9 +117,14 @@ pub(crate) fn write_rows<O: Sink>(
     ensures fault { IsErrOf result Halt.Fault → Rose (O.faults out.old) (O.faults out.new) }
     ensures later { O.faults out.old ≤ O.faults out.new }
 {
+    let mut shapes = Shapes::new(alloc);
     let rows = session.sheet().rows();
     for above in 0..rows {
-        match write_made(row_record(alloc, session, above + 1), false, out) {
+        match write_made(
+            row_record(alloc, &mut shapes, session, above + 1),
+            false,
+            out,
+        ) {
             Ok(_) => {}
             Err(halt) => return Err(halt),
         }
@@ -157,7 +162,8 @@ pub(crate) fn write_answer<O: Sink>(
     ensures later { O.faults out.old ≤ O.faults out.new }
 {
     if has_row(session.sheet(), row) {
-        write_made(row_record(alloc, session, row), false, out)
+        let mut shapes = Shapes::new(alloc);
+        write_made(row_record(alloc, &mut shapes, session, row), false, out)
     } else {
         write_made(no_row_record(alloc, row), true, out)
     }

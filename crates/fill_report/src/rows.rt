@@ -1,12 +1,13 @@
 //! What is told of rows.
 ghost use Rattle.std.specs.Prelude.{◌≡◌, ◌≤◌, ◌<◌, ◌++◌, ◌∷◌, [], List, length, IfOk, OnOk};
+ghost use Rattle.fill_doubt.specs.Shapes.{ShapesStand};
 ghost use Rattle.fill_report.specs.Counts.{AreCounts, IsWithin};
 ghost use Rattle.fill_report.specs.Entries.{IsCountRecord};
 ghost use Rattle.fill_report.specs.Rows.{AreRowStates, IsRowRecord, IsRowState, answer_field, row_record, row_state, state_name};
 ghost use Rattle.fill_report.specs.declared.rows.RowState.{RowState};
 
 use crate::records::Record;
-use fill_session::{Answer, Session, State};
+use fill_session::{Answer, Session, Shapes, State};
 use fill_text::{List, NoMemory, Text};
 use std::alloc::Global;
 
@@ -79,22 +80,36 @@ fn record_of(alloc: Global, row: u32, answer: &Answer) -> Result<Record, NoMemor
 }
 
 /// The record of a row of the sheet.
-pub(crate) fn row_record(alloc: Global, session: &Session, row: u32) -> Result<Record, NoMemory>
+pub(crate) fn row_record(
+    alloc: Global,
+    shapes: &mut Shapes,
+    session: &Session,
+    row: u32,
+) -> Result<Record, NoMemory>
     requires first { 1 ≤ row }
     requires last { row ≤ length session.now.spaces.ground.sheet.rows }
-    ensures { IfOk result (IsRowRecord session.now.spaces.ground session.now.examples row) }
+    requires shapes { ShapesStand session.now.spaces.arena shapes.old }
+    ensures shapes { ShapesStand session.now.spaces.arena shapes.new }
+    ensures made { IfOk result (IsRowRecord session.now.spaces.ground session.now.examples row) }
 {
-    let answer = session.answer(alloc, row)?;
+    let answer = session.answer_with(alloc, shapes, row)?;
     record_of(alloc, row, &answer)
 }
 
 /// The state of a row of the sheet.
-fn row_state(alloc: Global, session: &Session, row: u32) -> Result<RowState, NoMemory>
+fn row_state(
+    alloc: Global,
+    shapes: &mut Shapes,
+    session: &Session,
+    row: u32,
+) -> Result<RowState, NoMemory>
     requires first { 1 ≤ row }
     requires last { row ≤ length session.now.spaces.ground.sheet.rows }
-    ensures { IfOk result (IsRowState session.now.spaces.ground session.now.examples row) }
+    requires shapes { ShapesStand session.now.spaces.arena shapes.old }
+    ensures shapes { ShapesStand session.now.spaces.arena shapes.new }
+    ensures state { IfOk result (IsRowState session.now.spaces.ground session.now.examples row) }
 {
-    let answer = session.answer(alloc, row)?;
+    let answer = session.answer_with(alloc, shapes, row)?;
     Ok(RowState::of(&answer))
 }
 
@@ -137,10 +152,11 @@ fn count_states(alloc: Global, session: &Session) -> Result<Counts, NoMemory>
     ensures { IfOk result (λ counts. (states : List RowState)
         × AreRowStates session.now.spaces.ground session.now.examples (length session.now.spaces.ground.sheet.rows) states × AreCounts counts states) }
 {
+    let mut shapes = Shapes::new(alloc);
     let mut counts = Counts::NONE;
     let rows = session.sheet().rows();
     for above in 0..rows {
-        counts.add(row_state(alloc, session, above + 1)?);
+        counts.add(row_state(alloc, &mut shapes, session, above + 1)?);
     }
     Ok(counts)
 }

@@ -7,16 +7,17 @@ pub returns-in-Err-clause-leaves : goal.returns-in-Err-clause-leaves
 returns-in-Err-clause-leaves g c =
     let s = c.args.session.now in
     let rows : length c.sheet.result.now.rows ≡ length s.spaces.ground.sheet.rows = ap (λ (x : SheetData). length x.rows) c.sheet.ensures in
-    rows_stop s.spaces.ground s.examples _ (g.O.Sink.written c.loop-above.out) _ c.loop-above.above c.row_record.result c.in-Err.halt (omega arith) c.row_record.ensures
+    rows_stop s.spaces.ground s.examples _ (g.O.Sink.written c.loop-above.out) _ c.loop-above.above c.row_record.result c.in-Err.halt (omega arith) c.row_record.ensures.made
     c.loop-above.invariant.written c.in-Err.ensures.leaves
 
 pub loop-above-preserved : goal.loop-above-preserved
 loop-above-preserved g c =
     let s = c.args.session.now in
     record {
-      written = rows_next s.spaces.ground s.examples _ (g.O.Sink.written c.loop-above.out) _ c.loop-above.above c.row_record.result c.in-Ok.field-0 c.row_record.ensures
+      written = rows_next s.spaces.ground s.examples _ (g.O.Sink.written c.loop-above.out) _ c.loop-above.above c.row_record.result c.in-Ok.field-0 c.row_record.ensures.made
           c.loop-above.invariant.written c.in-Ok.ensures.leaves;
       later = omega arith;
+      shapes = c.row_record.ensures.shapes;
     }
 
 pub returns-clause-leaves : goal.returns-clause-leaves
