@@ -94,21 +94,38 @@ fn rows_of_a_table(rt: HostRuntime) -> Result<(), Fail> {
     Ok(())
 }
 
+/// Whether a key of one column comes to this.
+fn key_comes_to(tables: &mut Tables, name: &str, column: u32, reason: Option<TableError>) -> bool {
+    if column == 0 {
+        return false;
+    }
+    tables.add_key(name, &[column]).err() == reason
+}
+
+/// Whether the first table has no key, though its first two columns are one.
+fn has_no_key(tables: &Tables) -> bool {
+    tables.count() == 1
+        && tables.keys(1) == 0
+        && !tables.is_key(1, &[1])
+        && tables.is_key(1, &[1, 2])
+}
+
 #[test]
 fn keys_that_are_refused(rt: HostRuntime) -> Result<(), Fail> {
     let mut tables = Tables::new(rt.alloc());
     tables.add_table("prices", PRICES)?;
-    let past = tables.add_key("prices", &[4]).err();
-    assert_eq!(rt; past, Some(TableError::NoSuchColumn { columns: 3 }));
-    let unknown = tables.add_key("costs", &[1]).err();
-    assert_eq!(rt; unknown, Some(TableError::NoSuchTable));
-    let items = tables.add_key("prices", &[1]).err();
-    assert_eq!(rt; items, Some(TableError::NotAKey { row1: 2, row2: 3 }));
-    let months = tables.add_key("prices", &[2]).err();
-    assert_eq!(rt; months, Some(TableError::NotAKey { row1: 2, row2: 4 }));
-    assert!(rt; tables.count() == 1);
-    assert_eq!(rt; tables.keys(1), 0);
-    assert!(rt; !tables.is_key(1, &[1]) && tables.is_key(1, &[1, 2]));
+    for (name, column, reason) in [
+        ("prices", 4, TableError::NoSuchColumn { columns: 3 }),
+        ("costs", 1, TableError::NoSuchTable),
+        ("prices", 1, TableError::NotAKey { row1: 2, row2: 3 }),
+        ("prices", 2, TableError::NotAKey { row1: 2, row2: 4 }),
+    ] {
+        assert!(rt;
+            key_comes_to(&mut tables, name, column, Some(reason)),
+            "{column}"
+        );
+    }
+    assert!(rt; has_no_key(&tables));
     Ok(())
 }
 
@@ -116,8 +133,8 @@ fn keys_that_are_refused(rt: HostRuntime) -> Result<(), Fail> {
 fn the_first_rows_that_agree(rt: HostRuntime) -> Result<(), Fail> {
     let mut tables = Tables::new(rt.alloc());
     tables.add_table("letters", b"b\na\nc\na\nb\na\n")?;
-    let letters = tables.add_key("letters", &[1]).err();
-    assert_eq!(rt; letters, Some(TableError::NotAKey { row1: 2, row2: 4 }));
+    let reason = TableError::NotAKey { row1: 2, row2: 4 };
+    assert!(rt; key_comes_to(&mut tables, "letters", 1, Some(reason)));
     Ok(())
 }
 
@@ -130,60 +147,101 @@ fn keyed_prices(alloc: Global) -> Result<Tables, Fail> {
     Ok(tables)
 }
 
+/// What a key of the first table is to find for the cells.
+type Wanted<'a> = (u32, &'a [&'a str], Option<u32>);
+
+/// Whether the keys of the first table find these rows.
+fn all_found(tables: &Tables, alloc: Global, wanted: &[Wanted]) -> Result<bool, Fail> {
+    for i in 0..wanted.len() {
+        let (key, cells, row) = wanted[i];
+        if found(tables, alloc, 1, key, cells)? != row {
+            return Ok(false);
+        }
+    }
+    Ok(true)
+}
+
 #[test]
 fn rows_by_their_keys(rt: HostRuntime) -> Result<(), Fail> {
     let tables = keyed_prices(rt.alloc())?;
-    assert!(rt; has_key(&tables, 1, 1, &[2, 1]));
-    assert!(rt; has_key(&tables, 1, 2, &[3]));
-    for (key, cells, row) in [
+    assert!(rt; has_key(&tables, 1, 1, &[2, 1]) && has_key(&tables, 1, 2, &[3]));
+    let wanted = [
         (1, ["11/2010", "Stroller"].as_slice(), Some(3)),
         (1, ["10/2010", "Stroller"].as_slice(), Some(2)),
         (1, ["11/2010", "Bib"].as_slice(), None),
         (1, ["11/2010"].as_slice(), None),
         (1, ["11/2010", "Stroller", "", ""].as_slice(), None),
         (2, ["3.56"].as_slice(), Some(4)),
-    ] {
-        assert_eq!(rt;
-            found(&tables, rt.alloc(), 1, key, cells)?,
-            row,
-            "{cells:?}"
-        );
-    }
+    ];
+    assert!(rt; all_found(&tables, rt.alloc(), &wanted)?);
     Ok(())
 }
 
 #[test]
 fn each_line_end_ends_a_row(rt: HostRuntime) -> Result<(), Fail> {
-    let alloc = rt.alloc();
+    let mut tables = Tables::new(rt.alloc());
+    tables.add_table("t", b"a,b,c\rd,b,c\na,b,e\r\na,f,c")?;
+    assert!(rt; tables.count() == 1 && tables.rows(1) == 4);
+    for (row, cells) in [
+        (1, ["a", "b", "c"]),
+        (2, ["d", "b", "c"]),
+        (3, ["a", "b", "e"]),
+        (4, ["a", "f", "c"]),
+    ] {
+        assert!(rt; has_row(&tables, 1, row, &cells), "{row}");
+    }
+    Ok(())
+}
+
+/// A table with a key of all its columns.
+fn wholly_keyed(alloc: Global) -> Result<Tables, Fail> {
     let mut tables = Tables::new(alloc);
     tables.add_table("t", b"a,b,c\rd,b,c\na,b,e\r\na,f,c")?;
-    assert!(rt; tables.count() == 1);
-    assert_eq!(rt; tables.rows(1), 4);
-    assert!(rt; has_row(&tables, 1, 1, &["a", "b", "c"]));
-    assert!(rt; has_row(&tables, 1, 2, &["d", "b", "c"]));
-    assert!(rt; has_row(&tables, 1, 3, &["a", "b", "e"]));
-    assert!(rt; has_row(&tables, 1, 4, &["a", "f", "c"]));
     tables.add_key("t", &[3, 1, 2])?;
-    assert!(rt; tables.count() == 1);
-    assert_eq!(rt; found(&tables, alloc, 1, 1, &["e", "a", "b"])?, Some(3));
-    assert_eq!(rt; found(&tables, alloc, 1, 1, &["e", "d", "b"])?, None);
+    Ok(tables)
+}
+
+#[test]
+fn rows_by_all_their_columns(rt: HostRuntime) -> Result<(), Fail> {
+    let tables = wholly_keyed(rt.alloc())?;
+    let wanted = [
+        (1, ["e", "a", "b"].as_slice(), Some(3)),
+        (1, ["e", "d", "b"].as_slice(), None),
+    ];
+    assert!(rt; all_found(&tables, rt.alloc(), &wanted)?);
     Ok(())
+}
+
+/// Whether adding a table comes to this.
+fn table_comes_to(
+    tables: &mut Tables,
+    name: &str,
+    bytes: &[u8],
+    reason: Option<TableError>,
+) -> bool {
+    tables.add_table(name, bytes).err() == reason
 }
 
 #[test]
 fn names_of_tables(rt: HostRuntime) -> Result<(), Fail> {
     let mut tables = Tables::new(rt.alloc());
-    tables.add_table("rates", b"1\n")?;
-    tables.add_table("prices", b"")?;
-    let again = tables.add_table("prices", b"\xff").err();
-    assert_eq!(rt; again, Some(TableError::SameName { first: 2 }));
-    for name in ["a", "b", "c", "d", "e", "f"] {
-        tables.add_table(name, b"1\n1\n")?;
+    let again = TableError::SameName { first: 2 };
+    let ninth = TableError::TooManyTables { limit: 8 };
+    for (name, lines, reason) in [
+        ("rates", b"1\n".as_slice(), None),
+        ("prices", b"", None),
+        ("prices", b"\xff", Some(again)),
+        ("a", b"1\n1\n", None),
+        ("b", b"1\n1\n", None),
+        ("c", b"1\n1\n", None),
+        ("d", b"1\n1\n", None),
+        ("e", b"1\n1\n", None),
+        ("f", b"1\n1\n", None),
+        ("prices", b"", Some(ninth)),
+    ] {
+        assert!(rt; table_comes_to(&mut tables, name, lines, reason), "{name}");
     }
-    let ninth = tables.add_table("prices", b"").err();
-    assert_eq!(rt; ninth, Some(TableError::TooManyTables { limit: 8 }));
-    assert!(rt; tables.count() == 8);
-    assert!(rt; tables.rows(2) == 0 && tables.width(2) == 0);
+    assert!(rt; tables.count() == 8 && tables.rows(2) == 0 && tables.width(2) == 0);
     Ok(())
 }
 
@@ -191,11 +249,10 @@ fn names_of_tables(rt: HostRuntime) -> Result<(), Fail> {
 fn numbers_of_keys(rt: HostRuntime) -> Result<(), Fail> {
     let mut tables = Tables::new(rt.alloc());
     tables.add_table("rates", b"1\n")?;
-    for _ in 0..4 {
-        tables.add_key("rates", &[1])?;
+    let fifth = TableError::TooManyKeys { limit: 4 };
+    for reason in [None, None, None, None, Some(fifth)] {
+        assert!(rt; key_comes_to(&mut tables, "rates", 1, reason));
     }
-    let fifth = tables.add_key("rates", &[1]).err();
-    assert_eq!(rt; fifth, Some(TableError::TooManyKeys { limit: 4 }));
     Ok(())
 }
 
@@ -208,20 +265,22 @@ fn file(alloc: Global, records: usize) -> Result<List<u8>, Fail> {
     Ok(bytes)
 }
 
+/// Whether a file of 2000 records is taken, and one more of no UTF-8 is too many.
+fn takes_2000_records(tables: &mut Tables, bytes: &mut List<u8>) -> Result<bool, Fail> {
+    if !table_comes_to(tables, "a", bytes.as_slice(), None) {
+        return Ok(false);
+    }
+    bytes.append(b"\xff")?;
+    let reason = TableError::TooManyRows { limit: 2000 };
+    Ok(table_comes_to(tables, "b", bytes.as_slice(), Some(reason)))
+}
+
 #[test]
 fn a_table_has_at_most_2000_records(rt: HostRuntime) -> Result<(), Fail> {
-    let alloc = rt.alloc();
-    let mut tables = Tables::new(alloc);
-    let mut bytes = file(alloc, 2000)?;
-    tables.add_table("a", bytes.as_slice())?;
-    assert!(rt; tables.count() == 1);
-    assert_eq!(rt; tables.rows(1), 2000);
-    bytes.append(b"\xff")?;
-    assert_eq!(rt;
-        tables.add_table("b", bytes.as_slice()).err(),
-        Some(TableError::TooManyRows { limit: 2000 })
-    );
-    assert_eq!(rt; tables.count(), 1);
+    let mut bytes = file(rt.alloc(), 2000)?;
+    let mut tables = Tables::new(rt.alloc());
+    assert!(rt; takes_2000_records(&mut tables, &mut bytes)?);
+    assert!(rt; tables.count() == 1 && tables.rows(1) == 2000);
     Ok(())
 }
 
@@ -235,28 +294,49 @@ fn record(alloc: Global, fields: usize) -> Result<List<u8>, Fail> {
     Ok(bytes)
 }
 
+/// Whether a record of these fields and two more comes to this.
+fn record_comes_to(
+    tables: &mut Tables,
+    alloc: Global,
+    fields: usize,
+    reason: Option<TableError>,
+) -> Result<bool, Fail> {
+    let bytes = record(alloc, fields)?;
+    Ok(table_comes_to(tables, "t", bytes.as_slice(), reason))
+}
+
+/// Whether the first table is one row of a thousand cells, the last of them `b`.
+fn has_1000_columns(tables: &Tables) -> bool {
+    tables.count() == 1
+        && tables.rows(1) == 1
+        && tables.width(1) == 1000
+        && is(tables.cell(1, 1, 1000), "b")
+}
+
 #[test]
 fn fields_past_the_thousandth(rt: HostRuntime) -> Result<(), Fail> {
-    let alloc = rt.alloc();
-    let mut tables = Tables::new(alloc);
-    assert_eq!(rt;
-        tables.add_table("a", record(alloc, 998)?.as_slice()).err(),
-        Some(TableError::NotUtf8 {
-            number: 1,
-            column: 1000
-        })
-    );
-    tables.add_table("b", record(alloc, 999)?.as_slice())?;
-    assert!(rt; tables.count() == 1);
-    assert_eq!(rt; tables.width(1), 1000);
-    assert!(rt; tables.rows(1) == 1 && tables.width(1) == 1000);
-    assert!(rt; is(tables.cell(1, 1, 1000), "b"));
-    assert_eq!(rt;
-        tables.add_table("c", b"a\nb,c,\xff,\xff\n\xff").err(),
-        Some(TableError::NotUtf8 {
-            number: 2,
-            column: 3
-        })
-    );
+    let mut tables = Tables::new(rt.alloc());
+    let last = TableError::NotUtf8 {
+        number: 1,
+        column: 1000,
+    };
+    for (fields, reason) in [(998, Some(last)), (999, None)] {
+        assert!(rt;
+            record_comes_to(&mut tables, rt.alloc(), fields, reason)?,
+            "{fields}"
+        );
+    }
+    assert!(rt; has_1000_columns(&tables));
+    Ok(())
+}
+
+#[test]
+fn the_first_field_that_is_no_utf8(rt: HostRuntime) -> Result<(), Fail> {
+    let mut tables = Tables::new(rt.alloc());
+    let reason = TableError::NotUtf8 {
+        number: 2,
+        column: 3,
+    };
+    assert!(rt; table_comes_to(&mut tables, "c", b"a\nb,c,\xff,\xff\n\xff", Some(reason)));
     Ok(())
 }
