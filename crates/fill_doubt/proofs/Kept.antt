@@ -12,7 +12,7 @@ use Rattle.fill_doubt.specs.declared.shapes.Shapes.{Shapes}
 
 -- of no shape nothing was found
 pub none_stand : (c : List Entry) (shapes : Shapes) → shapes.reads.items ≡ [] → ShapesStand c shapes
-none_stand c shapes nil i x at = absurd (none i x (subst (λ (xs : List Read). slice_get xs i ≡ Some x) nil at))
+none_stand c shapes nil = record { each = λ i x at. absurd (none i x (subst (λ (xs : List Read). slice_get xs i ≡ Some x) nil at)) }
   where
     none : (i : ℕ) (x : Read) → slice_get {X = Read} [] i ≡ Some x → ⊥
     none i x h = cc

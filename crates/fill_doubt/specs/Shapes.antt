@@ -12,8 +12,8 @@ use Rattle.fill_doubt.specs.declared.shaped.Shaped.{Shaped}
 use Rattle.fill_doubt.specs.declared.shapes.Shapes.{Shapes}
 
 -- what was found is so, of each of the shapes
-abbrev pub ShapesStand : List Entry → Shapes → Type 0
-ShapesStand c shapes = (i : ℕ) (x : Read) → slice_get shapes.reads.items i ≡ Some x → IsReadIn c x
+pub record ShapesStand (c : List Entry) (shapes : Shapes) : Type 0 where
+  pub each : (i : ℕ) (x : Read) → slice_get shapes.reads.items i ≡ Some x → IsReadIn c x
 
 -- the shape is the one of this number among those that were read
 abbrev pub IsReadAt : Shapes → List ℕ → ℕ → Type 0

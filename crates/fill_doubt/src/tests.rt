@@ -13,7 +13,7 @@ use fill_edge::{Ledger, Steps};
 use fill_sheet::Sheet;
 use fill_tables::Tables;
 use fill_text::{List, NoMemory, Text};
-use fill_tokens::{Place, Seq, Token};
+use fill_tokens::Place;
 use std::alloc::Global;
 use std::marker::Brand;
 use std::sync::ledger::Blank;
@@ -26,21 +26,17 @@ enum Listed {
     Whole,
     /// The piece of column 1 from the start to place 2.
     Piece,
-    /// That piece, or the one from the start to the end of the first lower-case run.
-    Front,
     /// The month whose number is column 1.
     Month,
 }
 
-/// The sets that atoms name: column 1, the months by the whole of it, the start, place 2, and that with the end of the
-/// first lower-case run.
+/// The sets that atoms name: column 1, the months by the whole of it, the start, and place 2.
 #[derive(Clone, Copy)]
 struct Sets {
     column: SourceSet,
     months: SourceSet,
     start: PlaceSet,
     stop: PlaceSet,
-    stops: PlaceSet,
 }
 
 fn sources(alloc: Global) -> Result<List<SourceItem>, NoMemory>
@@ -98,12 +94,10 @@ fn months(alloc: Global, arena: &mut Arena, column: SourceSet) -> Result<SourceS
 }
 
 fn named(alloc: Global, arena: &mut Arena) -> Result<Sets, NoMemory>
-    ensures { IfOk result (λ sets. IsSourceSet arena.new sets.column × IsSourceSet arena.new sets.months × IsPlaceSet arena.new sets.start × IsPlaceSet arena.new sets.stop × IsPlaceSet arena.new sets.stops) }
+    ensures { IfOk result (λ sets. IsSourceSet arena.new sets.column × IsSourceSet arena.new sets.months × IsPlaceSet arena.new sets.start × IsPlaceSet arena.new sets.stop) }
 {
     let start = arena.intern_places(&[Place::CPos(0)])?;
     let stop = arena.intern_places(&[Place::CPos(2)])?;
-    let word = Place::Pos(Seq::one(Token::Lower), Seq::empty(), 1);
-    let stops = arena.intern_places(&[Place::CPos(2), word])?;
     let column = arena.intern_sources(sources(alloc)?)?;
     let months = months(alloc, arena, column)?;
     Ok(Sets {
@@ -111,7 +105,6 @@ fn named(alloc: Global, arena: &mut Arena) -> Result<Sets, NoMemory>
         months,
         start,
         stop,
-        stops,
     })
 }
 
@@ -127,14 +120,13 @@ fn constant(alloc: Global, characters: &str) -> Result<Text, Fail>
 }
 
 fn item(alloc: Global, sets: Sets, listed: Listed) -> Result<AtomItem, Fail>
-    ensures { IfOk result (λ made. (c : Items Kept) → IsSourceSet c sets.column → IsSourceSet c sets.months → IsPlaceSet c sets.start → IsPlaceSet c sets.stop → IsPlaceSet c sets.stops → IsAtomItem c (length c) made) }
+    ensures { IfOk result (λ made. (c : Items Kept) → IsSourceSet c sets.column → IsSourceSet c sets.months → IsPlaceSet c sets.start → IsPlaceSet c sets.stop → IsAtomItem c (length c) made) }
 {
     match listed {
         Listed::Constant(characters) => Ok(AtomItem::Const(constant(alloc, characters)?)),
         Listed::Whole => Ok(AtomItem::Whole(sets.column)),
         Listed::Month => Ok(AtomItem::Whole(sets.months)),
         Listed::Piece => Ok(AtomItem::Sub(sets.column, sets.start, sets.stop)),
-        Listed::Front => Ok(AtomItem::Sub(sets.column, sets.start, sets.stops)),
     }
 }
 
@@ -159,7 +151,6 @@ fn atoms(
     requires months { IsSourceSet arena.old sets.months }
     requires start { IsPlaceSet arena.old sets.start }
     requires stop { IsPlaceSet arena.old sets.stop }
-    requires stops { IsPlaceSet arena.old sets.stops }
     ensures set { IfOk result (IsAtomSet arena.new) }
     ensures kept { Extends arena.old arena.new }
 {
@@ -278,48 +269,6 @@ fn different_answers_are_doubt(rt: HostRuntime) -> Result<(), Fail> {
         )?,
         Some(true)
     );
-    Ok(())
-}
-
-/// The flags of rows of one cell, through one memory of shapes.
-fn flags(alloc: Global, arena: &Arena, graph: GraphId, sheet: &Sheet) -> Result<Vec<bool>, Fail>
-    requires { IsGraph arena.now graph }
-{
-    let tables = tables(alloc)?;
-    let mut shapes = Shapes::new(alloc);
-    let mut flags = Vec::new(alloc);
-    for row in 1..=sheet.rows() {
-        let flag = doubt_with(alloc, &mut shapes, arena, graph, row, sheet, &tables)?;
-        flags.push(flag)?;
-    }
-    Ok(flags)
-}
-
-/// The flags of a graph of two edges, of two atoms each, on rows of one cell.
-fn doubted_rows(
-    alloc: Global,
-    cells: &str,
-    first: (Listed, Listed),
-    second: (Listed, Listed),
-) -> Result<Vec<bool>, Fail> {
-    let mut arena = Arena::new(alloc);
-    let sets = named(alloc, &mut arena)?;
-    let a = atoms(alloc, &mut arena, sets, first.0, first.1)?;
-    let b = atoms(alloc, &mut arena, sets, second.0, second.1)?;
-    let graph = graph_of::<Brand>(alloc, Blank::new(1), &mut arena, a, b)?;
-    let sheet = Sheet::read(alloc, cells.as_bytes(), false, &[1], None)?;
-    flags(alloc, &arena, graph, &sheet)
-}
-
-/// Rows of one shape, and of another: the place that is counted is the same in each, and the end of the word is not.
-#[test]
-fn rows_of_one_shape(rt: HostRuntime) -> Result<(), Fail> {
-    use Listed::{Constant, Front};
-    let alloc = rt.alloc();
-    let z = (Constant("z"), Constant("z"));
-    let cells = "ab 1\nabc 1\nab-c\nxyz 22\nxy 22\n-ab\nxy 3\n";
-    let found = doubted_rows(alloc, cells, (Front, Front), z)?;
-    assert!(rt; found.as_slice() == [false, true, false, true, false, true, false]);
     Ok(())
 }
 

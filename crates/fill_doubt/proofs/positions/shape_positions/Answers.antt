@@ -10,7 +10,7 @@ read_positions-requires-clause-text c = (lent_read c.number_of.new.self c.args.s
 
 pub read_positions-requires-clause-read : goal.read_positions-requires-clause-read
 read_positions-requires-clause-read c =
-    c.in_ok-n.ensures.stand c.args.arena.now c.requires.stand c.in_ok-n.n c.index_mut.result.now
+    (c.in_ok-n.ensures.stand c.args.arena.now c.requires.stand).each c.in_ok-n.n c.index_mut.result.now
     (lent_read c.number_of.new.self c.args.shaped.now.shape.text c.in_ok-n.n c.index_mut.result.now c.in_ok-n.ensures.there c.index_mut.ensures.value).0
 
 pub returns-clause-stand : goal.returns-clause-stand
@@ -18,4 +18,4 @@ returns-clause-stand c =
     let shapes = c.number_of.new.self in
     let has = c.in_ok-n.ensures.there in
     on_ok c.read_positions.result c.read_positions.ensures.read
-    (λ is. set_right (IsReadIn c.args.arena.now) shapes.reads.items c.in_ok-n.n c.read_positions.new.read (slice_get_within shapes.reads.items c.in_ok-n.n has.0 has.1) is (c.in_ok-n.ensures.stand c.args.arena.now c.requires.stand))
+    (λ is. record { each = set_right (IsReadIn c.args.arena.now) shapes.reads.items c.in_ok-n.n c.read_positions.new.read (slice_get_within shapes.reads.items c.in_ok-n.n has.0 has.1) is (c.in_ok-n.ensures.stand c.args.arena.now c.requires.stand).each })

@@ -7,6 +7,6 @@ use Rattle.fill_doubt.proofs.tests.atoms.Goals as goal
 pub intern_atoms-requires : goal.intern_atoms-requires
 intern_atoms-requires c =
     let now = c.args.arena.now in
-    let one = c.in_ok-first.ensures now c.requires.column c.requires.months c.requires.start c.requires.stop c.requires.stops in
-    let other = c.in_ok-second.ensures now c.requires.column c.requires.months c.requires.start c.requires.stop c.requires.stops in
+    let one = c.in_ok-first.ensures now c.requires.column c.requires.months c.requires.start c.requires.stop in
+    let other = c.in_ok-second.ensures now c.requires.column c.requires.months c.requires.start c.requires.stop in
     subst (λ (is : List AtomItem). AreAtoms now (length now) is) (sym c.in_ok-items.ensures) (sample_pair now c.in_ok-first.first c.in_ok-second.second one other)
