@@ -6,8 +6,8 @@ use Rattle.fill_doubt.proofs.shapes.Shapes.add.Goals as goal
 
 pub returns-clause-stand : goal.returns-clause-stand
 returns-clause-stand c = λ entries stand. record {
-    each = pushed_right (IsReadIn entries) c.make_room.new.self.reads.items c.put_read.new.reads.items c.in_ok-read.read c.in_ok-put_read.ensures (c.in_ok-read.ensures.right entries) (c.make_room.ensures entries stand).each
-  }
+  each = pushed_right (IsReadIn entries) c.make_room.new.self.reads.items c.put_read.new.reads.items c.in_ok-read.read c.in_ok-put_read.ensures (c.in_ok-read.ensures.right entries) (c.make_room.ensures entries stand).each;
+}
 
 pub returns-clause-there : goal.returns-clause-there
 returns-clause-there c =
