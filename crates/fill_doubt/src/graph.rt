@@ -67,6 +67,7 @@ pub fn doubt_with(
         sheet,
         tables,
     };
+    shapes.make_room(alloc);
     let mut known = Known::new(alloc, mem::replace(shapes, Shapes::new(alloc)));
     let flag = differ_on(&on, &mut known, g)?;
     *shapes = known.shapes;

@@ -2,7 +2,7 @@
 use fill_shapes::Shape;
 use fill_text::Text;
 
-/// A text, its shape, and the number that what was found of the shape had when it was sought last.
+/// A text, its shape, and the number of what is found of the shape.
 #[derive(Drop)]
 pub(crate) struct Shaped<'a> {
     pub(crate) text: &'a Text,

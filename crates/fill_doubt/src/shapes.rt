@@ -7,14 +7,19 @@ use crate::read::Read;
 use fill_text::{NoMemory, Text};
 use std::alloc::Global;
 
-/// So many shapes are kept. Where there are more all are forgotten, so that memory stays bounded and a search short.
+/// How many shapes are kept from row to row at most.
 const MOST: usize = 128;
+
+/// How many characters the kept shapes may have together. Shapes of usual cells have some ten each.
+const LONGEST: usize = 16_384;
 
 /// What was found of the shapes of texts, kept from row to row. It is of one arena: what was found of a set is used
 /// wherever the set is asked for again.
 #[derive(Drop)]
 pub struct Shapes {
     pub(crate) reads: Vec<Read>,
+    /// How many characters the shapes have together.
+    size: usize,
 }
 
 impl Shapes {
@@ -24,7 +29,20 @@ impl Shapes {
     {
         Shapes {
             reads: Vec::new(alloc),
+            size: 0,
         }
+    }
+
+    /// Forgets all shapes where they are too many or too long, so that memory stays bounded and a search short. Each row
+    /// begins with it, so what is found on a row stays until its end.
+    pub(crate) fn make_room(&mut self, alloc: Global)
+        ensures { (c : Items Kept) → ShapesStand c self.old → ShapesStand c self.new }
+    {
+        if self.reads.len() < MOST && self.size < LONGEST {
+            return;
+        }
+        self.reads = Vec::new(alloc);
+        self.size = 0;
     }
 
     /// Whether the shape with this text is the one of the number.
@@ -72,19 +90,10 @@ impl Shapes {
         ensures there { IfOk result (IsReadAt self.new w.now) }
     {
         let read = Read::new(alloc, w.copy()?)?;
-        self.make_room(alloc);
         let n = self.reads.len();
         put_read(&mut self.reads, read)?;
+        self.size = self.size.saturating_add(w.len());
         Ok(n)
-    }
-
-    fn make_room(&mut self, alloc: Global)
-        ensures { (c : Items Kept) → ShapesStand c self.old → ShapesStand c self.new }
-    {
-        if self.reads.len() < MOST {
-            return;
-        }
-        self.reads = Vec::new(alloc);
     }
 }
 

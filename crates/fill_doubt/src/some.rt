@@ -1,4 +1,4 @@
-//! Some answers of a set of atoms, for which no more places are looked for than two answers take.
+//! Some answers of a set of atoms, for which no more positions are carried over than two answers take.
 ghost use Rattle.std.specs.Prelude.{◌≡◌, ◌↔◌, ℕ, List as Items, Option, Some, IfOk, IfSome, OnOk, MatchOption};
 ghost use Rattle.fill_arena.specs.Contents.{EachIn, IsAtomSet, IsPlaceSet, SomeIn};
 ghost use Rattle.fill_arena.specs.WellMade.{IsAtomItem};

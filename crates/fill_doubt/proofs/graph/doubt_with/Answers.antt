@@ -10,7 +10,7 @@ differ_on-requires-clause-row c = record { first = c.requires.first; last = c.re
 pub differ_on-requires-clause-known : goal.differ_on-requires-clause-known
 differ_on-requires-clause-known c =
     let on : OnRow = record { alloc = c.args.alloc; arena = c.args.arena; row = c.args.row; sheet = c.args.sheet; tables = c.args.tables } in
-    c.new-known.ensures on (subst (λ (s : Shapes). ShapesStand c.args.arena.now s) (sym c.replace.ensures.value) c.requires.shapes)
+    c.new-known.ensures on (subst (λ (s : Shapes). ShapesStand c.args.arena.now s) (sym c.replace.ensures.value) (c.make_room.ensures c.args.arena.now c.requires.shapes))
 
 pub returns-in_err-flag-clause-shapes : goal.returns-in_err-flag-clause-shapes
 returns-in_err-flag-clause-shapes c = subst (λ (s : Shapes). ShapesStand c.args.arena.now s) (sym c.replace.ensures.after) (c.new.ensures c.args.arena.now)
