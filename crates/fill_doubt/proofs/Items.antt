@@ -5,7 +5,7 @@ use Rattle.fill_text.specs.Data.{SheetData, TableData, cell_at}
 use Rattle.fill_tokens.specs.Value.{HasValue}
 use Rattle.fill_tokens.specs.declared.place.Place.{Place}
 use Rattle.fill_tokens.proofs.ValueLaws.{value_within}
-use Rattle.fill_tree.specs.Grammar.{IsPart, HasPart}
+use Rattle.fill_tree.specs.Grammar.{IsPart, HasPart, is_part, has_part}
 use Rattle.fill_tree.specs.Tree.{SourceTree, AtomTree, Atoms, col, select, constant, whole, sub, end, more}
 use Rattle.fill_tree.specs.Value.{IsValue, LooksUp, IsFilled, IsPieceBetween, IsHeadAndTail, SourceIs, AtomIs, ConditionIs, ConditionsAre}
 use Rattle.fill_arena.specs.Contents.{SomeIn, IsPlaceSet}
@@ -25,7 +25,7 @@ use Rattle.fill_eval.proofs.Pieces.{filled_of, filled_of_none, between_of, betwe
 use Rattle.fill_doubt.specs.Answers.{AreBetween, between, AreJoined, PiecesHave}
 use Rattle.fill_doubt.specs.Gives.{PlaceGives, SubGives, WholeOf, AreWholes, ArePiecesOf}
 use Rattle.fill_doubt.specs.Known.{IsOnRow, SourceAnswers, AtomAnswers, PartAnswers, SourceItemAnswers, PartItemAnswers, ConstantItemAnswers, ConditionPartAnswers, IsChoiceOf, ChoiceAnswers, IsRowOf, RowAnswers}
-use Rattle.fill_doubt.specs.Rows.{Choice, RowText, ChosenBy, ChoicesHave, in_front, RowFinds, AreFound, is_part, has_part}
+use Rattle.fill_doubt.specs.Rows.{Choice, RowText, ChosenBy, ChoicesHave, in_front, RowFinds, AreFound}
 use Rattle.fill_doubt.specs.declared.answers.Pieces.{Pieces}
 use Rattle.fill_doubt.specs.declared.row.OnRow.{OnRow}
 use Rattle.fill_doubt.proofs.Answered.{answer_one, place_answer, between_is, source_answer, conditions_answer, condition_answer, put_front, head_is}

@@ -3,7 +3,7 @@ use Rattle.std.specs.Prelude.{◌≡◌, ◌↔◌, ℕ, ◌≤◌, List, Option
 use Rattle.std.specs.HashMap.{get}
 use Rattle.std.specs.Bool.{nat_eq}
 use Rattle.fill_tables.specs.Keys.{KeysDistinguish}
-use Rattle.fill_tree.specs.Grammar.{IsPart}
+use Rattle.fill_tree.specs.Grammar.{IsPart, is_part, has_part}
 use Rattle.fill_tree.specs.Tree.{SourceTree, AtomTree, Atoms}
 use Rattle.fill_tree.specs.Value.{IsValue, IsFilled, SourceIs, AtomIs, ConditionIs, ConditionsAre}
 use Rattle.fill_arena.specs.Contents.{EachIn}
@@ -17,7 +17,7 @@ use Rattle.fill_arena.specs.declared.entry.SourceItem.{SourceItem}
 use Rattle.fill_eval.specs.Piece.{IsWithin}
 use Rattle.fill_doubt.specs.Answers.{TextsHave, PiecesHave}
 use Rattle.fill_doubt.specs.Gives.{SourceGives, AtomGives}
-use Rattle.fill_doubt.specs.Rows.{Choice, RowText, is_part, has_part}
+use Rattle.fill_doubt.specs.Rows.{Choice, RowText}
 use Rattle.fill_doubt.specs.Shapes.{IsShapeOf, ShapesStand}
 use Rattle.fill_doubt.specs.declared.answers.Texts.{Texts}
 use Rattle.fill_doubt.specs.declared.answers.Pieces.{Pieces}

@@ -1,7 +1,6 @@
 -- The texts of conditions, one for each, and what lookups find by them.
 use Rattle.std.specs.Prelude.{◌≡◌, ℕ, List, ◌∷◌, Bool, true, false, ◌||◌, Option, None, Some, map}
 use Rattle.fill_text.specs.Data.{TableData}
-use Rattle.fill_tree.specs.Tree.{AtomTree, Atoms, constant, whole, sub, end, more}
 use Rattle.fill_tree.specs.Value.{IsValue, LooksUp}
 use Rattle.fill_arena.specs.Contents.{SomeIn}
 use Rattle.fill_doubt.specs.Answers.{Have, PiecesHave}
@@ -53,13 +52,3 @@ RowFinds tables column table key (Some r) o = (r.part ≡ true) × IsValue (Look
 
 abbrev pub AreFound : List TableData → ℕ → ℕ → ℕ → (Option RowText → Type 0) → Option (List ℕ) → Type 0
 AreFound tables column table key R o = (r : Option RowText) × R r × RowFinds tables column table key r o
-
--- whether an atom is no constant, and one of several
-abbrev pub is_part : AtomTree → Bool
-is_part (constant t) = false
-is_part (whole s) = true
-is_part (sub s p q) = true
-
-abbrev pub has_part : Atoms → Bool
-has_part end = false
-has_part (more a rest) = is_part a || has_part rest

@@ -4,9 +4,9 @@ use Rattle.std.specs.Prelude.{if◌then◌else◌, ◌==◌, max}
 use Rattle.std.specs.Fmt.{decimal}
 use Rattle.std.proofs.lemmas.Bool.{cases_eq, ne_eqb}
 use Rattle.std.proofs.lemmas.List.{append_assoc}
-use Rattle.fill_tree.specs.Grammar.{number_of_atoms, source_depth, atom_depth, greatest_depth, HasPart}
+use Rattle.fill_tree.specs.Grammar.{number_of_atoms, source_depth, atom_depth, greatest_depth, HasPart, is_part, has_part}
 use Rattle.fill_tree.specs.Tree.{SourceTree, AtomTree, Atoms, col, select, constant, whole, sub, end, more, atoms_of}
-use Rattle.fill_print.specs.Conditions.{SourceFront, AtomFront, is_part, Room, at_start, after_one, comma, ConditionStep, Conditions}
+use Rattle.fill_print.specs.Conditions.{SourceFront, AtomFront, Room, at_start, after_one, comma, ConditionStep, Conditions}
 use Rattle.fill_print.specs.Grammar.{greatest, Lookup}
 use Rattle.fill_print.specs.Notation.{source_text, atom_text, after_commas}
 use Rattle.fill_print.specs.Reading.{Then, Plain, Gives}
@@ -26,10 +26,6 @@ pub listed : (x : Atoms) → atoms_of (list_of x) ≡ x
 unfolding list_of
 listed end = refl
 listed (more a rest) = ap (λ y. more a y) (listed rest)
-
-abbrev has_part : Atoms → Bool
-has_part end = false
-has_part (more a rest) = is_part a || has_part rest
 
 part_there : (x : Atoms) → HasPart x → has_part x ≡ true
 part_there end h = absurd h

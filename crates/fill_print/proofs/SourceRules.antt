@@ -5,9 +5,9 @@ use Rattle.std.specs.Fmt.{decimal}
 use Rattle.std.proofs.lemmas.Bool.{cases_eq, ne_eqb, eqb-true, eq-eqb}
 use Rattle.std.proofs.lemmas.List.{append_assoc}
 use Rattle.fill_tokens.specs.declared.place.Place.{Place}
-use Rattle.fill_tree.specs.Grammar.{number_of_atoms, source_depth, atom_depth, greatest_depth, HasPart}
+use Rattle.fill_tree.specs.Grammar.{number_of_atoms, source_depth, atom_depth, greatest_depth, HasPart, is_part}
 use Rattle.fill_tree.specs.Tree.{SourceTree, AtomTree, Atoms, col, select, constant, whole, sub, end, more, atoms_of}
-use Rattle.fill_print.specs.Conditions.{PlaceFront, SourceFront, AtomFront, PartFront, is_part, Room, at_start, after_one, comma, ConditionStep, Conditions, IsRoom, ConditionFront}
+use Rattle.fill_print.specs.Conditions.{PlaceFront, SourceFront, AtomFront, PartFront, Room, at_start, after_one, comma, ConditionStep, Conditions, IsRoom, ConditionFront}
 use Rattle.fill_print.specs.Grammar.{greatest, Column, Lookup, Constant, WholePart, SubPart, FirstCondition, LaterCondition, NoAtom}
 use Rattle.fill_print.specs.Notation.{source_text, atom_text, place_text, after_commas}
 use Rattle.fill_print.specs.Reading.{IsNotNext, Spells, Takes, Halts, Then, Plain, Gives}

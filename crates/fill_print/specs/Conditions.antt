@@ -2,8 +2,8 @@
 use Rattle.std.specs.Prelude.{◌≡◌, ℕ, ◌-◌, ◌<◌, ◌≤◌, Bool, true, false, ◌||◌, List, [], ◌∷◌, ◌++◌, Option, Some, None, ◌==◌, if◌then◌else◌}
 use Rattle.fill_tokens.specs.PlaceGrammar.{IsPlace}
 use Rattle.fill_tokens.specs.declared.place.Place.{Place}
-use Rattle.fill_tree.specs.Grammar.{source_depth, atom_depth}
-use Rattle.fill_tree.specs.Tree.{SourceTree, AtomTree, constant, whole, sub}
+use Rattle.fill_tree.specs.Grammar.{source_depth, atom_depth, is_part}
+use Rattle.fill_tree.specs.Tree.{SourceTree, AtomTree}
 use Rattle.fill_print.specs.Notation.{place_text, source_text, atom_text}
 use Rattle.fill_print.specs.Reading.{ManyFrom}
 use Rattle.fill_print.specs.Rules.{IsSource, IsCondition}
@@ -17,11 +17,6 @@ SourceFront depth t s k = IsSource t × (source_depth t ≤ depth) × (s ≡ sou
 
 abbrev pub AtomFront : ℕ → AtomTree → List ℕ → List ℕ → Type 0
 AtomFront depth a s k = IsCondition a × (atom_depth a ≤ depth) × (s ≡ atom_text a ++ k)
-
-abbrev pub is_part : AtomTree → Bool
-is_part (constant t) = false
-is_part (whole t) = true
-is_part (sub t p q) = true
 
 -- an atom that is no constant
 abbrev pub PartFront : ℕ → AtomTree → List ℕ → List ℕ → Type 0

@@ -1,5 +1,5 @@
 -- Which trees the bounded grammar has, for settings, a sheet and tables.
-use Rattle.std.specs.Prelude.{◌≡◌, ◌≢◌, ◌⊎◌, ℕ, suc, ◌+◌, ◌<◌, ◌≤◌, ◌^◌, ◌==◌, cond, List, [], Some, All, Contains, true, max, length}
+use Rattle.std.specs.Prelude.{◌≡◌, ◌≢◌, ◌⊎◌, ℕ, suc, ◌+◌, ◌<◌, ◌≤◌, ◌^◌, ◌==◌, cond, List, [], Some, All, Contains, Bool, true, false, ◌||◌, max, length}
 use Rattle.std.specs.Char.{IsScalar}
 use Rattle.fill_text.specs.Classes.{is_separator}
 use Rattle.fill_text.specs.Data.{SheetData, TableData, key_at, width_at}
@@ -45,6 +45,16 @@ IsPart (sub s p q) = Unit {0}
 abbrev pub HasPart : Atoms → Type 0
 HasPart end = ⊥
 HasPart (more a rest) = IsPart a ⊎ HasPart rest
+
+-- the same as tests
+abbrev pub is_part : AtomTree → Bool
+is_part (constant t) = false
+is_part (whole s) = true
+is_part (sub s p q) = true
+
+abbrev pub has_part : Atoms → Bool
+has_part end = false
+has_part (more a rest) = is_part a || has_part rest
 
 -- the numbers of a lookup belong to the tables: a key of so many columns, and a column that is not one of them
 abbrev pub AreNumbersOf : List TableData → ℕ → ℕ → ℕ → ℕ → Type 0

@@ -4,7 +4,8 @@ use Rattle.std.proofs.lemmas.Grind.{common_steps}
 use Rattle.std.proofs.lemmas.List.{map_push}
 use Rattle.fill_tree.specs.Tree.{AtomTree}
 use Rattle.fill_tree.specs.Meaning.{source_tree, atom_tree}
-use Rattle.fill_print.specs.Conditions.{PlaceFront, SourceFront, is_part, Room, at_start, after_one, ConditionFront, ConditionStep, Conditions, IsRoom}
+use Rattle.fill_tree.specs.Grammar.{is_part}
+use Rattle.fill_print.specs.Conditions.{PlaceFront, SourceFront, Room, at_start, after_one, ConditionFront, ConditionStep, Conditions, IsRoom}
 use Rattle.fill_print.specs.Grammar.{greatest}
 use Rattle.fill_print.specs.Numbers.{Number}
 use Rattle.fill_print.specs.Reading.{Plain, Takes, Reads}
