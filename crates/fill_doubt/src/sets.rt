@@ -1,13 +1,13 @@
 //! The answers of sets of sources and atoms.
 //!
 //! What a set names is older than the set, so the way down ends.
-ghost use Rattle.std.specs.Prelude.{◌≡◌, ◌↔◌, ◌∷◌, ℕ, List as Items, Option, IfOk, IfSome, OnOk};
+ghost use Rattle.std.specs.Prelude.{◌≡◌, ◌↔◌, ◌∷◌, ℕ, List as Items, Option, false, IfOk, IfSome, OnOk};
 ghost use Rattle.fill_arena.specs.Contents.{EachIn, IsAtomSet, IsPlaceSet, IsSourceSet};
 ghost use Rattle.fill_arena.specs.WellMade.{IsAtomItem, IsConditionItem, IsSourceItem, OlderAtoms};
 ghost use Rattle.fill_arena.specs.declared.entry.ConditionItem.{ConditionItem as Listed};
 ghost use Rattle.fill_tree.specs.Value.{IsFilled, IsValue};
 ghost use Rattle.fill_eval.specs.Piece.{IsWithin};
-ghost use Rattle.fill_doubt.specs.Answers.{Gains, PiecesHave, TextsHave};
+ghost use Rattle.fill_doubt.specs.Answers.{Gains, GainsSome, PiecesHave, TextsHave};
 ghost use Rattle.fill_doubt.specs.Known.{AreKnown, AtomAnswers, ConditionPartAnswers, ConstantItemAnswers, IsOnRow, PartAnswers, PartItemAnswers, RowAnswers, SourceAnswers, SourceItemAnswers};
 ghost use Rattle.fill_doubt.specs.Gives.{ArePiecesOf, AreWholes, SubGives};
 ghost use Rattle.fill_doubt.specs.Rows.{RowText, RowsHave};
@@ -211,18 +211,20 @@ fn scan_parts<'a>(on: &OnRow<'a>, known: &mut Known<'a>, s: AtomSet) -> Result<P
     let items = arena.atoms(s);
     let mut found = Pieces::new(on.alloc);
     for item in items {
-        put_part(on, known, s, item, &mut found)?;
+        put_part(on, known, s, item, false, &mut found)?;
     }
     Ok(found)
 }
 
-/// The texts of the atoms that an item of the set stands for, if they are no constants.
+/// The texts of the atoms that an item of the set stands for, if they are no constants: some where few will do, and else
+/// all of them.
 #[cycle(sets)]
-fn put_part<'a>(
+pub(crate) fn put_part<'a>(
     on: &OnRow<'a>,
     known: &mut Known<'a>,
     set: AtomSet,
     item: &'a AtomItem,
+    few: bool,
     found: &mut Pieces<'a>,
 ) -> Result<(), NoMemory>
     requires item { IsAtomItem on.now.arena.now set item.now }
@@ -231,7 +233,8 @@ fn put_part<'a>(
     requires within { EachIn IsWithin found.old.pieces.items }
     ensures known { OnOk result (AreKnown on.now known.new) }
     ensures within { OnOk result (EachIn IsWithin found.new.pieces.items) }
-    ensures gains { OnOk result (Gains (PiecesHave found.old) (PiecesHave found.new) (PartItemAnswers on.now item.now)) }
+    ensures some { OnOk result (GainsSome (PiecesHave found.old) (PiecesHave found.new) (PartItemAnswers on.now item.now)) }
+    ensures all { OnOk result (few ≡ false → Gains (PiecesHave found.old) (PiecesHave found.new) (PartItemAnswers on.now item.now)) }
 {
     match item {
         AtomItem::Const(_) => Ok(()),
@@ -241,13 +244,13 @@ fn put_part<'a>(
         }
         AtomItem::Sub(sources, lefts, rights) => {
             let texts = sources_of(on, known, *sources)?;
-            put_subs(on, known, &texts, *lefts, *rights, found)
+            put_subs(on, known, &texts, *lefts, *rights, few, found)
         }
     }
 }
 
 /// The texts that are not empty.
-pub(crate) fn put_wholes<'a>(texts: &Texts<'a>, found: &mut Pieces<'a>) -> Result<(), NoMemory>
+fn put_wholes<'a>(texts: &Texts<'a>, found: &mut Pieces<'a>) -> Result<(), NoMemory>
     requires within { EachIn IsWithin found.old.pieces.items }
     ensures within { EachIn IsWithin found.new.pieces.items }
     ensures gains { OnOk result (Gains (PiecesHave found.old) (PiecesHave found.new) (AreWholes (TextsHave texts.now))) }
@@ -273,13 +276,14 @@ fn put_whole<'a>(text: &'a Text, found: &mut Pieces<'a>) -> Result<(), NoMemory>
     }
 }
 
-/// The pieces of the texts between places of the two sets.
+/// The pieces of the texts between places of the two sets: some where few will do, and else all of them.
 fn put_subs<'a>(
     on: &OnRow<'a>,
     known: &mut Known<'a>,
     texts: &Texts<'a>,
     lefts: PlaceSet,
     rights: PlaceSet,
+    few: bool,
     found: &mut Pieces<'a>,
 ) -> Result<(), NoMemory>
     requires lefts { IsPlaceSet on.now.arena.now lefts }
@@ -288,11 +292,12 @@ fn put_subs<'a>(
     requires within { EachIn IsWithin found.old.pieces.items }
     ensures known { OnOk result (AreKnown on.now known.new) }
     ensures within { OnOk result (EachIn IsWithin found.new.pieces.items) }
-    ensures gains { OnOk result (Gains (PiecesHave found.old) (PiecesHave found.new) (ArePiecesOf on.now.arena.now lefts rights (TextsHave texts.now))) }
+    ensures some { OnOk result (GainsSome (PiecesHave found.old) (PiecesHave found.new) (ArePiecesOf on.now.arena.now lefts rights (TextsHave texts.now))) }
+    ensures all { OnOk result (few ≡ false → Gains (PiecesHave found.old) (PiecesHave found.new) (ArePiecesOf on.now.arena.now lefts rights (TextsHave texts.now))) }
 {
     found.put_none(texts.none);
     for i in 0..texts.texts.len() {
-        put_pieces(on, known, texts.texts[i], lefts, rights, found)?;
+        put_pieces(on, known, texts.texts[i], lefts, rights, few, found)?;
     }
     Ok(())
 }
@@ -303,6 +308,7 @@ fn put_pieces<'a>(
     text: &'a Text,
     lefts: PlaceSet,
     rights: PlaceSet,
+    few: bool,
     found: &mut Pieces<'a>,
 ) -> Result<(), NoMemory>
     requires lefts { IsPlaceSet on.now.arena.now lefts }
@@ -311,10 +317,11 @@ fn put_pieces<'a>(
     requires within { EachIn IsWithin found.old.pieces.items }
     ensures known { OnOk result (AreKnown on.now known.new) }
     ensures within { OnOk result (EachIn IsWithin found.new.pieces.items) }
-    ensures gains { OnOk result (Gains (PiecesHave found.old) (PiecesHave found.new) (SubGives on.now.arena.now lefts rights text.now)) }
+    ensures some { OnOk result (GainsSome (PiecesHave found.old) (PiecesHave found.new) (SubGives on.now.arena.now lefts rights text.now)) }
+    ensures all { OnOk result (few ≡ false → Gains (PiecesHave found.old) (PiecesHave found.new) (SubGives on.now.arena.now lefts rights text.now)) }
 {
-    let lefts = positions_of(on, known, lefts, text, false)?;
-    let rights = positions_of(on, known, rights, text, false)?;
+    let lefts = positions_of(on, known, lefts, text, few)?;
+    let rights = positions_of(on, known, rights, text, few)?;
     put_between(found, text, &lefts, &rights)
 }
 

@@ -1,4 +1,4 @@
-use Rattle.std.proofs.Common.{◌≡◌, ◌↔◌, ◌-◌, ℕ, suc, drop, List, ◌∷◌, Option, sym, ap, subst, ◌∙◌, arith, rules}
+use Rattle.std.proofs.Common.{◌≡◌, ◌↔◌, ◌-◌, ℕ, suc, drop, List, ◌∷◌, Option, refl, sym, ap, subst, ◌∙◌, arith, rules}
 use Rattle.fill_arena.proofs.Scan.{here}
 use Rattle.fill_arena.specs.Contents.{EachIn, SomeIn}
 use Rattle.fill_arena.specs.declared.entry.ConditionItem.{ConditionItem}
@@ -11,7 +11,7 @@ use Rattle.fill_doubt.specs.Gives.{ArePiecesOf, AreWholes}
 use Rattle.fill_doubt.specs.Known.{PartAnswers, PartItemAnswers, RowAnswers, SourceAnswers, SourceItemAnswers}
 use Rattle.fill_doubt.specs.Rows.{AreFound, RowText, RowsHave}
 use Rattle.fill_doubt.proofs.Flags.{drop_here, drop_whole, if_ok, on_ok}
-use Rattle.fill_doubt.proofs.Gains.{below_start, below_more, below_end, gains_all, gains_alike, gains_none, have_same}
+use Rattle.fill_doubt.proofs.Gains.{below_start, below_more, below_end, gains_all, gains_alike, gains_none, have_same, some_into}
 use Rattle.fill_doubt.proofs.Items.{lookups_by, no_parts, no_rows, parts_listed, rows_by, sources_listed, subs_by, wholes_by}
 use Rattle.fill_doubt.proofs.sets.+sets.Goals as goal
 
@@ -72,7 +72,7 @@ scan_parts-loop-item-preserved n c =
       known = c.in_ok-put_part.ensures.known;
       within = c.in_ok-put_part.ensures.within;
       gains = below_more (λ y. PartItemAnswers c.args.on.now y) items (PiecesHave c.new-found.result) (PiecesHave c.loop-item.found) (PiecesHave c.put_part.new.found) i x
-          (here items i x c.loop-item-test.true c.item-item.is) c.loop-item.invariant.gains c.in_ok-put_part.ensures.gains;
+          (here items i x c.loop-item-test.true c.item-item.is) c.loop-item.invariant.gains (c.in_ok-put_part.ensures.all refl);
     }
 
 pub scan_parts-returns-clause-exact : goal.scan_parts-returns-clause-exact
@@ -144,20 +144,28 @@ put_lookups-returns-clause-gains n c =
     on_ok c.look_up.result c.look_up.ensures
     (gains_alike _ _ (AreFound on.tables.now i.column i.table i.key R) (SourceItemAnswers on (source.Select i)) (lookups_by on c.requires.row i R rows))
 
-pub put_part-returns-in-Const-clause-gains : goal.put_part-returns-in-Const-clause-gains
-put_part-returns-in-Const-clause-gains n c =
+pub put_part-returns-in-Const-clause-all : goal.put_part-returns-in-Const-clause-all
+put_part-returns-in-Const-clause-all n c = λ few.
     gains_none _ _ (λ o h. no_parts c.args.on.now c.requires.row c.args.item.now o _ c.in-Const.is h)
 
-pub put_part-returns-in_ok-texts-in-Whole-clause-gains : goal.put_part-returns-in_ok-texts-in-Whole-clause-gains
-put_part-returns-in_ok-texts-in-Whole-clause-gains n c =
+pub put_part-returns-in_ok-texts-in-Whole-clause-some : goal.put_part-returns-in_ok-texts-in-Whole-clause-some
+put_part-returns-in_ok-texts-in-Whole-clause-some n c =
     let on = c.args.on.now in
     let T = TextsHave c.in_ok-texts-in-Whole.texts in
     let item : (o : Option (List ℕ)) → AreWholes T o ↔ PartItemAnswers on c.args.item.now o =
     rw c.in-Whole.is (wholes_by on c.requires.row c.in-Whole.sources T c.in_ok-texts-in-Whole.ensures.exact) in
-    on_ok c.put_wholes.result c.put_wholes.ensures.gains (gains_alike _ _ (AreWholes T) (PartItemAnswers on c.args.item.now) item)
+    on_ok c.put_wholes.result c.put_wholes.ensures.gains (λ g o h. some_into _ _ (AreWholes T) (PartItemAnswers on c.args.item.now) (λ q w. (item q).0 w) (λ q w. (g q).0 w) o h)
 
-pub put_part-returns-in_ok-texts-in-Sub-clause-gains : goal.put_part-returns-in_ok-texts-in-Sub-clause-gains
-put_part-returns-in_ok-texts-in-Sub-clause-gains n c =
+pub put_part-returns-in_ok-texts-in-Whole-clause-all : goal.put_part-returns-in_ok-texts-in-Whole-clause-all
+put_part-returns-in_ok-texts-in-Whole-clause-all n c =
+    let on = c.args.on.now in
+    let T = TextsHave c.in_ok-texts-in-Whole.texts in
+    let item : (o : Option (List ℕ)) → AreWholes T o ↔ PartItemAnswers on c.args.item.now o =
+    rw c.in-Whole.is (wholes_by on c.requires.row c.in-Whole.sources T c.in_ok-texts-in-Whole.ensures.exact) in
+    on_ok c.put_wholes.result c.put_wholes.ensures.gains (λ g few. gains_alike _ _ (AreWholes T) (PartItemAnswers on c.args.item.now) item g)
+
+pub put_part-returns-in_ok-texts-in-Sub-clause-some : goal.put_part-returns-in_ok-texts-in-Sub-clause-some
+put_part-returns-in_ok-texts-in-Sub-clause-some n c =
     let on = c.args.on.now in
     let T = TextsHave c.in_ok-texts-in-Sub.texts in
     let l = c.in-Sub.lefts in
@@ -165,7 +173,18 @@ put_part-returns-in_ok-texts-in-Sub-clause-gains n c =
     let older = rw c.in-Sub.is at c.requires.item in
     let item : (o : Option (List ℕ)) → ArePiecesOf on.arena.now l r T o ↔ PartItemAnswers on c.args.item.now o =
     rw c.in-Sub.is (subs_by on c.requires.row c.in-Sub.sources l r T older.1.0 older.2.0 c.in_ok-texts-in-Sub.ensures.exact) in
-    on_ok c.put_subs.result c.put_subs.ensures.gains (gains_alike _ _ (ArePiecesOf on.arena.now l r T) (PartItemAnswers on c.args.item.now) item)
+    on_ok c.put_subs.result c.put_subs.ensures.some (some_into _ _ (ArePiecesOf on.arena.now l r T) (PartItemAnswers on c.args.item.now) (λ o h. (item o).0 h))
+
+pub put_part-returns-in_ok-texts-in-Sub-clause-all : goal.put_part-returns-in_ok-texts-in-Sub-clause-all
+put_part-returns-in_ok-texts-in-Sub-clause-all n c =
+    let on = c.args.on.now in
+    let T = TextsHave c.in_ok-texts-in-Sub.texts in
+    let l = c.in-Sub.lefts in
+    let r = c.in-Sub.rights in
+    let older = rw c.in-Sub.is at c.requires.item in
+    let item : (o : Option (List ℕ)) → ArePiecesOf on.arena.now l r T o ↔ PartItemAnswers on c.args.item.now o =
+    rw c.in-Sub.is (subs_by on c.requires.row c.in-Sub.sources l r T older.1.0 older.2.0 c.in_ok-texts-in-Sub.ensures.exact) in
+    on_ok c.put_subs.result c.put_subs.ensures.all (λ g few. gains_alike _ _ (ArePiecesOf on.arena.now l r T) (PartItemAnswers on c.args.item.now) item (g few))
 
 pub sources_of-returns-in-Some-clause-exact : goal.sources_of-returns-in-Some-clause-exact
 sources_of-returns-in-Some-clause-exact n c =

@@ -11,8 +11,8 @@ loop-item-init c = record {
   sound = λ o h. absurd (c.new-found.ensures.none o h);
 }
 
-pub put_some-requires-clause-item : goal.put_some-requires-clause-item
-put_some-requires-clause-item c =
+pub put_part-requires-clause-item : goal.put_part-requires-clause-item
+put_part-requires-clause-item c =
     let items = c.atoms-items.result.now in
     let i = c.loop-item.item-index in
     let x = c.item-item.result in
@@ -25,7 +25,7 @@ loop-item-preserved c =
     let x = c.item-item.result in
     let at = here items i x c.loop-item-test.true c.item-item.is in
     record {
-      known = c.in_ok-put_some.ensures.known;
-      within = c.in_ok-put_some.ensures.within;
-      sound = λ o h. ⊎_elim (λ l. c.loop-item.invariant.sound o l) (λ r. part_answers c.args.on.now c.requires.row c.args.s items c.atoms-items.ensures i x at o r) (c.in_ok-put_some.ensures.gains o h);
+      known = c.in_ok-put_part.ensures.known;
+      within = c.in_ok-put_part.ensures.within;
+      sound = λ o h. ⊎_elim (λ l. c.loop-item.invariant.sound o l) (λ r. part_answers c.args.on.now c.requires.row c.args.s items c.atoms-items.ensures i x at o r) (c.in_ok-put_part.ensures.some o h);
     }
