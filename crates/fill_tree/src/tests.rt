@@ -30,18 +30,35 @@ fn lookup(alloc: Global, column: u32, table: u32, condition: Atom) -> Result<Sou
     Ok(Source::Select(Box::new(alloc, select)?))
 }
 
-/// A price by the row's item and the year 2012.
-fn price(alloc: Global) -> Result<Atom, Fail> {
+/// The numbers of a column, a table and a key.
+type Numbers = (u32, u32, u32);
+
+/// A lookup by two conditions.
+fn by_two(
+    alloc: Global,
+    (column, table, key): Numbers,
+    first: Atom,
+    second: Atom,
+) -> Result<Atom, Fail> {
     let mut conditions = List::new(alloc);
-    conditions.push(Atom::Whole(Source::Col(1)))?;
-    conditions.push(constant(alloc, "2012")?)?;
+    conditions.push(first)?;
+    conditions.push(second)?;
     let select = Select {
-        column: 3,
-        table: 1,
-        key: 1,
+        column,
+        table,
+        key,
         conditions,
     };
     Ok(Atom::Whole(Source::Select(Box::new(alloc, select)?)))
+}
+
+/// A price by an item and a year that does not depend on the row.
+fn price(alloc: Global, item: Atom, year: &str) -> Result<Atom, Fail> {
+    by_two(alloc, (3, 1, 1), item, constant(alloc, year)?)
+}
+
+fn input() -> Atom {
+    Atom::Whole(Source::Col(1))
 }
 
 /// The name of a month by its number, which stands between two hyphens.
@@ -57,34 +74,72 @@ fn month(alloc: Global) -> Result<Atom, Fail> {
 
 /// Three lookups inside each other.
 fn chain(alloc: Global) -> Result<Atom, Fail> {
-    let first = lookup(alloc, 2, 1, Atom::Whole(Source::Col(1)))?;
+    let first = lookup(alloc, 2, 1, input())?;
     let second = lookup(alloc, 2, 2, Atom::Whole(first))?;
     Ok(Atom::Whole(lookup(alloc, 2, 3, Atom::Whole(second))?))
 }
 
+/// A program of one atom in a few words.
+#[derive(Clone, Copy)]
+enum Kind<'a> {
+    /// The program of no atom.
+    Nothing,
+    Constant(&'a str),
+    /// The piece of the first column from its last capital to its end.
+    LastName,
+    /// The piece from behind the first spaces.
+    AfterSpace,
+    FirstCharacter,
+    /// The price of the row's item in 2012.
+    Price,
+    Month,
+    Chain,
+}
+
+/// The piece of the first column between two places.
 fn piece(left: Place, right: Place) -> Atom {
     Atom::Sub(Source::Col(1), left, right)
 }
 
+fn program_of(alloc: Global, kind: Kind) -> Result<Program, Fail> {
+    match kind {
+        Kind::Nothing => Ok(Program {
+            atoms: List::new(alloc),
+        }),
+        Kind::Constant(text) => one(alloc, constant(alloc, text)?),
+        Kind::LastName => {
+            let last = Place::Pos(Seq::empty(), Seq::one(Upper), -1);
+            one(alloc, piece(last, Place::CPos(-1)))
+        }
+        Kind::AfterSpace => {
+            let after = Place::Pos(Seq::one(Space), Seq::empty(), 1);
+            one(alloc, piece(after, Place::CPos(-1)))
+        }
+        Kind::FirstCharacter => one(alloc, piece(Place::CPos(0), Place::CPos(1))),
+        Kind::Price => one(alloc, price(alloc, input(), "2012")?),
+        Kind::Month => one(alloc, month(alloc)?),
+        Kind::Chain => one(alloc, chain(alloc)?),
+    }
+}
+
 /// Programs from the first to the last, each with its cost.
 fn programs(alloc: Global) -> Result<List<(Program, u64)>, Fail> {
-    let last_name = Place::Pos(Seq::empty(), Seq::one(Upper), -1);
-    let after_space = Place::Pos(Seq::one(Space), Seq::empty(), 1);
     let mut programs = List::new(alloc);
-    let nothing = Program {
-        atoms: List::new(alloc),
-    };
-    programs.push((nothing, 0))?;
-    programs.push((one(alloc, piece(last_name, Place::CPos(-1)))?, 16))?;
-    programs.push((one(alloc, piece(after_space, Place::CPos(-1)))?, 16))?;
-    programs.push((one(alloc, piece(Place::CPos(0), Place::CPos(1)))?, 22))?;
-    programs.push((one(alloc, constant(alloc, "a")?)?, 27))?;
-    programs.push((one(alloc, constant(alloc, "$2")?)?, 28))?;
-    programs.push((one(alloc, month(alloc)?)?, 31))?;
-    programs.push((one(alloc, price(alloc)?)?, 34))?;
-    programs.push((one(alloc, chain(alloc)?)?, 43))?;
-    programs.push((one(alloc, constant(alloc, "March")?)?, 75))?;
-    programs.push((one(alloc, constant(alloc, "Monday")?)?, 87))?;
+    for (kind, cost) in [
+        (Kind::Nothing, 0),
+        (Kind::LastName, 16),
+        (Kind::AfterSpace, 16),
+        (Kind::FirstCharacter, 22),
+        (Kind::Constant("a"), 27),
+        (Kind::Constant("$2"), 28),
+        (Kind::Month, 31),
+        (Kind::Price, 34),
+        (Kind::Chain, 43),
+        (Kind::Constant("March"), 75),
+        (Kind::Constant("Monday"), 87),
+    ] {
+        programs.push((program_of(alloc, kind)?, cost))?;
+    }
     Ok(programs)
 }
 
@@ -96,45 +151,75 @@ fn is_before(p: &Program, q: &Program) -> bool {
     }
 }
 
+/// Whether the program at this place is before those that follow it, and before no others.
+fn stands_at(programs: &[(Program, u64)], place: usize, p: &Program) -> bool {
+    for (i, (q, _)) in programs.iter().enumerate() {
+        if is_before(p, q) != (place < i) {
+            return false;
+        }
+    }
+    true
+}
+
+/// The first place of a program that has another cost or does not belong there.
+fn wrong_place(programs: &[(Program, u64)]) -> Option<usize> {
+    for (i, (p, cost)) in programs.iter().enumerate() {
+        if p.cost() != Some(*cost) || !stands_at(programs, i, p) {
+            return Some(i);
+        }
+    }
+    None
+}
+
 #[test]
 fn costs_and_order_of_programs(rt: HostRuntime) -> Result<(), Fail> {
     let programs = programs(rt.alloc())?;
-    for (i, (p, cost)) in programs.as_slice().iter().enumerate() {
-        assert_eq!(rt; p.cost(), Some(*cost), "{p:?}");
-        for (j, (q, _)) in programs.as_slice().iter().enumerate() {
-            assert_eq!(rt; is_before(p, q), i < j, "{p:?} and {q:?}");
-        }
-    }
+    assert_eq!(rt; wrong_place(programs.as_slice()), None);
     Ok(())
+}
+
+/// Whether a copy of the program equals it and has this cost.
+fn is_copied(alloc: Global, p: &Program, cost: u64) -> Result<bool, Fail> {
+    let copied = p.copy(alloc)?;
+    Ok(copied.compare(p) == Ordering::Equal && copied.cost() == Some(cost))
 }
 
 #[test]
 fn copies_of_programs_are_equal(rt: HostRuntime) -> Result<(), Fail> {
     let programs = programs(rt.alloc())?;
     for (p, cost) in programs.as_slice() {
-        let copied = p.copy(rt.alloc())?;
-        assert_eq!(rt; copied.compare(p), Ordering::Equal, "{p:?}");
-        assert_eq!(rt; copied.cost(), Some(*cost), "{p:?}");
+        assert!(rt; is_copied(rt.alloc(), p, *cost)?, "{cost}");
     }
     Ok(())
+}
+
+/// The same of an atom.
+fn atom_is_copied(alloc: Global, atom: &Atom, cost: u64) -> Result<bool, Fail> {
+    let copied = atom.copy(alloc)?;
+    Ok(copied.compare(atom) == Ordering::Equal && copied.cost() == Some(cost))
 }
 
 #[test]
 fn copies_of_atoms_are_equal(rt: HostRuntime) -> Result<(), Fail> {
     let atom = month(rt.alloc())?;
-    let copied = atom.copy(rt.alloc())?;
-    assert_eq!(rt; copied.compare(&atom), Ordering::Equal);
-    assert_eq!(rt; copied.cost(), Some(26));
+    assert!(rt; atom_is_copied(rt.alloc(), &atom, 26)?);
     Ok(())
+}
+
+/// The same of a source, whose copy comes behind the seventh column.
+fn source_is_copied(alloc: Global, source: &Source, cost: u64) -> Result<bool, Fail> {
+    let copied = source.copy(alloc)?;
+    Ok(
+        copied.compare(source) == Ordering::Equal
+            && copied.cost() == Some(cost)
+            && Source::Col(7).compare(&copied) == Ordering::Less,
+    )
 }
 
 #[test]
 fn copies_of_sources_are_equal(rt: HostRuntime) -> Result<(), Fail> {
-    let source = lookup(rt.alloc(), 2, 1, Atom::Whole(Source::Col(1)))?;
-    let copied = source.copy(rt.alloc())?;
-    assert_eq!(rt; copied.compare(&source), Ordering::Equal);
-    assert_eq!(rt; copied.cost(), Some(12));
-    assert_eq!(rt; Source::Col(7).compare(&copied), Ordering::Less);
+    let source = lookup(rt.alloc(), 2, 1, input())?;
+    assert!(rt; source_is_copied(rt.alloc(), &source, 12)?);
     Ok(())
 }
 
@@ -157,34 +242,56 @@ fn switch(alloc: Global) -> Result<Switch, Fail> {
     Ok(Switch { cases, last })
 }
 
+/// Whether the only case is of a negated literal, and of a program of this cost.
+fn is_only_case(cases: &[Case], cost: u64) -> bool {
+    for case in cases {
+        if !case.guard.first.negated || case.program.cost() != Some(cost) {
+            return false;
+        }
+    }
+    cases.len() == 1
+}
+
+/// Whether a copy of the switch has its one case and its last program.
+fn switch_is_copied(alloc: Global, switch: &Switch) -> Result<bool, Fail> {
+    let copied = switch.copy(alloc)?;
+    Ok(
+        copied.last.compare(&switch.last) == Ordering::Equal
+            && is_only_case(copied.cases.as_slice(), 31),
+    )
+}
+
 #[test]
 fn copies_of_switches_are_equal(rt: HostRuntime) -> Result<(), Fail> {
     let switch = switch(rt.alloc())?;
-    let copied = switch.copy(rt.alloc())?;
-    assert_eq!(rt; copied.last.compare(&switch.last), Ordering::Equal);
-    assert_eq!(rt; copied.cases.len(), 1);
-    for case in copied.cases.as_slice() {
-        assert!(rt; case.guard.first.negated);
-        assert_eq!(rt; case.program.cost(), Some(31));
-    }
+    assert!(rt; switch_is_copied(rt.alloc(), &switch)?);
     Ok(())
+}
+
+/// Whether a copy of an example has its row and its text.
+fn example_is_copied(alloc: Global, example: &Example) -> Result<bool, Fail> {
+    let copied = example.copy(alloc)?;
+    Ok(copied.row == example.row && copied.text.same(&example.text))
 }
 
 #[test]
 fn copies_of_examples_are_equal(rt: HostRuntime) -> Result<(), Fail> {
     let text = Text::from_utf8(rt.alloc(), b"k")?;
     let example = Example { row: 1, text };
-    let copied = example.copy(rt.alloc())?;
-    assert_eq!(rt; copied.row, 1);
-    assert!(rt; copied.text.same(&example.text));
+    assert!(rt; example_is_copied(rt.alloc(), &example)?);
     Ok(())
+}
+
+/// Whether a copy of an edit adds an example to the first row.
+fn edit_is_copied(alloc: Global, edit: &Edit) -> Result<bool, Fail> {
+    let copied = edit.copy(alloc)?;
+    Ok(matches!(copied, Edit::Add { row: 1, .. }))
 }
 
 #[test]
 fn copies_of_edits_are_equal(rt: HostRuntime) -> Result<(), Fail> {
     let text = Text::from_utf8(rt.alloc(), b"k")?;
     let edit = Edit::Add { row: 1, text };
-    let copied = edit.copy(rt.alloc())?;
-    assert!(rt; matches!(copied, Edit::Add { row: 1, .. }), "{copied:?}");
+    assert!(rt; edit_is_copied(rt.alloc(), &edit)?);
     Ok(())
 }

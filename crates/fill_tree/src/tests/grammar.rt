@@ -1,5 +1,7 @@
 //! Which programs are in the grammar, over a sheet and two tables.
-use super::{constant, lookup, one};
+ghost use Rattle.std.specs.Prelude.{◌≤◌};
+
+use super::{Numbers, by_two, constant, input, lookup, one, piece, price};
 use crate::*;
 use Token::{NonSpace, Upper};
 use fill_sheet::Sheet;
@@ -41,39 +43,34 @@ fn tables(alloc: Global) -> Result<Tables, Fail> {
     Ok(tables)
 }
 
-/// A lookup by two conditions.
-fn by_two(
-    alloc: Global,
-    (column, table, key): (u32, u32, u32),
-    first: Atom,
-    second: Atom,
-) -> Result<Atom, Fail> {
-    let mut conditions = List::new(alloc);
-    conditions.push(first)?;
-    conditions.push(second)?;
-    let select = Select {
-        column,
-        table,
-        key,
-        conditions,
-    };
-    Ok(Atom::Whole(Source::Select(Box::new(alloc, select)?)))
+/// What programs are in the grammar of.
+#[derive(Drop)]
+struct Given {
+    sheet: Sheet,
+    tables: Tables,
 }
 
-/// A price by an item and a year that does not depend on the row.
-fn price(alloc: Global, item: Atom, year: &str) -> Result<Atom, Fail> {
-    by_two(alloc, (3, 1, 1), item, constant(alloc, year)?)
+fn sheet_and_tables(alloc: Global) -> Result<Given, Fail> {
+    let sheet = sheet(alloc)?;
+    let tables = tables(alloc)?;
+    Ok(Given { sheet, tables })
 }
 
-fn input() -> Atom {
-    Atom::Whole(Source::Col(1))
+/// Whether the program is in the grammar with any constants.
+fn is_in(program: &Program, given: &Given) -> bool {
+    in_grammar(program, &ANY, &given.sheet, &given.tables)
+}
+
+/// Whether the lookup of these numbers is, by the first column and a year.
+fn has_lookup(alloc: Global, numbers: Numbers, given: &Given) -> Result<bool, Fail> {
+    let price = by_two(alloc, numbers, input(), constant(alloc, "2012")?)?;
+    let program = one(alloc, price)?;
+    Ok(is_in(&program, given))
 }
 
 #[test]
 fn numbers_of_lookups(rt: HostRuntime) -> Result<(), Fail> {
-    let alloc = rt.alloc();
-    let sheet = sheet(alloc)?;
-    let tables = tables(alloc)?;
+    let given = sheet_and_tables(rt.alloc())?;
     for (numbers, is_in) in [
         ((3, 1, 1), true),
         ((0, 1, 1), false),
@@ -85,123 +82,165 @@ fn numbers_of_lookups(rt: HostRuntime) -> Result<(), Fail> {
         ((3, 1, 0), false),
         ((3, 1, 2), false),
     ] {
-        let price = by_two(alloc, numbers, input(), constant(alloc, "2012")?)?;
-        let program = one(alloc, price)?;
-        assert_eq!(rt;
-            in_grammar(&program, &ANY, &sheet, &tables),
-            is_in,
+        assert!(rt;
+            has_lookup(rt.alloc(), numbers, &given)? == is_in,
             "{numbers:?}"
         );
     }
     Ok(())
 }
 
+/// So many lookups of an item by its letter inside each other, the innermost by the first column.
+fn items(alloc: Global, lookups: u32) -> Result<Atom, Fail> {
+    let mut item = input();
+    for _ in 0..lookups {
+        item = Atom::Whole(lookup(alloc, 2, 2, item)?);
+    }
+    Ok(item)
+}
+
+/// Whether a price whose item is found by so many lookups is in the grammar of this depth.
+fn has_price(alloc: Global, lookups: u32, depth: u8, given: &Given) -> Result<bool, Fail>
+    requires { depth ≤ 2 }
+{
+    let item = items(alloc, lookups)?;
+    let program = one(alloc, price(alloc, item, "2012")?)?;
+    let settings = Settings { depth, ..ANY };
+    Ok(in_grammar(&program, &settings, &given.sheet, &given.tables))
+}
+
 #[test]
 fn depths_of_lookups(rt: HostRuntime) -> Result<(), Fail> {
-    let alloc = rt.alloc();
-    let sheet = sheet(alloc)?;
-    let tables = tables(alloc)?;
-    let flat = one(alloc, price(alloc, input(), "2012")?)?;
-    let item = Atom::Whole(lookup(alloc, 2, 2, input())?);
-    let nested = one(alloc, price(alloc, item, "2012")?)?;
-    for (depth, flat_is_in, nested_is_in) in [
-        (0, false, false),
-        (1, true, false),
-        (2, true, true),
+    let given = sheet_and_tables(rt.alloc())?;
+    for (lookups, depth, is_in) in [
+        (0, 0, false),
+        (0, 1, true),
+        (0, 2, true),
+        (1, 0, false),
+        (1, 1, false),
+        (1, 2, true),
     ] {
-        let settings = Settings { depth, ..ANY };
-        assert_eq!(rt;
-            in_grammar(&flat, &settings, &sheet, &tables),
-            flat_is_in,
-            "{depth}"
-        );
-        assert_eq!(rt;
-            in_grammar(&nested, &settings, &sheet, &tables),
-            nested_is_in,
+        assert!(rt;
+            has_price(rt.alloc(), lookups, depth, &given)? == is_in,
             "{depth}"
         );
     }
     Ok(())
 }
 
-/// Programs, each with whether it is in the grammar with any constants, and with those of separators alone.
-fn programs(alloc: Global) -> Result<List<(Program, bool, bool)>, Fail> {
-    let none = Seq::empty();
-    let upper = Seq::one(Upper);
-    let mut programs = List::new(alloc);
-    let nothing = Program {
-        atoms: List::new(alloc),
-    };
-    programs.push((nothing, true, true))?;
-    programs.push((one(alloc, constant(alloc, "")?)?, false, false))?;
-    programs.push((one(alloc, constant(alloc, " (")?)?, true, true))?;
-    programs.push((one(alloc, constant(alloc, "(a")?)?, true, false))?;
-    programs.push((one(alloc, input())?, true, true))?;
-    programs.push((one(alloc, Atom::Whole(Source::Col(2)))?, false, false))?;
-    programs.push((one(alloc, price(alloc, input(), "2012")?)?, true, true))?;
-    programs.push((one(alloc, price(alloc, input(), "")?)?, true, true))?;
-    let item = constant(alloc, "pen")?;
-    programs.push((one(alloc, price(alloc, item, "2012")?)?, false, false))?;
-    let by_one = Atom::Whole(lookup(alloc, 3, 1, input())?);
-    programs.push((one(alloc, by_one)?, false, false))?;
-    for (left, right, is_in) in [
-        (Place::CPos(0), Place::Pos(none, upper, -1), true),
-        (Place::CPos(0), Place::Pos(none, upper, 0), false),
-        (Place::Pos(none, none, 1), Place::CPos(-1), false),
-    ] {
-        let piece = Atom::Sub(Source::Col(1), left, right);
-        programs.push((one(alloc, piece)?, is_in, is_in))?;
+/// A program in a few words.
+#[derive(Clone, Copy)]
+enum Kind<'a> {
+    /// The program of no atom.
+    Nothing,
+    Constant(&'a str),
+    Column(u32),
+    /// The price of the row's item in this year.
+    Price(&'a str),
+    /// The price of a constant item.
+    PriceOfConstant,
+    /// A price by a single condition.
+    PriceByOne,
+    /// The piece of the first column up to this match of a capital.
+    ToUpper(i32),
+    /// The piece from a position that names no token.
+    FromNothing,
+    /// The piece from the first run of characters that are not space.
+    FromNonSpace,
+    /// The item whose letter is this piece.
+    ItemFromNonSpace,
+    /// An item by so many lookups inside each other.
+    Items(u32),
+}
+
+/// The piece from the first run of characters that are not space to the end.
+fn from_non_space() -> Atom {
+    let place = Place::Pos(Seq::empty(), Seq::one(NonSpace), 1);
+    piece(place, Place::CPos(-1))
+}
+
+/// The piece of the first column up to a match of a capital.
+fn to_upper(count: i32) -> Atom {
+    let upper = Place::Pos(Seq::empty(), Seq::one(Upper), count);
+    piece(Place::CPos(0), upper)
+}
+
+/// A piece from a position between no tokens.
+fn from_nothing() -> Atom {
+    let nothing = Place::Pos(Seq::empty(), Seq::empty(), 1);
+    piece(nothing, Place::CPos(-1))
+}
+
+fn program_of(alloc: Global, kind: Kind) -> Result<Program, Fail> {
+    match kind {
+        Kind::Nothing => Ok(Program {
+            atoms: List::new(alloc),
+        }),
+        Kind::Constant(text) => one(alloc, constant(alloc, text)?),
+        Kind::Column(column) => one(alloc, Atom::Whole(Source::Col(column))),
+        Kind::Price(year) => one(alloc, price(alloc, input(), year)?),
+        Kind::PriceOfConstant => one(alloc, price(alloc, constant(alloc, "pen")?, "2012")?),
+        Kind::PriceByOne => one(alloc, Atom::Whole(lookup(alloc, 3, 1, input())?)),
+        Kind::ToUpper(count) => one(alloc, to_upper(count)),
+        Kind::FromNothing => one(alloc, from_nothing()),
+        Kind::FromNonSpace => one(alloc, from_non_space()),
+        Kind::ItemFromNonSpace => one(alloc, Atom::Whole(lookup(alloc, 2, 2, from_non_space())?)),
+        Kind::Items(lookups) => one(alloc, items(alloc, lookups)?),
     }
-    Ok(programs)
+}
+
+/// Whether the program is in the grammar with any constants, and with those of separators alone, just where these say.
+fn are_in(
+    alloc: Global,
+    kind: Kind,
+    given: &Given,
+    (any, separators): (bool, bool),
+) -> Result<bool, Fail> {
+    let program = program_of(alloc, kind)?;
+    let found = in_grammar(&program, &SEPARATORS, &given.sheet, &given.tables);
+    Ok(is_in(&program, given) == any && found == separators)
 }
 
 #[test]
 fn programs_of_the_grammar(rt: HostRuntime) -> Result<(), Fail> {
-    let alloc = rt.alloc();
-    let sheet = sheet(alloc)?;
-    let tables = tables(alloc)?;
-    for (p, any, separators) in programs(alloc)?.as_slice() {
-        assert_eq!(rt; in_grammar(p, &ANY, &sheet, &tables), *any, "{p:?}");
-        assert_eq!(rt;
-            in_grammar(p, &SEPARATORS, &sheet, &tables),
-            *separators,
-            "{p:?}"
-        );
+    let given = sheet_and_tables(rt.alloc())?;
+    for (kind, expected) in [
+        (Kind::Nothing, (true, true)),
+        (Kind::Constant(""), (false, false)),
+        (Kind::Constant(" ("), (true, true)),
+        (Kind::Constant("(a"), (true, false)),
+        (Kind::Column(1), (true, true)),
+        (Kind::Column(2), (false, false)),
+        (Kind::Price("2012"), (true, true)),
+        (Kind::Price(""), (true, true)),
+        (Kind::PriceOfConstant, (false, false)),
+        (Kind::PriceByOne, (false, false)),
+        (Kind::ToUpper(-1), (true, true)),
+        (Kind::ToUpper(0), (false, false)),
+        (Kind::FromNothing, (false, false)),
+    ] {
+        assert!(rt; are_in(rt.alloc(), kind, &given, expected)?);
     }
     Ok(())
 }
 
+/// Whether the program is not in the first profile's grammar, and in the second's if this says so.
+fn second_has(alloc: Global, kind: Kind, given: &Given, expected: bool) -> Result<bool, Fail> {
+    let program = program_of(alloc, kind)?;
+    let found = in_grammar(&program, &SECOND, &given.sheet, &given.tables);
+    Ok(!is_in(&program, given) && found == expected)
+}
+
 #[test]
 fn what_only_the_second_profile_has(rt: HostRuntime) -> Result<(), Fail> {
-    let alloc = rt.alloc();
-    let sheet = sheet(alloc)?;
-    let tables = tables(alloc)?;
-    let place = Place::Pos(Seq::empty(), Seq::one(NonSpace), 1);
-    let piece = || Atom::Sub(Source::Col(1), place, Place::CPos(-1));
-    let by_piece = lookup(alloc, 2, 2, piece())?;
-    let once = lookup(alloc, 2, 2, input())?;
-    let twice = lookup(alloc, 2, 2, Atom::Whole(once))?;
-    let thrice = lookup(alloc, 2, 2, Atom::Whole(twice))?;
-    let mut programs = List::new(alloc);
-    programs.push(one(alloc, piece())?)?;
-    programs.push(one(alloc, Atom::Whole(by_piece))?)?;
-    programs.push(one(alloc, Atom::Whole(thrice))?)?;
-    for p in programs.as_slice() {
-        assert!(rt; !in_grammar(p, &ANY, &sheet, &tables), "{p:?}");
-        assert!(rt; in_grammar(p, &SECOND, &sheet, &tables), "{p:?}");
+    let given = sheet_and_tables(rt.alloc())?;
+    for (kind, expected) in [
+        (Kind::FromNonSpace, true),
+        (Kind::ItemFromNonSpace, true),
+        (Kind::Items(3), true),
+        (Kind::Items(4), false),
+    ] {
+        assert!(rt; second_has(rt.alloc(), kind, &given, expected)?);
     }
-    let fourth = lookup(
-        alloc,
-        2,
-        2,
-        Atom::Whole(lookup(
-            alloc,
-            2,
-            2,
-            Atom::Whole(lookup(alloc, 2, 2, Atom::Whole(lookup(alloc, 2, 2, input())?))?),
-        )?),
-    )?;
-    let deeper = one(alloc, Atom::Whole(fourth))?;
-    assert!(rt; !in_grammar(&deeper, &SECOND, &sheet, &tables));
     Ok(())
 }
