@@ -8,6 +8,12 @@ fn text_of(alloc: Global, characters: &str) -> Result<Text, TextError> {
     Text::from_utf8(alloc, characters.as_bytes())
 }
 
+/// Whether a text and a name of these bytes are refused at this place.
+fn are_refused(alloc: Global, bytes: &[u8], at: usize) -> bool {
+    let refused = Some(TextError::NotUtf8 { at });
+    Text::from_utf8(alloc, bytes).err() == refused && Name::from_utf8(alloc, bytes).err() == refused
+}
+
 #[test]
 fn bytes_that_are_no_utf8(rt: HostRuntime) {
     for (bytes, at) in [
@@ -18,18 +24,25 @@ fn bytes_that_are_no_utf8(rt: HostRuntime) {
         (b"\x61\xc0\x80".as_slice(), 1),
         (b"\xed\xa0\x80".as_slice(), 0),
     ] {
-        let refused = Some(TextError::NotUtf8 { at });
-        assert_eq!(rt;
-            Text::from_utf8(rt.alloc(), bytes).err(),
-            refused,
-            "{bytes:?}"
-        );
-        assert_eq!(rt;
-            Name::from_utf8(rt.alloc(), bytes).err(),
-            refused,
-            "{bytes:?}"
-        );
+        assert!(rt; are_refused(rt.alloc(), bytes, at), "{bytes:?}");
     }
+}
+
+/// Whether a text of these bytes has this length, and is spelled with them as often as it is put at an end.
+fn is_spelled(alloc: Global, bytes: &[u8], length: usize) -> Result<bool, TextError> {
+    let text = Text::from_utf8(alloc, bytes)?;
+    text.keeps_scalars();
+    let mut spelled = List::new(alloc);
+    text.push_utf8(&mut spelled)?;
+    let once = spelled.as_slice() == bytes;
+    text.push_utf8(&mut spelled)?;
+    Ok(once && text.len() == length && spelled.len() / 2 == bytes.len() && spelled.len() % 2 == 0)
+}
+
+/// Whether a name of these bytes has these characters.
+fn is_named(alloc: Global, bytes: &[u8], characters: &str) -> Result<bool, TextError> {
+    let name = Name::from_utf8(alloc, bytes)?;
+    Ok(name.as_str() == characters)
 }
 
 #[test]
@@ -44,48 +57,95 @@ fn texts_and_their_utf8(rt: HostRuntime) -> Result<(), Fail> {
             b"e\xcc\x81\xe2\x82\xac\xf0\x9f\x98\x80".as_slice(),
         ),
     ] {
-        let text = Text::from_utf8(rt.alloc(), bytes)?;
-        assert_eq!(rt; text.len(), length, "{characters}");
-        text.keeps_scalars();
-        let mut spelled = List::new(rt.alloc());
-        text.push_utf8(&mut spelled)?;
-        assert_eq!(rt; spelled.as_slice(), bytes, "{characters}");
-        text.push_utf8(&mut spelled)?;
-        assert_eq!(rt; spelled.len(), bytes.len() * 2, "{characters}");
-        let name = Name::from_utf8(rt.alloc(), bytes)?;
-        assert_eq!(rt; name.as_str(), characters);
+        assert!(rt; is_spelled(rt.alloc(), bytes, length)?, "{characters}");
+        assert!(rt; is_named(rt.alloc(), bytes, characters)?, "{characters}");
     }
     Ok(())
+}
+
+/// Whether this is the piece of the text from `a` to `b`.
+fn is_piece(text: &Text, a: usize, b: usize, piece: &Text) -> Result<bool, TextError> {
+    if a > b || b > text.len() {
+        return Ok(false);
+    }
+    let found = text.piece(a, b)?;
+    Ok(found.same(piece) && text.piece_is(a, b, piece))
+}
+
+/// Whether this stands behind four characters once the piece from `a` to `b` is put at their end.
+fn is_put_behind(text: &Text, a: usize, b: usize, piece: &Text) -> Result<bool, TextError> {
+    if a > b || b > 4 || text.len() != 4 {
+        return Ok(false);
+    }
+    let mut longer = text.copy()?;
+    longer.append_piece(text, a, b)?;
+    let end = 4 + b - a;
+    Ok(longer.len() == end && longer.piece_is(4, end, piece))
+}
+
+/// Whether these are the characters from `a` to `b` of a text of four.
+fn are_piece(
+    alloc: Global,
+    text: &Text,
+    (a, b): (usize, usize),
+    characters: &str,
+) -> Result<bool, TextError> {
+    let piece = text_of(alloc, characters)?;
+    if !is_piece(text, a, b, &piece)? {
+        return Ok(false);
+    }
+    is_put_behind(text, a, b, &piece)
 }
 
 #[test]
 fn pieces_of_a_text(rt: HostRuntime) -> Result<(), Fail> {
     let text = text_of(rt.alloc(), "abcd")?;
-    for (a, b, characters) in [
-        (1, 3, "bc"),
-        (0, 4, "abcd"),
-        (3, 4, "d"),
-        (2, 2, ""),
-        (4, 4, ""),
+    for (ends, characters) in [
+        ((1, 3), "bc"),
+        ((0, 4), "abcd"),
+        ((3, 4), "d"),
+        ((2, 2), ""),
+        ((4, 4), ""),
     ] {
-        assert!(rt; a <= b && b <= text.len());
-        let piece = text_of(rt.alloc(), characters)?;
-        assert!(rt; text.piece(a, b)?.same(&piece), "{a} to {b}");
-        assert!(rt; text.piece_is(a, b, &piece), "{a} to {b}");
-        let mut longer = text.copy()?;
-        longer.append_piece(&text, a, b)?;
-        assert_eq!(rt; longer.len(), 4 + b - a, "{a} to {b}");
         assert!(rt;
-            longer.len() == 4 + b - a && longer.piece_is(4, 4 + b - a, &piece),
-            "{a} to {b}"
+            are_piece(rt.alloc(), &text, ends, characters)?,
+            "{characters}"
         );
-        assert_eq!(rt; text.copy()?.same(&piece), b - a == 4, "{a} to {b}");
     }
+    Ok(())
+}
+
+/// Whether a text of at least four characters has none of these pieces.
+fn has_no_piece(text: &Text, piece: &Text) -> bool {
+    text.len() >= 4
+        && !text.piece_is(1, 3, piece)
+        && !text.piece_is(1, 2, piece)
+        && !text.piece_is(1, 4, piece)
+}
+
+#[test]
+fn pieces_that_are_others(rt: HostRuntime) -> Result<(), Fail> {
+    let text = text_of(rt.alloc(), "abcd")?;
     let other = text_of(rt.alloc(), "bd")?;
-    assert!(rt; text.len() == 4);
-    assert!(rt; !text.piece_is(1, 3, &other));
-    assert!(rt; !text.piece_is(1, 2, &other));
-    assert!(rt; !text.piece_is(1, 4, &other));
+    assert!(rt; has_no_piece(&text, &other));
+    Ok(())
+}
+
+/// Whether a copy of the text has these characters.
+fn copy_is(alloc: Global, text: &Text, characters: &str) -> Result<bool, TextError> {
+    let other = text_of(alloc, characters)?;
+    Ok(text.copy()?.same(&other))
+}
+
+#[test]
+fn copies_of_a_text(rt: HostRuntime) -> Result<(), Fail> {
+    let text = text_of(rt.alloc(), "abcd")?;
+    for (characters, is) in [("bc", false), ("abcd", true), ("d", false), ("", false)] {
+        assert!(rt;
+            copy_is(rt.alloc(), &text, characters)? == is,
+            "{characters}"
+        );
+    }
     assert_eq!(rt; text.copy()?.as_slice(), ['a', 'b', 'c', 'd'].as_slice());
     Ok(())
 }
@@ -94,10 +154,16 @@ fn pieces_of_a_text(rt: HostRuntime) -> Result<(), Fail> {
 fn characters_at_places(rt: HostRuntime) -> Result<(), Fail> {
     let text = text_of(rt.alloc(), "aé😀")?;
     for (i, c) in [(0, 'a'), (1, 'é'), (2, '😀')] {
-        assert!(rt; i < text.len());
-        assert_eq!(rt; text.at(i), c, "at {i}");
+        assert!(rt; i < text.len() && text.at(i) == c, "at {i}");
     }
     Ok(())
+}
+
+/// Whether the two texts have this order.
+fn are_ordered(alloc: Global, left: &str, right: &str, order: Ordering) -> Result<bool, TextError> {
+    let first = text_of(alloc, left)?;
+    let second = text_of(alloc, right)?;
+    Ok(first.compare(&second) == order && first.same(&second) == (order == Ordering::Equal))
 }
 
 #[test]
@@ -114,31 +180,49 @@ fn order_of_texts(rt: HostRuntime) -> Result<(), Fail> {
         // By character numbers, and not by the halves of surrogate pairs.
         ("\u{ffff}", "😀", Ordering::Less),
     ] {
-        let first = text_of(rt.alloc(), left)?;
-        let second = text_of(rt.alloc(), right)?;
-        assert_eq!(rt; first.compare(&second), order, "{left} and {right}");
-        assert_eq!(rt;
-            first.same(&second),
-            order == Ordering::Equal,
-            "{left} and {right}"
-        );
+        assert!(rt; are_ordered(rt.alloc(), left, right, order)?);
     }
     Ok(())
 }
 
+/// A text that these are put at the end of, one after the other.
+fn joined(alloc: Global, pieces: &[&str]) -> Result<Text, TextError> {
+    let mut text = Text::new(alloc);
+    for piece in pieces {
+        text.append(&text_of(alloc, piece)?)?;
+    }
+    Ok(text)
+}
+
 #[test]
-fn what_is_put_at_the_end(rt: HostRuntime) -> Result<(), Fail> {
-    let mut text = Text::new(rt.alloc());
-    assert_eq!(rt; text.len(), 0);
-    text.append(&text_of(rt.alloc(), "ab")?)?;
-    text.append(&text_of(rt.alloc(), "cd")?)?;
+fn texts_at_the_end_of_a_text(rt: HostRuntime) -> Result<(), Fail> {
+    let none = joined(rt.alloc(), &[])?;
+    assert_eq!(rt; none.len(), 0);
+    let text = joined(rt.alloc(), &["ab", "cd"])?;
     assert_eq!(rt; text.as_slice(), ['a', 'b', 'c', 'd'].as_slice());
-    let mut bytes = List::new(rt.alloc());
-    assert_eq!(rt; bytes.len(), 0);
-    bytes.push(0x61)?;
-    bytes.append(&[0x62, 0x63])?;
-    assert_eq!(rt; bytes.as_slice(), [0x61, 0x62, 0x63].as_slice());
-    assert_eq!(rt; bytes.len(), 3);
+    Ok(())
+}
+
+/// A list of a first item and the others.
+fn list_of(alloc: Global, first: u8, others: &[u8]) -> Result<List<u8>, NoMemory> {
+    let mut items = List::new(alloc);
+    items.push(first)?;
+    items.append(others)?;
+    Ok(items)
+}
+
+#[test]
+fn items_at_the_end_of_a_list(rt: HostRuntime) -> Result<(), Fail> {
+    let none: List<u8> = List::new(rt.alloc());
+    assert_eq!(rt; none.len(), 0);
+    let items = list_of(rt.alloc(), 0x61, &[0x62, 0x63])?;
+    assert_eq!(rt; items.as_slice(), [0x61, 0x62, 0x63].as_slice());
+    assert_eq!(rt; items.len(), 3);
+    Ok(())
+}
+
+#[test]
+fn a_list_with_room(rt: HostRuntime) -> Result<(), Fail> {
     let mut roomy = List::with_capacity(rt.alloc(), 2)?;
     roomy.push(7)?;
     let items = roomy.into_vec();
