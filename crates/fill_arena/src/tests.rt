@@ -15,15 +15,15 @@ use std::test::Fail;
 /// The atoms of the graph's one edge: the text, the whole of column 1, and its piece from the start to the end.
 fn atoms(
     alloc: Global,
-    text: Text,
+    text: &Text,
     whole: SourceSet,
     left: PlaceSet,
     right: PlaceSet,
 ) -> Result<List<AtomItem>, NoMemory>
-    ensures { IfOk result (λ made. made ≡ AtomItem.Const text ∷ AtomItem.Whole whole ∷ AtomItem.Sub whole left right ∷ []) }
+    ensures { IfOk result (λ made. made ≡ AtomItem.Const text.now ∷ AtomItem.Whole whole ∷ AtomItem.Sub whole left right ∷ []) }
 {
     let mut items = List::new(alloc);
-    items.push(AtomItem::Const(text))?;
+    items.push(AtomItem::Const(text.copy()?))?;
     items.push(AtomItem::Whole(whole))?;
     items.push(AtomItem::Sub(whole, left, right))?;
     Ok(items)
@@ -63,10 +63,10 @@ struct Numbers {
 fn fill<L: Ledger>(
     alloc: Global,
     arena: &mut Arena,
-    text: Text,
+    text: &Text,
     steps: &mut Steps<L>,
 ) -> Result<Numbers, NoMemory>
-    requires { length text ≤ 100 }
+    requires { length text.now ≤ 100 }
     ensures { IfOk result (λ made. IsPlaceSet arena.new made.places × IsSourceSet arena.new made.sources
         × IsAtomSet arena.new made.atoms × IsGraph arena.new made.graph) }
 {
@@ -83,77 +83,179 @@ fn fill<L: Ledger>(
     })
 }
 
-/// The program of one atom.
-fn program(alloc: Global, atom: Atom) -> Result<Program, NoMemory> {
+/// An atom in a few words.
+#[derive(Clone, Copy)]
+enum Part<'a> {
+    Constant(&'a str),
+    Column(u32),
+    /// The piece of column 1 between two counted positions.
+    Piece(i32, i32),
+}
+
+fn atom_of(alloc: Global, part: Part) -> Result<Atom, Fail> {
+    match part {
+        Part::Constant(characters) => Ok(Atom::Const(Text::from_utf8(
+            alloc,
+            characters.as_bytes(),
+        )?)),
+        Part::Column(column) => Ok(Atom::Whole(Source::Col(column))),
+        Part::Piece(left, right) => Ok(Atom::Sub(
+            Source::Col(1),
+            Place::CPos(left),
+            Place::CPos(right),
+        )),
+    }
+}
+
+fn program_of(alloc: Global, parts: &[Part]) -> Result<Program, Fail> {
     let mut atoms = List::new(alloc);
-    atoms.push(atom)?;
+    for i in 0..parts.len() {
+        atoms.push(atom_of(alloc, parts[i])?)?;
+    }
     Ok(Program { atoms })
 }
 
-fn piece(left: i32, right: i32) -> Atom {
-    Atom::Sub(Source::Col(1), Place::CPos(left), Place::CPos(right))
-}
-
-fn constant(alloc: Global, characters: &str) -> Result<Atom, Fail> {
-    Ok(Atom::Const(Text::from_utf8(alloc, characters.as_bytes())?))
-}
-
-/// Programs, and whether each stands in the graph of the text `ab`.
-fn programs(alloc: Global) -> Result<List<(Program, bool)>, Fail> {
-    let mut programs = List::new(alloc);
-    programs.push((program(alloc, constant(alloc, "ab")?)?, true))?;
-    programs.push((program(alloc, Atom::Whole(Source::Col(1)))?, true))?;
-    programs.push((program(alloc, piece(0, -1))?, true))?;
-    programs.push((program(alloc, constant(alloc, "a")?)?, false))?;
-    programs.push((program(alloc, Atom::Whole(Source::Col(2)))?, false))?;
-    programs.push((program(alloc, piece(-1, 0))?, false))?;
-    programs.push((program(alloc, piece(0, 1))?, false))?;
-    let nothing = Program {
-        atoms: List::new(alloc),
-    };
-    programs.push((nothing, false))?;
-    let mut twice = List::new(alloc);
-    twice.push(constant(alloc, "ab")?)?;
-    twice.push(constant(alloc, "ab")?)?;
-    programs.push((Program { atoms: twice }, false))?;
-    Ok(programs)
-}
-
-/// Whether those programs stand in the graph that should, and no others.
-fn stand(arena: &Arena, g: GraphId, programs: &[(Program, bool)]) -> bool
+/// Whether the program of these atoms stands in the graph.
+fn stands(alloc: Global, arena: &Arena, g: GraphId, parts: &[Part]) -> Result<bool, Fail>
     requires { IsGraph arena.now g }
 {
-    for (p, stands) in programs {
-        if arena.holds(g, p) != *stands {
-            return false;
+    let program = program_of(alloc, parts)?;
+    Ok(arena.holds(g, &program))
+}
+
+/// Whether those programs stand in the graph that stand in the graph of the text `ab`, and no others.
+fn stand(alloc: Global, arena: &Arena, g: GraphId) -> Result<bool, Fail>
+    requires { IsGraph arena.now g }
+{
+    for (parts, expected) in [
+        (&[Part::Constant("ab")][..], true),
+        (&[Part::Column(1)], true),
+        (&[Part::Piece(0, -1)], true),
+        (&[Part::Constant("a")], false),
+        (&[Part::Column(2)], false),
+        (&[Part::Piece(-1, 0)], false),
+        (&[Part::Piece(0, 1)], false),
+        (&[], false),
+        (&[Part::Constant("ab"), Part::Constant("ab")], false),
+    ] {
+        if stands(alloc, arena, g, parts)? != expected {
+            return Ok(false);
         }
     }
-    true
+    Ok(true)
+}
+
+/// Whether both times the same numbers were given.
+fn are_same(first: Numbers, again: Numbers) -> bool {
+    first.places == again.places
+        && first.sources == again.sources
+        && first.atoms == again.atoms
+        && first.graph == again.graph
+}
+
+/// The number of the places, where equal contents get one number.
+fn shared<L: Ledger>(
+    alloc: Global,
+    arena: &mut Arena,
+    text: &Text,
+    steps: &mut Steps<L>,
+) -> Result<Option<PlaceSet>, Fail>
+    requires { length text.now ≤ 100 }
+{
+    let first = fill(alloc, arena, text, steps)?;
+    let size = arena.size();
+    let again = fill(alloc, arena, text, steps)?;
+    Ok(if size == 5 && arena.size() == size && are_same(first, again) {
+        Some(first.places)
+    } else {
+        None
+    })
+}
+
+/// Whether after a cut the first number is given anew.
+fn starts_anew(arena: &mut Arena, start: Mark, first: PlaceSet) -> Result<bool, Fail>
+    requires { start ≡ 0 }
+{
+    arena.cut(start);
+    let ends = arena.intern_places(&[Place::CPos(-1)])?;
+    let is_new = ends == first && arena.size() == 1;
+    Ok(is_new && arena.places(ends) == [Place::CPos(-1)].as_slice())
 }
 
 /// Whether equal contents get one number, and after a cut a new one.
-fn shares<L: Ledger>(alloc: Global, text: &Text, steps: &mut Steps<L>) -> Result<bool, Fail>
-    requires { length text.now ≤ 100 }
+fn shares<L: Ledger>(
+    alloc: Global,
+    arena: &mut Arena,
+    start: Mark,
+    text: &Text,
+    steps: &mut Steps<L>,
+) -> Result<bool, Fail>
+    requires text { length text.now ≤ 100 }
+    requires start { start ≡ 0 }
 {
-    let mut arena = Arena::new(alloc);
-    let start = arena.mark();
-    let first = fill(alloc, &mut arena, text.copy()?, steps)?;
-    let size = arena.size();
-    let again = fill(alloc, &mut arena, text.copy()?, steps)?;
-    if again.places != first.places || again.sources != first.sources {
-        return Ok(false);
+    match shared(alloc, arena, text, steps)? {
+        Some(first) => starts_anew(arena, start, first),
+        None => Ok(false),
     }
-    if again.atoms != first.atoms || again.graph != first.graph || arena.size() != size {
-        return Ok(false);
-    }
-    arena.cut(start);
-    let ends = arena.intern_places(&[Place::CPos(-1)])?;
-    let is_new = ends == first.places && arena.size() == 1;
-    Ok(is_new && arena.places(ends) == [Place::CPos(-1)].as_slice() && size == 5)
 }
 
-/// What is read of the small arena: how many places, sources, atoms, nodes and edges its numbers have. None where a
-/// program stands that should not, or does not that should.
+/// How many places, sources, atoms, nodes and edges the numbers have.
+fn counts(arena: &Arena, made: Numbers) -> [usize; 5]
+    requires { IsPlaceSet arena.now made.places × IsSourceSet arena.now made.sources × IsAtomSet arena.now made.atoms
+        × IsGraph arena.now made.graph }
+{
+    [
+        arena.places(made.places).len(),
+        arena.sources(made.sources).len(),
+        arena.atoms(made.atoms).len(),
+        arena.nodes(made.graph),
+        arena.edges(made.graph).len(),
+    ]
+}
+
+/// The counts of the small arena, which is cut back to nothing. None where a program stands that should not, or does
+/// not that should.
+fn counted<L: Ledger>(
+    alloc: Global,
+    arena: &mut Arena,
+    start: Mark,
+    text: &Text,
+    steps: &mut Steps<L>,
+) -> Result<Option<[usize; 5]>, Fail>
+    requires text { length text.now ≤ 100 }
+    requires start { start ≡ 0 }
+{
+    let made = fill(alloc, arena, text, steps)?;
+    if !stand(alloc, arena, made.graph)? {
+        return Ok(None);
+    }
+    let counts = counts(arena, made);
+    arena.cut(start);
+    Ok(if arena.mark() == start {
+        Some(counts)
+    } else {
+        None
+    })
+}
+
+/// The counts, where equal contents get one number.
+fn shared_counts<L: Ledger>(
+    alloc: Global,
+    arena: &mut Arena,
+    start: Mark,
+    steps: &mut Steps<L>,
+) -> Result<Option<[usize; 5]>, Fail>
+    requires { start ≡ 0 }
+{
+    let text = Text::from_utf8(alloc, b"ab")?;
+    if text.len() > 100 || !shares(alloc, arena, start, &text, steps)? {
+        return Ok(None);
+    }
+    arena.cut(start);
+    counted(alloc, arena, start, &text, steps)
+}
+
+/// What is read of the small arena.
 fn read<L: Ledger>(alloc: Global, blank: Blank) -> Result<Option<[usize; 5]>, Fail>
     requires name { blank.name ≡ L.name }
     requires parts { blank.parts ≡ L.parts }
@@ -163,30 +265,7 @@ fn read<L: Ledger>(alloc: Global, blank: Blank) -> Result<Option<[usize; 5]>, Fa
     let mut steps: Steps<L> = Steps::new(book, share);
     let mut arena = Arena::new(alloc);
     let start = arena.mark();
-    let text = Text::from_utf8(alloc, b"ab")?;
-    if text.len() > 100 {
-        return Ok(None);
-    }
-    if !shares(alloc, &text, &mut steps)? {
-        return Ok(None);
-    }
-    let made = fill(alloc, &mut arena, text, &mut steps)?;
-    if !stand(&arena, made.graph, programs(alloc)?.as_slice()) {
-        return Ok(None);
-    }
-    let counts = [
-        arena.places(made.places).len(),
-        arena.sources(made.sources).len(),
-        arena.atoms(made.atoms).len(),
-        arena.nodes(made.graph),
-        arena.edges(made.graph).len(),
-    ];
-    arena.cut(start);
-    Ok(if arena.mark() == start {
-        Some(counts)
-    } else {
-        None
-    })
+    shared_counts(alloc, &mut arena, start, &mut steps)
 }
 
 #[test]
@@ -196,28 +275,54 @@ fn programs_stand_in_a_graph(rt: HostRuntime) -> Result<(), Fail> {
     Ok(())
 }
 
-/// The sizes of an arena of two graphs and of a copy of the second. None where another program stands in the copy than
-/// in that graph.
+/// The sizes of both arenas. None where another program stands in the copy than in the graph of the text `ab`.
+fn sizes_of(
+    alloc: Global,
+    arena: &Arena,
+    made: &Arena,
+    g: GraphId,
+) -> Result<Option<[u128; 2]>, Fail>
+    requires { IsGraph made.now g }
+{
+    Ok(if stand(alloc, made, g)? {
+        Some([arena.size(), made.size()])
+    } else {
+        None
+    })
+}
+
+/// The sizes of an arena of two graphs and of a copy of the second.
 fn copy_second<L: Ledger>(
     alloc: Global,
-    first: Text,
-    second: Text,
+    arena: &mut Arena,
+    first: &Text,
+    second: &Text,
     steps: &mut Steps<L>,
 ) -> Result<Option<[u128; 2]>, Fail>
-    requires first { length first ≤ 100 }
-    requires second { length second ≤ 100 }
+    requires first { length first.now ≤ 100 }
+    requires second { length second.now ≤ 100 }
 {
-    let mut arena = Arena::new(alloc);
-    let _older = fill(alloc, &mut arena, first, steps)?;
-    let mut live = [fill(alloc, &mut arena, second, steps)?.graph];
+    let _older = fill(alloc, arena, first, steps)?;
+    let mut live = [fill(alloc, arena, second, steps)?.graph];
     let made = arena.copy(alloc, &mut live)?;
-    if !stand(&made, live[0], programs(alloc)?.as_slice()) {
-        return Ok(None);
-    }
-    Ok(Some([arena.size(), made.size()]))
+    sizes_of(alloc, arena, &made, live[0])
 }
 
 /// The sizes where the second graph is that of the text `ab`.
+fn copied<L: Ledger>(
+    alloc: Global,
+    arena: &mut Arena,
+    steps: &mut Steps<L>,
+) -> Result<Option<[u128; 2]>, Fail> {
+    let first = Text::from_utf8(alloc, b"cd")?;
+    let second = Text::from_utf8(alloc, b"ab")?;
+    if first.len() > 100 || second.len() > 100 {
+        return Ok(None);
+    }
+    copy_second(alloc, arena, &first, &second, steps)
+}
+
+/// Those sizes, in a fresh arena.
 fn sizes<L: Ledger>(alloc: Global, blank: Blank) -> Result<Option<[u128; 2]>, Fail>
     requires name { blank.name ≡ L.name }
     requires parts { blank.parts ≡ L.parts }
@@ -225,12 +330,8 @@ fn sizes<L: Ledger>(alloc: Global, blank: Blank) -> Result<Option<[u128; 2]>, Fa
 {
     let (book, share) = blank.open::<L>();
     let mut steps: Steps<L> = Steps::new(book, share);
-    let first = Text::from_utf8(alloc, b"cd")?;
-    let second = Text::from_utf8(alloc, b"ab")?;
-    if first.len() > 100 || second.len() > 100 {
-        return Ok(None);
-    }
-    copy_second(alloc, first, second, &mut steps)
+    let mut arena = Arena::new(alloc);
+    copied(alloc, &mut arena, &mut steps)
 }
 
 #[test]

@@ -2,8 +2,8 @@ use Rattle.std.proofs.Common.{◌<◌, length, get_or, arith}
 use Rattle.std.proofs.lemmas.Option.{slice_get-get_or}
 use Rattle.fill_arena.proofs.tests.copy_second.Goals as goal
 
-pub stand-requires : goal.stand-requires
-stand-requires g c =
+pub sizes_of-requires : goal.sizes_of-requires
+sizes_of-requires g c =
     let live = c.copy.new.live in
     let long = c.in_ok-made.ensures.length in
     let some : 0 < length live = omega arith in

@@ -11,7 +11,7 @@ intern_atoms-requires g c =
     (places_later c.intern_places.new.self c.intern_places-2.new.self c.in_ok-places.places c.intern_places-2.ensures.kept (_, c.in_ok-places.ensures.ok)) in
     let right : IsPlaceSet now c.in_ok-ends.ends = places_later c.intern_places-2.new.self now c.in_ok-ends.ends c.intern_sources.ensures.kept (_, c.in_ok-ends.ensures.ok) in
     let whole : IsSourceSet now c.in_ok-whole.whole = (_, c.in_ok-whole.ensures.ok) in
-    rw c.in_ok-atoms.ensures (sample_atoms now c.args.text c.in_ok-whole.whole c.in_ok-places.places c.in_ok-ends.ends c.requires whole left right)
+    rw c.in_ok-atoms.ensures (sample_atoms now c.args.text.now c.in_ok-whole.whole c.in_ok-places.places c.in_ok-ends.ends c.requires whole left right)
 
 pub intern_graph-requires : goal.intern_graph-requires
 intern_graph-requires g c =
