@@ -1,7 +1,7 @@
 -- What writings of records leave.
 use Rattle.std.proofs.Common.{◌≡◌, ◌↔◌, ℕ, ◌+◌, ◌<◌, ◌≤◌, List, [], ◌∷◌, ◌++◌, length, take, Bool, true, false, Option, Result, Ok, Err, IfOk, inl, sym, ◌∙◌, refl, subst, arith}
 use Rattle.std.proofs.lemmas.Bool.{false≢true}
-use Rattle.std.specs.Prelude.{IsTrue}
+use Rattle.std.specs.Prelude.{IsTrue, OnOk}
 use Rattle.std.specs.Io.KnownBytes.{Appends}
 use Rattle.std.proofs.KnownBytes.{Appends-nil}
 use Rattle.fill_edge.specs.Outside.{AppendsPart}
@@ -116,6 +116,11 @@ first_stops records i x (Err e) halt.NoMemory old mid new h t a l = (i, subst (�
 -- the records of so many first rows were written
 abbrev pub RowsWritten : Ground → List Example → ℕ → Option (List ℕ) → Option (List ℕ) → Type 0
 RowsWritten g examples n old now = (records : List Fields) × AreRowRecords g examples n records × Appends old now (report_text records)
+
+-- a record that was written was made
+pub when_made : {P : Type 0} (made : Result Fields NoMemory) (flag : Bool) (old new : Option (List ℕ)) → LeavesOne made false (Ok flag) old new → OnOk made P → P
+when_made (Ok fields) flag old new l h = h
+when_made (Err e) flag old new l h = absurd l
 
 module _ (g : Ground) (examples : List Example) (old mid new : Option (List ℕ)) where
   pub rows_none : RowsWritten g examples 0 old old

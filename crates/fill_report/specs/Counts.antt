@@ -1,6 +1,8 @@
 -- Numbers of rows by their states.
-use Rattle.std.specs.Prelude.{◌≡◌, ℕ, ◌≤◌, List}
-use Rattle.fill_report.specs.Rows.{count_of}
+use Rattle.std.specs.Prelude.{◌≡◌, ℕ, ◌≤◌, List, Option, IfSome, length}
+use Rattle.fill_tree.specs.declared.user.Example.{Example}
+use Rattle.fill_space.specs.declared.ground.Ground.{Ground}
+use Rattle.fill_report.specs.Rows.{AreRowStates, count_of}
 use Rattle.fill_report.specs.declared.rows.Counts.{Counts}
 use Rattle.fill_report.specs.declared.rows.RowState.{RowState}
 use Rattle.fill_report.specs.declared.rows.RowState.TheVariants as state
@@ -20,3 +22,11 @@ pub record IsWithin (c : Counts) (n : ℕ) : Type 0 where
   pub doubt : c.doubt ≤ n
   pub nothing : c.nothing ≤ n
   pub nothing_in_doubt : c.nothing_in_doubt ≤ n
+
+-- these are the numbers of the states of so many first rows
+abbrev pub CountRows : Ground → List Example → ℕ → Counts → Type 0
+CountRows g examples n c = (states : List RowState) × AreRowStates g examples n states × AreCounts c states
+
+-- what is known of how many rows of the sheet have each state, where these examples are present
+abbrev pub AreKnown : Ground → List Example → Option Counts → Type 0
+AreKnown g examples known = IfSome known (CountRows g examples (length g.sheet.rows))

@@ -2,13 +2,14 @@
 ghost use Rattle.std.specs.Prelude.{◌≡◌, ◌↔◌, ◌≤◌, IsErrOf, IsTrue};
 ghost use Rattle.fill_edge.specs.Outside.{Rose};
 ghost use Rattle.fill_script.specs.declared.script.Entry.TheVariants as entry;
+ghost use Rattle.fill_report.specs.Counts.{AreKnown};
 ghost use Rattle.fill_report.specs.Entries.{EntryBegins, EntryWrites, IsQuery, QueryWrites};
 ghost use Rattle.fill_report.specs.Output.{Leaves};
 
 use crate::Halt;
 use crate::edits::{ok_record, refused_record};
 use crate::queries::{switch_record, write_answer, write_branches, write_made, write_rows};
-use crate::rows::count_record;
+use crate::rows::{Counts, count_record};
 use fill_edge::{Ledger, Sink, Steps};
 use fill_script::Entry;
 use fill_session::{EditError, Session};
@@ -55,9 +56,12 @@ fn write_query<O: Sink>(
     alloc: Global,
     session: &Session,
     entry: &Entry,
+    known: &mut Option<Counts>,
     out: &mut O,
 ) -> Result<bool, Halt>
-    requires { IsQuery entry.now }
+    requires query { IsQuery entry.now }
+    requires known { AreKnown session.now.spaces.ground session.now.examples known.old }
+    ensures known { AreKnown session.now.spaces.ground session.now.examples known.new }
     ensures leaves { Leaves (QueryWrites session.now.spaces.ground session.now.examples entry.now)
         (EntryBegins session.now.spaces.ground session.now.examples entry.now) result (O.written out.old) (O.written out.new) 0 0 }
     ensures fault { IsErrOf result Halt.Fault → Rose (O.faults out.old) (O.faults out.new) }
@@ -67,20 +71,25 @@ fn write_query<O: Sink>(
         Entry::Edit(_) => unreachable!(),
         Entry::Programs => write_branches(alloc, session.branches(), out),
         Entry::Switch => write_made(switch_record(alloc, session), false, out),
-        Entry::Fill => write_rows(alloc, session, out),
-        Entry::Count => write_made(count_record(alloc, session), false, out),
+        Entry::Fill => write_rows(alloc, session, known, out),
+        Entry::Count => write_made(count_record(alloc, session, known), false, out),
         Entry::Answer { row } => write_answer(alloc, session, *row, out),
     }
 }
 
 /// Writes the records of an entry, each when it is made, and answers whether one of them is a refusal.
+///
+/// What is known of how many rows have each state is forgotten at an edit.
 pub(crate) fn write_entry<O: Sink, L: Ledger>(
     alloc: Global,
     session: &mut Session,
     entry: &Entry,
+    known: &mut Option<Counts>,
     out: &mut O,
     steps: &mut Steps<L>,
 ) -> Result<bool, Halt>
+    requires { AreKnown session.old.spaces.ground session.old.examples known.old }
+    ensures known { AreKnown session.new.spaces.ground session.new.examples known.new }
     ensures ground { session.new.spaces.ground ≡ session.old.spaces.ground }
     ensures leaves { Leaves (λ w. EntryWrites session.old.spaces.ground session.old.examples entry.now w session.new.examples)
         (EntryBegins session.old.spaces.ground session.old.examples entry.now) result (O.written out.old) (O.written out.new) steps.old steps.new }
@@ -88,7 +97,10 @@ pub(crate) fn write_entry<O: Sink, L: Ledger>(
     ensures later { O.faults out.old ≤ O.faults out.new }
 {
     match entry {
-        Entry::Edit(edit) => write_edit(alloc, session, edit, out, steps),
-        _ => write_query(alloc, session, entry, out),
+        Entry::Edit(edit) => {
+            *known = None;
+            write_edit(alloc, session, edit, out, steps)
+        }
+        _ => write_query(alloc, session, entry, known, out),
     }
 }

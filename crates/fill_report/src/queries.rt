@@ -5,6 +5,7 @@ ghost use Rattle.fill_tree.specs.Meaning.{program_tree};
 ghost use Rattle.fill_tree.specs.Switch.{switch_tree};
 ghost use Rattle.fill_script.specs.declared.script.Entry.TheVariants as entry;
 ghost use Rattle.fill_session.specs.Outcome.{is_row};
+ghost use Rattle.fill_report.specs.Counts.{AreKnown};
 ghost use Rattle.fill_report.specs.Entries.{EntryBegins, FillBegins, IsSwitchRecord, QueryWrites};
 ghost use Rattle.fill_report.specs.Output.{Leaves};
 ghost use Rattle.fill_report.specs.Records.{guard_field, no_row_record, shown_record, shown_records, switch_field};
@@ -12,7 +13,7 @@ ghost use Rattle.fill_report.specs.Writing.{LeavesFirst, LeavesOne};
 
 use crate::Halt;
 use crate::records::Record;
-use crate::rows::row_record;
+use crate::rows::{Counts, counted_record, row_record};
 use fill_edge::Sink;
 use fill_print::{print_guard, print_program, print_switch};
 use fill_session::{Branch, Session, Shapes};
@@ -106,22 +107,26 @@ pub(crate) fn switch_record(alloc: Global, session: &Session) -> Result<Record, 
     Record::of(alloc, b"switch")?.with(text.as_slice())
 }
 
-/// Writes the records of all rows in order, each when it is made.
+/// Writes the records of all rows in order, each when it is made. How many rows have each state is known then.
 pub(crate) fn write_rows<O: Sink>(
     alloc: Global,
     session: &Session,
+    known: &mut Option<Counts>,
     out: &mut O,
 ) -> Result<bool, Halt>
+    requires { AreKnown session.now.spaces.ground session.now.examples known.old }
+    ensures known { AreKnown session.now.spaces.ground session.now.examples known.new }
     ensures leaves { Leaves (QueryWrites session.now.spaces.ground session.now.examples entry.Fill) (FillBegins session.now.spaces.ground session.now.examples)
         result (O.written out.old) (O.written out.new) 0 0 }
     ensures fault { IsErrOf result Halt.Fault → Rose (O.faults out.old) (O.faults out.new) }
     ensures later { O.faults out.old ≤ O.faults out.new }
 {
     let mut shapes = Shapes::new(alloc);
+    let mut counts = Counts::NONE;
     let rows = session.sheet().rows();
     for above in 0..rows {
         match write_made(
-            row_record(alloc, &mut shapes, session, above + 1),
+            counted_record(alloc, &mut shapes, session, above, &mut counts),
             false,
             out,
         ) {
@@ -129,6 +134,7 @@ pub(crate) fn write_rows<O: Sink>(
             Err(halt) => return Err(halt),
         }
     }
+    *known = Some(counts);
     Ok(false)
 }
 
@@ -162,8 +168,7 @@ pub(crate) fn write_answer<O: Sink>(
     ensures later { O.faults out.old ≤ O.faults out.new }
 {
     if has_row(session.sheet(), row) {
-        let mut shapes = Shapes::new(alloc);
-        write_made(row_record(alloc, &mut shapes, session, row), false, out)
+        write_made(row_record(alloc, session, row), false, out)
     } else {
         write_made(no_row_record(alloc, row), true, out)
     }

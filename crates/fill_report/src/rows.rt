@@ -1,9 +1,10 @@
 //! What is told of rows.
-ghost use Rattle.std.specs.Prelude.{◌≡◌, ◌≤◌, ◌<◌, ◌++◌, ◌∷◌, [], List, length, IfOk, OnOk};
+ghost use Rattle.std.specs.Prelude.{◌≡◌, ◌≤◌, ◌<◌, ◌+◌, ◌++◌, ◌∷◌, [], List, length, IfOk, OnOk};
 ghost use Rattle.fill_doubt.specs.Shapes.{ShapesStand};
-ghost use Rattle.fill_report.specs.Counts.{AreCounts, IsWithin};
+ghost use Rattle.fill_session.specs.Answers.{AnswerIs};
+ghost use Rattle.fill_report.specs.Counts.{AreCounts, AreKnown, CountRows, IsWithin};
 ghost use Rattle.fill_report.specs.Entries.{IsCountRecord};
-ghost use Rattle.fill_report.specs.Rows.{AreRowStates, IsRowRecord, IsRowState, answer_field, row_record, row_state, state_name};
+ghost use Rattle.fill_report.specs.Rows.{IsRowRecord, answer_field, row_record, row_state, state_name};
 ghost use Rattle.fill_report.specs.declared.rows.RowState.{RowState};
 
 use crate::records::Record;
@@ -80,42 +81,18 @@ fn record_of(alloc: Global, row: u32, answer: &Answer) -> Result<Record, NoMemor
 }
 
 /// The record of a row of the sheet.
-pub(crate) fn row_record(
-    alloc: Global,
-    shapes: &mut Shapes,
-    session: &Session,
-    row: u32,
-) -> Result<Record, NoMemory>
+pub(crate) fn row_record(alloc: Global, session: &Session, row: u32) -> Result<Record, NoMemory>
     requires first { 1 ≤ row }
     requires last { row ≤ length session.now.spaces.ground.sheet.rows }
-    requires shapes { ShapesStand session.now.spaces.arena shapes.old }
-    ensures shapes { ShapesStand session.now.spaces.arena shapes.new }
-    ensures made { IfOk result (IsRowRecord session.now.spaces.ground session.now.examples row) }
+    ensures { IfOk result (IsRowRecord session.now.spaces.ground session.now.examples row) }
 {
-    let answer = session.answer_with(alloc, shapes, row)?;
+    let answer = session.answer(alloc, row)?;
     record_of(alloc, row, &answer)
-}
-
-/// The state of a row of the sheet.
-fn row_state(
-    alloc: Global,
-    shapes: &mut Shapes,
-    session: &Session,
-    row: u32,
-) -> Result<RowState, NoMemory>
-    requires first { 1 ≤ row }
-    requires last { row ≤ length session.now.spaces.ground.sheet.rows }
-    requires shapes { ShapesStand session.now.spaces.arena shapes.old }
-    ensures shapes { ShapesStand session.now.spaces.arena shapes.new }
-    ensures state { IfOk result (IsRowState session.now.spaces.ground session.now.examples row) }
-{
-    let answer = session.answer_with(alloc, shapes, row)?;
-    Ok(RowState::of(&answer))
 }
 
 /// How many rows have each state.
 #[derive(Clone, Copy)]
-struct Counts {
+pub(crate) struct Counts {
     given: u32,
     sure: u32,
     doubt: u32,
@@ -124,7 +101,7 @@ struct Counts {
 }
 
 impl Counts {
-    const NONE: Counts = Counts {
+    pub(crate) const NONE: Counts = Counts {
         given: 0,
         sure: 0,
         doubt: 0,
@@ -147,25 +124,89 @@ impl Counts {
     }
 }
 
+/// The answer on the row after so many first ones, whose state is counted with theirs.
+fn counted_answer(
+    alloc: Global,
+    shapes: &mut Shapes,
+    session: &Session,
+    above: u32,
+    counts: &mut Counts,
+) -> Result<Answer, NoMemory>
+    requires there { above < length session.now.spaces.ground.sheet.rows }
+    requires few { above < 20000 }
+    requires shapes { ShapesStand session.now.spaces.arena shapes.old }
+    requires counts { CountRows session.now.spaces.ground session.now.examples above counts.old }
+    ensures shapes { ShapesStand session.now.spaces.arena shapes.new }
+    ensures answer { IfOk result (AnswerIs session.now.spaces.ground session.now.examples (above + 1)) }
+    ensures counts { OnOk result (CountRows session.now.spaces.ground session.now.examples (above + 1) counts.new) }
+{
+    let answer = session.answer_with(alloc, shapes, above + 1)?;
+    counts.add(RowState::of(&answer));
+    Ok(answer)
+}
+
+/// The record of the row after so many first ones, whose state is counted with theirs.
+pub(crate) fn counted_record(
+    alloc: Global,
+    shapes: &mut Shapes,
+    session: &Session,
+    above: u32,
+    counts: &mut Counts,
+) -> Result<Record, NoMemory>
+    requires there { above < length session.now.spaces.ground.sheet.rows }
+    requires few { above < 20000 }
+    requires shapes { ShapesStand session.now.spaces.arena shapes.old }
+    requires counts { CountRows session.now.spaces.ground session.now.examples above counts.old }
+    ensures shapes { ShapesStand session.now.spaces.arena shapes.new }
+    ensures made { IfOk result (IsRowRecord session.now.spaces.ground session.now.examples (above + 1)) }
+    ensures counts { OnOk result (CountRows session.now.spaces.ground session.now.examples (above + 1) counts.new) }
+{
+    let answer = counted_answer(alloc, shapes, session, above, counts)?;
+    record_of(alloc, above + 1, &answer)
+}
+
 /// How many rows of the sheet have each state.
 fn count_states(alloc: Global, session: &Session) -> Result<Counts, NoMemory>
-    ensures { IfOk result (λ counts. (states : List RowState)
-        × AreRowStates session.now.spaces.ground session.now.examples (length session.now.spaces.ground.sheet.rows) states × AreCounts counts states) }
+    ensures { IfOk result (CountRows session.now.spaces.ground session.now.examples (length session.now.spaces.ground.sheet.rows)) }
 {
     let mut shapes = Shapes::new(alloc);
     let mut counts = Counts::NONE;
     let rows = session.sheet().rows();
     for above in 0..rows {
-        counts.add(row_state(alloc, &mut shapes, session, above + 1)?);
+        counted_answer(alloc, &mut shapes, session, above, &mut counts)?;
     }
     Ok(counts)
 }
 
-/// The record of how many rows of the sheet have each state.
-pub(crate) fn count_record(alloc: Global, session: &Session) -> Result<Record, NoMemory>
-    ensures { IfOk result (IsCountRecord session.now.spaces.ground session.now.examples) }
+/// How many rows of the sheet have each state, which are counted unless that is known.
+fn known_counts(
+    alloc: Global,
+    session: &Session,
+    known: &mut Option<Counts>,
+) -> Result<Counts, NoMemory>
+    requires { AreKnown session.now.spaces.ground session.now.examples known.old }
+    ensures known { AreKnown session.now.spaces.ground session.now.examples known.new }
+    ensures counts { IfOk result (CountRows session.now.spaces.ground session.now.examples (length session.now.spaces.ground.sheet.rows)) }
 {
+    if let Some(counts) = *known {
+        return Ok(counts);
+    }
     let counts = count_states(alloc, session)?;
+    *known = Some(counts);
+    Ok(counts)
+}
+
+/// The record of how many rows of the sheet have each state.
+pub(crate) fn count_record(
+    alloc: Global,
+    session: &Session,
+    known: &mut Option<Counts>,
+) -> Result<Record, NoMemory>
+    requires { AreKnown session.now.spaces.ground session.now.examples known.old }
+    ensures known { AreKnown session.now.spaces.ground session.now.examples known.new }
+    ensures made { IfOk result (IsCountRecord session.now.spaces.ground session.now.examples) }
+{
+    let counts = known_counts(alloc, session, known)?;
     Record::of(alloc, b"count")?
         .with_number(counts.given)?
         .with_number(counts.sure)?

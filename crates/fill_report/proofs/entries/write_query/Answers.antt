@@ -21,4 +21,4 @@ pub returns-in-Count-clause-leaves : goal.returns-in-Count-clause-leaves
 returns-in-Count-clause-leaves g c =
     let s = c.args.session.now in
     as_this s.spaces.ground s.examples c.args.entry.now entry.Count c.write_made-in-Count.result _ _ c.in-Count.is
-    (count_left s.spaces.ground s.examples c.count_record.result c.write_made-in-Count.result _ _ c.count_record.ensures c.write_made-in-Count.ensures.leaves)
+    (count_left s.spaces.ground s.examples c.count_record.result c.write_made-in-Count.result _ _ c.count_record.ensures.made c.write_made-in-Count.ensures.leaves)

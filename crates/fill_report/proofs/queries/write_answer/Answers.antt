@@ -9,7 +9,7 @@ returns-then-has_row-clause-leaves g c =
     let s = c.args.session.now in
     let there : is_row s.spaces.ground.sheet c.args.row ≡ true =
     ap (λ (x : SheetData). is_row x c.args.row) (sym c.sheet.ensures) ∙ sym c.has_row.ensures ∙ c.if-has_row.true in
-    answer_left s.spaces.ground s.examples c.row_record.result c.write_made.result _ _ c.args.row there c.row_record.ensures.made c.write_made.ensures.leaves
+    answer_left s.spaces.ground s.examples c.row_record.result c.write_made.result _ _ c.args.row there c.row_record.ensures c.write_made.ensures.leaves
 
 pub returns-else-has_row-clause-leaves : goal.returns-else-has_row-clause-leaves
 returns-else-has_row-clause-leaves g c =
