@@ -227,48 +227,35 @@ fn doubted(
 #[test]
 fn equal_answers_are_no_doubt(rt: HostRuntime) -> Result<(), Fail> {
     use Listed::{Constant, Month, Piece, Whole};
-    let alloc = rt.alloc();
     let z = (Constant("z"), Constant("z"));
-    assert_eq!(rt;
-        doubted(alloc, "a", (Constant("a"), Whole), z)?,
-        Some(false)
-    );
-    assert_eq!(rt; doubted(alloc, "ab", (Piece, Whole), z)?, Some(false));
-    assert_eq!(rt;
-        doubted(alloc, "01", (Month, Constant("Jan")), z)?,
-        Some(false)
-    );
-    assert_eq!(rt; doubted(alloc, "07", (Month, Month), z)?, Some(false));
-    assert_eq!(rt; doubted(alloc, "a", (Piece, Piece), z)?, Some(false));
-    assert_eq!(rt;
-        doubted(alloc, "a", (Piece, Piece), (Constant("a"), Constant("b")))?,
-        Some(false)
-    );
+    for (cell, first, second) in [
+        ("a", (Constant("a"), Whole), z),
+        ("ab", (Piece, Whole), z),
+        ("01", (Month, Constant("Jan")), z),
+        ("07", (Month, Month), z),
+        ("a", (Piece, Piece), z),
+        ("a", (Piece, Piece), (Constant("a"), Constant("b"))),
+    ] {
+        assert_eq!(rt; doubted(rt.alloc(), cell, first, second)?, Some(false));
+    }
     Ok(())
 }
 
 #[test]
 fn different_answers_are_doubt(rt: HostRuntime) -> Result<(), Fail> {
     use Listed::{Constant, Month, Piece, Whole};
-    let alloc = rt.alloc();
     let z = (Constant("z"), Constant("z"));
-    assert_eq!(rt; doubted(alloc, "b", (Constant("a"), Whole), z)?, Some(true));
-    assert_eq!(rt; doubted(alloc, "abc", (Piece, Whole), z)?, Some(true));
-    assert_eq!(rt; doubted(alloc, "a", (Constant("a"), Piece), z)?, Some(true));
-    assert_eq!(rt;
-        doubted(alloc, "07", (Month, Constant("Jan")), z)?,
-        Some(true)
-    );
-    assert_eq!(rt; doubted(alloc, "a", z, (Piece, Constant("a")))?, Some(true));
-    assert_eq!(rt;
-        doubted(
-            alloc,
-            "x",
-            (Constant("a"), Constant("ab")),
-            (Constant("bc"), Constant("c"))
-        )?,
-        Some(true)
-    );
+    let lengths = (Constant("bc"), Constant("c"));
+    for (cell, first, second) in [
+        ("b", (Constant("a"), Whole), z),
+        ("abc", (Piece, Whole), z),
+        ("a", (Constant("a"), Piece), z),
+        ("07", (Month, Constant("Jan")), z),
+        ("a", z, (Piece, Constant("a"))),
+        ("x", (Constant("a"), Constant("ab")), lengths),
+    ] {
+        assert_eq!(rt; doubted(rt.alloc(), cell, first, second)?, Some(true));
+    }
     Ok(())
 }
 
@@ -289,27 +276,37 @@ fn row_values(
     Ok(Some(values(alloc, &arena, s, 1, &sheet, &tables(alloc)?)?))
 }
 
-/// Whether the values are these two.
-fn are(alloc: Global, found: &ValueSet, first: &str, second: &str) -> Result<bool, Fail> {
-    match found.texts.as_slice() {
-        [a, b] => Ok(a.same(&constant(alloc, first)?) && b.same(&constant(alloc, second)?)),
-        _ => Ok(false),
+/// Whether the values are these, and whether some atom has none.
+fn are(alloc: Global, found: &ValueSet, texts: &[&str], none: bool) -> Result<bool, Fail> {
+    if found.texts.len() != texts.len() || found.none != none {
+        return Ok(false);
+    }
+    for (text, characters) in found.texts.as_slice().iter().zip(texts) {
+        if !text.same(&constant(alloc, characters)?) {
+            return Ok(false);
+        }
+    }
+    Ok(true)
+}
+
+/// Whether two atoms have these values on a row of the cell `a`.
+fn have(
+    alloc: Global,
+    (one, other): (Listed, Listed),
+    texts: &[&str],
+    none: bool,
+) -> Result<bool, Fail> {
+    match row_values(alloc, "a", one, other)? {
+        Some(found) => are(alloc, &found, texts, none),
+        None => Ok(false),
     }
 }
 
 #[test]
 fn values_of_sets(rt: HostRuntime) -> Result<(), Fail> {
     use Listed::{Constant, Piece, Whole};
-    let alloc = rt.alloc();
-    let Some(found) = row_values(alloc, "a", Constant("b"), Whole)? else {
-        panic!(rt; "no row");
-    };
-    assert!(rt; are(alloc, &found, "a", "b")?);
-    assert!(rt; !found.none);
-    let Some(found) = row_values(alloc, "a", Constant("a"), Piece)? else {
-        panic!(rt; "no row");
-    };
-    assert_eq!(rt; found.texts.len(), 1);
-    assert!(rt; found.none);
+    let both = ["a", "b"];
+    assert!(rt; have(rt.alloc(), (Constant("b"), Whole), both.as_slice(), false)?);
+    assert!(rt; have(rt.alloc(), (Constant("a"), Piece), ["a"].as_slice(), true)?);
     Ok(())
 }
