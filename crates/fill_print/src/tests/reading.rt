@@ -1,6 +1,6 @@
 //! Conditional programs read, and texts that are none.
 use crate::{ReadProgramError, print_switch, read_switch};
-use fill_text::List;
+use fill_text::{List, NoMemory};
 use std::alloc::Global;
 use std::test::Fail;
 
@@ -18,6 +18,11 @@ fn fault(alloc: Global, bytes: &[u8]) -> Result<usize, Fail> {
     }
 }
 
+/// Whether this is that fault.
+fn is_fault(alloc: Global, bytes: &[u8], expected: usize) -> Result<bool, Fail> {
+    Ok(fault(alloc, bytes)? == expected)
+}
+
 #[test]
 fn texts_are_read_and_printed_again(rt: HostRuntime) -> Result<(), Fail> {
     let texts = [
@@ -32,7 +37,7 @@ fn texts_are_read_and_printed_again(rt: HostRuntime) -> Result<(), Fail> {
         "Switch(else=>Concat(Whole(Select(1,1,1,Sub(Select(1,1,1,Whole(Select(1,1,1,Whole(Col(1))))),CPos(0),CPos(-1))))))",
     ];
     for text in texts {
-        assert_eq!(rt; fault(rt.alloc(), text.as_bytes())?, READ, "{text}");
+        assert!(rt; is_fault(rt.alloc(), text.as_bytes(), READ)?, "{text}");
     }
     Ok(())
 }
@@ -78,28 +83,36 @@ fn hostile_texts_are_refused_at_the_first_wrong_byte(rt: HostRuntime) -> Result<
         (b"Switch(Match(1,[Dot],1)&Match(1,[Dot],1)&", 40),
     ];
     for (text, at) in texts {
-        assert_eq!(rt; fault(rt.alloc(), text)?, at);
+        assert!(rt; is_fault(rt.alloc(), text, at)?, "{at}");
     }
     Ok(())
 }
 
+/// A beginning, and then these bytes so many times.
+fn repeated(
+    alloc: Global,
+    beginning: &[u8],
+    bytes: &[u8],
+    times: usize,
+) -> Result<List<u8>, NoMemory> {
+    let mut text = List::new(alloc);
+    text.append(beginning)?;
+    for _ in 0..times {
+        text.append(bytes)?;
+    }
+    Ok(text)
+}
+
 #[test]
 fn an_eighth_case_is_refused(rt: HostRuntime) -> Result<(), Fail> {
-    let mut text = List::new(rt.alloc());
-    text.append(b"Switch(")?;
-    for _ in 0..8 {
-        text.append(b"Match(1,[Dot],1)=>Concat();")?;
-    }
-    assert_eq!(rt; fault(rt.alloc(), text.as_slice())?, 7 + 7 * 27);
+    let text = repeated(rt.alloc(), b"Switch(", b"Match(1,[Dot],1)=>Concat();", 8)?;
+    assert!(rt; is_fault(rt.alloc(), text.as_slice(), 7 + 7 * 27)?);
     Ok(())
 }
 
 #[test]
 fn a_million_brackets_are_refused_at_once(rt: HostRuntime) -> Result<(), Fail> {
-    let mut text = List::new(rt.alloc());
-    for _ in 0..100_000 {
-        text.append(b"((((((((((")?;
-    }
-    assert_eq!(rt; fault(rt.alloc(), text.as_slice())?, 0);
+    let text = repeated(rt.alloc(), b"", b"((((((((((", 100_000)?;
+    assert!(rt; is_fault(rt.alloc(), text.as_slice(), 0)?);
     Ok(())
 }
