@@ -3,7 +3,8 @@ use Token::{
     Alpha, Digits, Dollar, End, Hyphen, Lower, NonAlpha, NonDigit, NonSpace, Space, Start, Upper,
     Word,
 };
-use fill_text::Text;
+use fill_text::{Text, TextError};
+use std::alloc::Global;
 use std::cmp::Ordering;
 use std::test::Fail;
 
@@ -51,10 +52,27 @@ fn numbers_and_names_of_tokens(rt: HostRuntime) {
     ] {
         assert!(rt; there_and_back(number, name), "{name}");
     }
-    assert_eq!(rt; Token::from_number(0), None);
-    assert_eq!(rt; Token::from_number(30), None);
-    assert_eq!(rt; Token::from_name(b"digits"), None);
-    assert_eq!(rt; Token::from_name(b""), None);
+}
+
+#[test]
+fn numbers_and_names_of_no_token(rt: HostRuntime) {
+    for number in [0, 30] {
+        assert_eq!(rt; Token::from_number(number), None);
+    }
+    for name in [b"digits".as_slice(), b""] {
+        assert_eq!(rt; Token::from_name(name), None);
+    }
+}
+
+/// Whether the place has this value in the text.
+fn has_value(
+    alloc: Global,
+    place: &Place,
+    text: &str,
+    value: Option<usize>,
+) -> Result<bool, TextError> {
+    let text = Text::from_utf8(alloc, text.as_bytes())?;
+    Ok(place_value(place, &text) == value)
 }
 
 #[test]
@@ -82,10 +100,15 @@ fn values_of_places(rt: HostRuntime) -> Result<(), Fail> {
         (Place::Pos(Seq::one(NonAlpha), none, -1), "a1-b", Some(3)),
         (Place::Pos(Seq::one(NonAlpha), none, 1), "aé", None),
     ] {
-        let text = Text::from_utf8(rt.alloc(), text.as_bytes())?;
-        assert_eq!(rt; place_value(&place, &text), value, "{place:?} in {text:?}");
+        assert!(rt; has_value(rt.alloc(), &place, text, value)?, "{text}");
     }
     Ok(())
+}
+
+/// Whether the token and a place of it are of the second profile, and of the first just if this says so.
+fn are_of_profiles(token: Token, first: bool) -> bool {
+    let place = Place::Pos(Seq::one(Lower), Seq::two(Space, token), 1);
+    token.is_of(1) == first && token.is_of(2) && place.is_of(1) == first && place.is_of(2)
 }
 
 #[test]
@@ -98,14 +121,16 @@ fn tokens_of_profiles(rt: HostRuntime) {
         (NonSpace, false),
         (NonAlpha, false),
     ] {
-        assert_eq!(rt; token.is_of(1), first, "{token:?}");
-        assert!(rt; token.is_of(2), "{token:?}");
-        let place = Place::Pos(Seq::one(Lower), Seq::two(Space, token), 1);
-        assert_eq!(rt; place.is_of(1), first, "{token:?}");
-        assert!(rt; place.is_of(2), "{token:?}");
+        assert!(rt; are_of_profiles(token, first), "{token:?}");
     }
     assert!(rt; Place::CPos(3).is_of(1));
     assert!(rt; Seq::empty().is_of(1));
+}
+
+/// Whether the sequence matches so often in the text.
+fn has_matches(alloc: Global, seq: &Seq, text: &str, count: usize) -> Result<bool, TextError> {
+    let text = Text::from_utf8(alloc, text.as_bytes())?;
+    Ok(match_count(seq, &text) == count)
 }
 
 #[test]
@@ -132,32 +157,61 @@ fn counts_of_matches(rt: HostRuntime) -> Result<(), Fail> {
         (Seq::one(Alpha), "e\u{301}e", 2),
         (Seq::one(Word), "e\u{301}e", 2),
     ] {
-        let text = Text::from_utf8(rt.alloc(), text.as_bytes())?;
-        assert_eq!(rt; match_count(&seq, &text), count, "{seq:?} in {text:?}");
+        assert!(rt; has_matches(rt.alloc(), &seq, text, count)?, "{text}");
     }
     Ok(())
+}
+
+/// Whether the token's piece from a position of the text ends here.
+fn spans(text: &Text, token: Token, from: usize, end: Option<usize>) -> bool {
+    from <= text.len() && span(token, text, from) == end
+}
+
+/// Whether the token's piece up to a position begins here.
+fn spans_back(text: &Text, token: Token, to: usize, start: Option<usize>) -> bool {
+    to <= text.len() && span_back(token, text, to) == start
 }
 
 #[test]
 fn pieces_of_tokens(rt: HostRuntime) -> Result<(), Fail> {
     let text = Text::from_utf8(rt.alloc(), b"ab-12")?;
-    assert!(rt; text.len() == 5);
-    assert_eq!(rt; span(Lower, &text, 0), Some(2));
-    assert_eq!(rt; span(Lower, &text, 1), None);
-    assert_eq!(rt; span(Hyphen, &text, 2), Some(3));
-    assert_eq!(rt; span(Start, &text, 0), Some(0));
-    assert_eq!(rt; span(End, &text, 5), Some(5));
-    assert_eq!(rt; span_back(Lower, &text, 2), Some(0));
-    assert_eq!(rt; span_back(Lower, &text, 1), None);
-    assert_eq!(rt; span_back(Hyphen, &text, 3), Some(2));
-    assert!(rt; right_match(&Seq::two(Lower, Hyphen), &text, 0));
-    assert!(rt; left_match(&Seq::two(Hyphen, Digits), &text, 5));
-    assert!(rt; !left_match(&Seq::two(Hyphen, Digits), &text, 4));
+    for (token, from, end) in [
+        (Lower, 0, Some(2)),
+        (Lower, 1, None),
+        (Hyphen, 2, Some(3)),
+        (Start, 0, Some(0)),
+        (End, 5, Some(5)),
+    ] {
+        assert!(rt; spans(&text, token, from, end), "{token:?}");
+    }
+    for (token, to, start) in [(Lower, 2, Some(0)), (Lower, 1, None), (Hyphen, 3, Some(2))] {
+        assert!(rt; spans_back(&text, token, to, start), "{token:?}");
+    }
     Ok(())
 }
 
+/// Whether the text's first characters match one sequence, and its last ones another.
+fn has_two_matches(text: &Text) -> bool {
+    text.len() == 5
+        && right_match(&Seq::two(Lower, Hyphen), text, 0)
+        && left_match(&Seq::two(Hyphen, Digits), text, 5)
+        && !left_match(&Seq::two(Hyphen, Digits), text, 4)
+}
+
 #[test]
-fn places_and_their_order(rt: HostRuntime) {
+fn matches_at_positions(rt: HostRuntime) -> Result<(), Fail> {
+    let text = Text::from_utf8(rt.alloc(), b"ab-12")?;
+    assert!(rt; has_two_matches(&text));
+    Ok(())
+}
+
+/// Whether the place has this cost, and is in the grammar just if this says so.
+fn costs(place: &Place, cost: u64, in_grammar: bool) -> bool {
+    place.cost() == cost && is_place(place) == in_grammar
+}
+
+#[test]
+fn costs_of_places(rt: HostRuntime) {
     let none = Seq::empty();
     let start = Seq::one(Start);
     let lower = Seq::one(Lower);
@@ -171,9 +225,20 @@ fn places_and_their_order(rt: HostRuntime) {
         (Place::Pos(none, none, 1), 2, false),
         (Place::Pos(lower, none, 0), 4, false),
     ] {
-        assert_eq!(rt; place.cost(), cost, "{place:?}");
-        assert_eq!(rt; is_place(&place), in_grammar, "{place:?}");
+        assert!(rt; costs(&place, cost, in_grammar), "{cost}");
     }
+}
+
+/// Whether the first place is before the second.
+fn is_before(before: &Place, after: &Place) -> bool {
+    before.compare(after) == Ordering::Less && after.compare(before) == Ordering::Greater
+}
+
+#[test]
+fn places_and_their_order(rt: HostRuntime) {
+    let none = Seq::empty();
+    let start = Seq::one(Start);
+    let lower = Seq::one(Lower);
     for (before, after) in [
         (Place::CPos(1), Place::CPos(-1)),
         (Place::CPos(-1), Place::CPos(2)),
@@ -181,40 +246,36 @@ fn places_and_their_order(rt: HostRuntime) {
         (Place::Pos(none, lower, 1), Place::Pos(lower, none, 1)),
         (Place::Pos(start, none, 1), Place::Pos(lower, none, 1)),
     ] {
-        assert_eq!(rt;
-            before.compare(&after),
-            Ordering::Less,
-            "{before:?} and {after:?}"
-        );
-        assert_eq!(rt;
-            after.compare(&before),
-            Ordering::Greater,
-            "{after:?} and {before:?}"
-        );
+        assert!(rt; is_before(&before, &after));
     }
     assert_eq!(rt; lower.compare(&lower), Ordering::Equal);
     assert_eq!(rt; Place::Pos(lower, none, 1), Place::Pos(lower, none, 1));
     assert_ne!(rt; Place::Pos(lower, none, 1), Place::Pos(lower, none, -1));
 }
 
-/// A scan of the run from each of its characters would take minutes here.
-#[test]
-fn a_long_run_takes_no_time(rt: HostRuntime) -> Result<(), Fail> {
-    let mut text = Text::from_utf8(rt.alloc(), b"a")?;
-    for _ in 0..18 {
+/// A text of a run of small letters, doubled so often.
+fn doubled(alloc: Global, times: usize) -> Result<Text, TextError> {
+    let mut text = Text::from_utf8(alloc, b"a")?;
+    for _ in 0..times {
         let again = text.copy()?;
         text.append(&again)?;
     }
+    Ok(text)
+}
+
+/// Whether the text is a single run of this many small letters.
+fn is_run(text: &Text, length: usize) -> bool {
     let lower = Seq::one(Lower);
-    assert_eq!(rt; text.len(), 262144);
-    assert_eq!(rt;
-        place_value(&Place::Pos(lower, Seq::empty(), 1), &text),
-        Some(262144)
-    );
-    assert_eq!(rt;
-        place_value(&Place::Pos(Seq::empty(), lower, -1), &text),
-        Some(0)
-    );
-    assert_eq!(rt; match_count(&lower, &text), 1);
+    text.len() == length
+        && place_value(&Place::Pos(lower, Seq::empty(), 1), text) == Some(length)
+        && place_value(&Place::Pos(Seq::empty(), lower, -1), text) == Some(0)
+        && match_count(&lower, text) == 1
+}
+
+/// A scan of the run from each of its characters would take minutes here.
+#[test]
+fn a_long_run_takes_no_time(rt: HostRuntime) -> Result<(), Fail> {
+    let text = doubled(rt.alloc(), 18)?;
+    assert!(rt; is_run(&text, 262144));
     Ok(())
 }
