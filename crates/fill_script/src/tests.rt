@@ -26,6 +26,21 @@ fn begun_before(alloc: Global, line: &[u8]) -> Result<Option<ScriptError>, Fail>
     Ok(refusal(alloc, &bytes))
 }
 
+/// Whether this is the refusal of a session that begins with these lines.
+fn opening_is(alloc: Global, lines: &[u8], expected: Option<ScriptError>) -> Result<bool, Fail> {
+    Ok(opened_after(alloc, lines)? == expected)
+}
+
+/// Whether this is the refusal of a session that has this line after `begin`.
+fn line_is(alloc: Global, line: &[u8], expected: Option<ScriptError>) -> Result<bool, Fail> {
+    Ok(begun_before(alloc, line)? == expected)
+}
+
+/// Whether this is the refusal of the whole session.
+fn refusal_is(alloc: Global, bytes: &[u8], expected: Option<ScriptError>) -> bool {
+    refusal(alloc, bytes) == expected
+}
+
 const BAD: Option<ScriptError> = Some(ScriptError::BadRecord { number: 1 });
 
 const BAD_SECOND: Option<ScriptError> = Some(ScriptError::BadRecord { number: 2 });
@@ -92,7 +107,7 @@ fn lines_of_the_opening(rt: HostRuntime) -> Result<(), Fail> {
             Some(ScriptError::NotUtf8 { number: 2 }),
         ),
     ] {
-        assert_eq!(rt; opened_after(rt.alloc(), lines)?, expected, "{lines:?}");
+        assert!(rt; opening_is(rt.alloc(), lines, expected)?, "{lines:?}");
     }
     Ok(())
 }
@@ -135,7 +150,7 @@ fn sheets_inputs_and_begin(rt: HostRuntime) {
         ),
         (b"begin\n\xff", Some(ScriptError::MissingSheet)),
     ] {
-        assert_eq!(rt; refusal(rt.alloc(), bytes), expected, "{bytes:?}");
+        assert!(rt; refusal_is(rt.alloc(), bytes, expected), "{bytes:?}");
     }
 }
 
@@ -169,25 +184,31 @@ fn lines_after_begin(rt: HostRuntime) -> Result<(), Fail> {
         (b"object,1,x", BAD_ENTRY),
         (b"redo", BAD_ENTRY),
     ] {
-        assert_eq!(rt; begun_before(rt.alloc(), line)?, expected, "{line:?}");
+        assert!(rt; line_is(rt.alloc(), line, expected)?, "{line:?}");
     }
     Ok(())
 }
 
-/// The refusal of a session of a sheet, inputs, `begin` and so many lines `clear`.
-fn clears(alloc: Global, count: usize) -> Result<Option<ScriptError>, Fail> {
+/// A session of a sheet, inputs, `begin` and so many lines `clear`.
+fn clears(alloc: Global, count: usize) -> Result<Vec<u8>, Fail> {
     let mut bytes = b"sheet,sheet.csv\ninputs,1\nbegin\n".to_vec(alloc)?;
     for _ in 0..count {
         bytes.extend_from_slice(b"clear\n")?;
     }
-    Ok(refusal(alloc, &bytes))
+    Ok(bytes)
+}
+
+/// Whether this is the refusal of a session of so many such lines.
+fn clears_are(alloc: Global, count: usize, expected: Option<ScriptError>) -> Result<bool, Fail> {
+    let bytes = clears(alloc, count)?;
+    Ok(refusal_is(alloc, &bytes, expected))
 }
 
 #[test]
 fn the_thousandth_line(rt: HostRuntime) -> Result<(), Fail> {
     let many = Some(ScriptError::TooManyRecords { limit: 1000 });
-    assert_eq!(rt; clears(rt.alloc(), 997)?, None);
-    assert_eq!(rt; clears(rt.alloc(), 998)?, many);
+    assert!(rt; clears_are(rt.alloc(), 997, None)?);
+    assert!(rt; clears_are(rt.alloc(), 998, many)?);
     Ok(())
 }
 
@@ -250,36 +271,50 @@ fn are_entries(entries: &[Entry]) -> bool {
     entries.len() == 9
 }
 
-#[test]
-fn a_whole_script(rt: HostRuntime) -> Result<(), Fail> {
-    let bytes =
-        b"table,t,t.csv\nprofile,2\nkey,t,2,1\nheader\noutput,3\ndepth,3\ninputs,2,1\nconstants,separators\nsheet,s.csv\nbegin\nadd,2,x\ncorrect,2,\nretract,2\nclear\nprograms\nswitch\nfill\ncount\nanswer,7\n";
-    let script = Script::read(rt.alloc(), bytes)?;
-    assert_eq!(rt; script.sheet.as_str(), "s.csv");
-    assert!(rt; script.header && script.inputs.as_slice() == [2, 1].as_slice());
-    assert_eq!(rt; script.output, Some(3));
+/// Whether the script has the sheet, the columns and the settings of the whole script.
+fn has_settings(script: &Script) -> bool {
     let settings = Settings {
         depth: 3,
         constants: Constants::Separators,
         profile: 2,
     };
-    assert_eq!(rt; script.settings, settings);
-    let tables = script.tables.as_slice();
-    assert!(rt; tables.len() == 2 && adds_table(&tables[0]) && adds_key(&tables[1]));
+    script.sheet.as_str() == "s.csv"
+        && script.header
+        && script.inputs.as_slice() == [2, 1].as_slice()
+        && script.output == Some(3)
+        && script.settings == settings
+}
+
+fn are_tables(tables: &[TableLine]) -> bool {
+    tables.len() == 2 && adds_table(&tables[0]) && adds_key(&tables[1])
+}
+
+#[test]
+fn a_whole_script(rt: HostRuntime) -> Result<(), Fail> {
+    let bytes =
+        b"table,t,t.csv\nprofile,2\nkey,t,2,1\nheader\noutput,3\ndepth,3\ninputs,2,1\nconstants,separators\nsheet,s.csv\nbegin\nadd,2,x\ncorrect,2,\nretract,2\nclear\nprograms\nswitch\nfill\ncount\nanswer,7\n";
+    let script = Script::read(rt.alloc(), bytes)?;
+    assert!(rt; has_settings(&script));
+    assert!(rt; are_tables(script.tables.as_slice()));
     assert!(rt; are_entries(script.entries.as_slice()));
     Ok(())
+}
+
+/// Whether the script has what stands where no line says otherwise.
+fn has_defaults(script: &Script) -> bool {
+    !script.header
+        && script.output == None
+        && script.settings.depth == 1
+        && script.settings.profile == 1
+        && script.settings.constants == Constants::Any
+        && script.tables.len() == 0
+        && script.entries.len() == 0
 }
 
 #[test]
 fn settings_that_no_line_sets(rt: HostRuntime) -> Result<(), Fail> {
     let script = Script::read(rt.alloc(), b"sheet,s.csv\ninputs,1\nbegin\n")?;
-    assert!(rt; !script.header);
-    assert_eq!(rt; script.output, None);
-    assert_eq!(rt; script.settings.depth, 1);
-    assert_eq!(rt; script.settings.profile, 1);
-    assert_eq!(rt; script.settings.constants, Constants::Any);
-    assert_eq!(rt; script.tables.len(), 0);
-    assert_eq!(rt; script.entries.len(), 0);
+    assert!(rt; has_defaults(&script));
     assert_eq!(rt; number_in(b"0"), Some(0));
     Ok(())
 }
