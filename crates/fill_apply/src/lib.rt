@@ -11,6 +11,3 @@ pub use error::ApplyError;
 pub use laws::saved_programs_are_one;
 pub use record::apply_record;
 pub use saved::open_switch;
-
-#[cfg(test)]
-mod tests;

@@ -23,6 +23,3 @@ mod same;
 pub use arena::Arena;
 pub use entry::{AtomItem, ConditionItem, Edge, Entry, SelectItem, SourceItem};
 pub use numbers::{AtomSet, GraphId, Mark, PlaceSet, SourceSet};
-
-#[cfg(test)]
-mod tests;

@@ -12,8 +12,6 @@ mod edges;
 mod graph;
 mod hits;
 mod piece;
-#[cfg(test)]
-mod tests;
 mod uncut;
 
 pub use graph::build;

@@ -14,7 +14,6 @@ mod Marks
 mod Programs
 mod Pushed
 mod Rising
-mod Samples
 mod Sought
 mod Spelling
 mod Spotted

@@ -28,6 +28,3 @@ mod valued;
 pub use graph::{doubt, doubt_with};
 pub use listing::{ValueSet, values};
 pub use shapes::Shapes;
-
-#[cfg(test)]
-mod tests;

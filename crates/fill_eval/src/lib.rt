@@ -17,6 +17,3 @@ pub use guard::{
 pub use lookup::{found_row, input_cell, table_cell};
 pub use piece::Piece;
 pub use value::{atom_value, program_value, source_value};
-
-#[cfg(test)]
-mod tests;

@@ -21,6 +21,3 @@ mod read;
 mod sequences;
 
 pub use least::guard;
-
-#[cfg(test)]
-mod tests;

@@ -19,5 +19,4 @@ pub mod Trials
 pub mod Parted
 pub mod WalksOn
 pub mod Meets
-mod Samples
 pub mod Selves

@@ -15,7 +15,5 @@ mod outs;
 mod places;
 mod product;
 mod sets;
-#[cfg(test)]
-mod tests;
 mod ties;
 mod tried;

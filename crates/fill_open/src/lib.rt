@@ -21,6 +21,3 @@ pub use generator::{MadeFiles, made};
 pub use laws::generated_session_opens;
 pub use session::{Ready, open_session};
 pub use stop::Stop;
-
-#[cfg(test)]
-mod tests;

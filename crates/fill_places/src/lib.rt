@@ -13,6 +13,3 @@ mod pair;
 mod rights;
 
 pub use index::{PlaceIndex, places_of};
-
-#[cfg(test)]
-mod tests;

@@ -11,6 +11,3 @@ mod pool;
 
 pub use numbers::{PoolMark, Span};
 pub use pool::Pool;
-
-#[cfg(test)]
-mod tests;

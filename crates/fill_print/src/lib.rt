@@ -11,6 +11,3 @@ mod trees;
 pub use guards::{print_guard, print_switch};
 pub use read::{ReadProgramError, read_switch, spellings_differ};
 pub use trees::print_program;
-
-#[cfg(test)]
-mod tests;

@@ -3,7 +3,6 @@ pub mod Maps
 pub mod Parts
 pub mod Pieces
 pub mod Put
-mod Samples
 pub mod Scan
 pub mod Stand
 pub mod Trees

@@ -13,6 +13,3 @@ mod rows;
 mod sets;
 
 pub use graph::least;
-
-#[cfg(test)]
-mod tests;

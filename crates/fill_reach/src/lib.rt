@@ -10,6 +10,3 @@ mod texts;
 
 pub use rounds::reach;
 pub use rows::{ReachedRow, ReachedRows};
-
-#[cfg(test)]
-mod tests;

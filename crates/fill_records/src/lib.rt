@@ -10,6 +10,3 @@ pub use laws::records_are_few;
 pub use reading::read_records;
 pub use record::Record;
 pub use utf8::{first_bad, is_text};
-
-#[cfg(test)]
-mod tests;

@@ -13,6 +13,3 @@ mod statement;
 pub use error::ScriptError;
 pub use number::number_in;
 pub use script::{Entry, Script, TableLine};
-
-#[cfg(test)]
-mod tests;

@@ -22,12 +22,3 @@ pub use branch::Branch;
 pub use error::{EditError, Part};
 pub use fill_space::Shapes;
 pub use session::Session;
-
-#[cfg(test)]
-mod edit_tests;
-#[cfg(test)]
-mod edits_tests;
-#[cfg(test)]
-mod tests;
-#[cfg(test)]
-mod want_tests;

@@ -9,6 +9,3 @@ mod marks;
 mod shape;
 
 pub use shape::Shape;
-
-#[cfg(test)]
-mod tests;

@@ -11,6 +11,3 @@ mod sheet;
 pub use error::SheetError;
 pub use report::put_record;
 pub use sheet::Sheet;
-
-#[cfg(test)]
-mod tests;

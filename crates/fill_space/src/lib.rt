@@ -16,6 +16,3 @@ pub use fill_doubt::Shapes;
 pub use ground::Ground;
 pub use space::Space;
 pub use spaces::Spaces;
-
-#[cfg(test)]
-mod tests;

@@ -11,6 +11,3 @@ mod spans;
 pub use pieces::Pieces;
 pub use runs::classes;
 pub use spans::{Spans, pieces_of, token_at};
-
-#[cfg(test)]
-mod tests;

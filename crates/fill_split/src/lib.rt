@@ -16,8 +16,6 @@ mod regroup;
 mod renew;
 mod rule;
 mod singles;
-#[cfg(test)]
-mod tests;
 
 pub use change::{Change, FoldError};
 pub use folds::{Fold, Folds};

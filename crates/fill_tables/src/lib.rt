@@ -9,6 +9,3 @@ mod tables;
 
 pub use error::TableError;
 pub use tables::Tables;
-
-#[cfg(test)]
-mod tests;

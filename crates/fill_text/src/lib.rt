@@ -12,6 +12,3 @@ pub use error::{NoMemory, TextError};
 pub use list::List;
 pub use name::Name;
 pub use text::Text;
-
-#[cfg(test)]
-mod tests;

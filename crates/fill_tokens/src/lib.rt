@@ -23,6 +23,3 @@ pub use seq::Seq;
 pub use spans::{left_match, right_match, span, span_back};
 pub use token::Token;
 pub use value::{match_count, place_value};
-
-#[cfg(test)]
-mod tests;

@@ -19,6 +19,3 @@ pub use grammar::{has_part, in_grammar, is_input, is_part};
 pub use guard::{Case, Guard, Literal, Switch};
 pub use tree::{Atom, Program, Select, Source};
 pub use user::{Constants, Edit, Example, Settings};
-
-#[cfg(test)]
-mod tests;

@@ -1,7 +1,6 @@
 pub mod Paths
 pub mod Passes
 pub mod Ranks
-pub mod Samples
 pub mod Left
 pub mod Trims
 pub mod Programs

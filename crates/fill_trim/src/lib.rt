@@ -3,6 +3,4 @@
 
 pub mod laws;
 mod marks;
-#[cfg(test)]
-mod tests;
 pub mod trim;

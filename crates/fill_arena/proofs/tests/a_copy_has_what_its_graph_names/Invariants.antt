@@ -1,4 +1,0 @@
-use Rattle.fill_arena.proofs.tests.a_copy_has_what_its_graph_names.Given as goal
-
-abbrev pub ghosts-sizes : goal.ghosts-sizes
-ghosts-sizes a b = record { name = b.blank.name; parts = b.blank.parts }

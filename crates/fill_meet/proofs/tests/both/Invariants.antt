@@ -1,4 +1,0 @@
-use Rattle.fill_meet.proofs.tests.both.Given as goal
-
-abbrev pub ghosts-met : goal.ghosts-met
-ghosts-met a = record { name = a.blank.name; parts = a.blank.parts }

@@ -1,4 +1,0 @@
-use Rattle.fill_session.proofs.edits_tests.answers.Given as goal
-
-abbrev pub ghosts-counted : goal.ghosts-counted
-ghosts-counted a = record { name = a.blank.name; parts = a.blank.parts }

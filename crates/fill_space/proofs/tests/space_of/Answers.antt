@@ -1,5 +1,0 @@
-use Rattle.std.proofs.Common.{length, arith}
-use Rattle.fill_space.proofs.tests.space_of.Goals as goal
-
-pub returns-clause-longer : goal.returns-clause-longer
-returns-clause-longer g c = c.first.ensures.marks.stays (length c.args.spaces.now.arena) (omega arith)

@@ -1,5 +1,0 @@
-use Rattle.std.proofs.Common.{[], refl}
-use Rattle.fill_split.proofs.tests.rows_hold.Goals as goal
-
-pub loop-i-init : goal.loop-i-init
-loop-i-init g c = ([], c.new.ensures.stands c.new-sums.result, refl)

@@ -1,0 +1,320 @@
+//! Session files, each form of a line and its near misses.
+use fill_script::*;
+use fill_tree::{Constants, Edit, Settings};
+use std::alloc::Global;
+use std::test::Fail;
+
+/// Why a session file has no script; none where it has one.
+fn refusal(alloc: Global, bytes: &[u8]) -> Option<ScriptError> {
+    match Script::read(alloc, bytes) {
+        Ok(_script) => None,
+        Err(e) => Some(e),
+    }
+}
+
+/// The refusal of a session that begins with these lines, before a sheet, inputs and `begin`.
+fn opened_after(alloc: Global, lines: &[u8]) -> Result<Option<ScriptError>, Fail> {
+    let mut bytes = lines.to_vec(alloc)?;
+    bytes.extend_from_slice(b"\nsheet,s.csv\ninputs,7,9\nbegin\n")?;
+    Ok(refusal(alloc, &bytes))
+}
+
+/// The refusal of a session that has this line after `begin`, its fourth line.
+fn begun_before(alloc: Global, line: &[u8]) -> Result<Option<ScriptError>, Fail> {
+    let mut bytes = b"sheet,s.csv\ninputs,7,9\nbegin\n".to_vec(alloc)?;
+    bytes.extend_from_slice(line)?;
+    Ok(refusal(alloc, &bytes))
+}
+
+/// Whether this is the refusal of a session that begins with these lines.
+fn opening_is(alloc: Global, lines: &[u8], expected: Option<ScriptError>) -> Result<bool, Fail> {
+    Ok(opened_after(alloc, lines)? == expected)
+}
+
+/// Whether this is the refusal of a session that has this line after `begin`.
+fn line_is(alloc: Global, line: &[u8], expected: Option<ScriptError>) -> Result<bool, Fail> {
+    Ok(begun_before(alloc, line)? == expected)
+}
+
+/// Whether this is the refusal of the whole session.
+fn refusal_is(alloc: Global, bytes: &[u8], expected: Option<ScriptError>) -> bool {
+    refusal(alloc, bytes) == expected
+}
+
+const BAD: Option<ScriptError> = Some(ScriptError::BadRecord { number: 1 });
+
+const BAD_SECOND: Option<ScriptError> = Some(ScriptError::BadRecord { number: 2 });
+
+const AGAIN: Option<ScriptError> = Some(ScriptError::Again { number: 2 });
+
+const BAD_ENTRY: Option<ScriptError> = Some(ScriptError::BadRecord { number: 4 });
+
+#[test]
+fn lines_of_the_opening(rt: HostRuntime) -> Result<(), Fail> {
+    for (lines, expected) in [
+        (b"header".as_slice(), None),
+        (b"header,", BAD),
+        (b"Header", BAD),
+        (b"header\nheader", AGAIN),
+        (b"output,1000", None),
+        (b"output,0", BAD),
+        (b"output,1001", BAD),
+        (b"output,01", BAD),
+        (b"output,+1", BAD),
+        (b"output,1,2", BAD),
+        (b"output", BAD),
+        (b"output,1\noutput,2", AGAIN),
+        (b"table,a,t.csv", None),
+        (b"table,a,t.csv\ntable,a,t.csv", None),
+        (b"table,,t.csv", BAD),
+        (b"table,a,", BAD),
+        (b"table,a", BAD),
+        (b"table,a,t.csv,1", BAD),
+        (b"key,a,1", None),
+        (b"key,a,4294967295,1,2", None),
+        (b"key,a,4294967296", BAD),
+        (b"key,,1", BAD),
+        (b"key,a", BAD),
+        (b"key,a,0", BAD),
+        (b"key,a,1,2,3,4", BAD),
+        (b"key,a,1,2,1", BAD),
+        (b"depth,0", None),
+        (b"depth,2", None),
+        (b"depth,3", BAD),
+        (b"depth,4", BAD),
+        (b"depth", BAD),
+        (b"depth,1\ndepth,1", AGAIN),
+        (b"depth,1\ndepth,3", BAD_SECOND),
+        (b"profile,2\ndepth,3", None),
+        (b"profile,1\ndepth,3", BAD_SECOND),
+        (b"profile,3", BAD),
+        (b"profile,0", BAD),
+        (b"profile,2\nprofile,1", AGAIN),
+        (b"constants,any", None),
+        (b"constants,separators", None),
+        (b"constants,none", BAD),
+        (b"constants", BAD),
+        (b"constants,any\nconstants,any", AGAIN),
+        (b"begin,", BAD),
+        (b"programs", BAD),
+        (b"\"\"", BAD),
+        (b"best,1,2", BAD),
+        (b"undo", BAD),
+        (b"\xff", Some(ScriptError::NotUtf8 { number: 1 })),
+        (b"sheet,\xff", Some(ScriptError::NotUtf8 { number: 1 })),
+        (
+            b"header\nnothing,\xff",
+            Some(ScriptError::NotUtf8 { number: 2 }),
+        ),
+    ] {
+        assert!(rt; opening_is(rt.alloc(), lines, expected)?, "{lines:?}");
+    }
+    Ok(())
+}
+
+#[test]
+fn sheets_inputs_and_begin(rt: HostRuntime) {
+    for (bytes, expected) in [
+        (b"".as_slice(), Some(ScriptError::MissingBegin)),
+        (b"sheet,s\ninputs,1", Some(ScriptError::MissingBegin)),
+        (b"begin", Some(ScriptError::MissingSheet)),
+        (b"sheet,s\nbegin", Some(ScriptError::MissingInputs)),
+        (b"inputs,1\nbegin\nsheet,s", Some(ScriptError::MissingSheet)),
+        (b"sheet,s\ninputs,1\nbegin", None),
+        (b"\n\nsheet,s\n\ninputs,8,7,6,5,4,3,2,1\n\nbegin", None),
+        (b"sheet,", BAD),
+        (b"sheet", BAD),
+        (b"sheet,s,t", BAD),
+        (b"sheet,s\nsheet,t", AGAIN),
+        (b"inputs", BAD),
+        (b"inputs,", BAD),
+        (b"inputs,0", BAD),
+        (b"inputs,1001", BAD),
+        (b"inputs,1,2,3,4,5,6,7,8,9", BAD),
+        (b"inputs,1,1", BAD),
+        (b"inputs,1\ninputs,2", AGAIN),
+        (b"inputs,1,2\noutput,2", BAD_SECOND),
+        (b"output,2\ninputs,1,2", BAD_SECOND),
+        (
+            b"inputs,1\noutput,2\noutput,1",
+            Some(ScriptError::BadRecord { number: 3 }),
+        ),
+        (
+            b"output,2\ninputs,1\ninputs,2",
+            Some(ScriptError::BadRecord { number: 3 }),
+        ),
+        // of several lines the first that breaks a rule is told
+        (
+            b"sheet,s\ninputs,1\nbegin\nadd,4294967296,x\n\xff",
+            BAD_ENTRY,
+        ),
+        (b"begin\n\xff", Some(ScriptError::MissingSheet)),
+    ] {
+        assert!(rt; refusal_is(rt.alloc(), bytes, expected), "{bytes:?}");
+    }
+}
+
+#[test]
+fn lines_after_begin(rt: HostRuntime) -> Result<(), Fail> {
+    for (line, expected) in [
+        (b"add,0,".as_slice(), None),
+        (b"add,4294967295,x", None),
+        (b"add,4294967296,x", BAD_ENTRY),
+        (b"add,1", BAD_ENTRY),
+        (b"add,1,x,y", BAD_ENTRY),
+        (b"add,,x", BAD_ENTRY),
+        (b"add,1,\xff", Some(ScriptError::NotUtf8 { number: 4 })),
+        (b"correct,3,\"a,b\"", None),
+        (b"correct,-1,x", BAD_ENTRY),
+        (b"retract,3", None),
+        (b"retract", BAD_ENTRY),
+        (b"retract,3,x", BAD_ENTRY),
+        (b"clear", None),
+        (b"clear,", BAD_ENTRY),
+        (b"programs", None),
+        (b"switch", None),
+        (b"fill", None),
+        (b"count", None),
+        (b"count,1", BAD_ENTRY),
+        (b"answer,0", None),
+        (b"answer,007", BAD_ENTRY),
+        (b"answer", BAD_ENTRY),
+        (b"begin", BAD_ENTRY),
+        (b"header", BAD_ENTRY),
+        (b"object,1,x", BAD_ENTRY),
+        (b"redo", BAD_ENTRY),
+    ] {
+        assert!(rt; line_is(rt.alloc(), line, expected)?, "{line:?}");
+    }
+    Ok(())
+}
+
+/// A session of a sheet, inputs, `begin` and so many lines `clear`.
+fn clears(alloc: Global, count: usize) -> Result<Vec<u8>, Fail> {
+    let mut bytes = b"sheet,sheet.csv\ninputs,1\nbegin\n".to_vec(alloc)?;
+    for _ in 0..count {
+        bytes.extend_from_slice(b"clear\n")?;
+    }
+    Ok(bytes)
+}
+
+/// Whether this is the refusal of a session of so many such lines.
+fn clears_are(alloc: Global, count: usize, expected: Option<ScriptError>) -> Result<bool, Fail> {
+    let bytes = clears(alloc, count)?;
+    Ok(refusal_is(alloc, &bytes, expected))
+}
+
+#[test]
+fn the_thousandth_line(rt: HostRuntime) -> Result<(), Fail> {
+    let many = Some(ScriptError::TooManyRecords { limit: 1000 });
+    assert!(rt; clears_are(rt.alloc(), 997, None)?);
+    assert!(rt; clears_are(rt.alloc(), 998, many)?);
+    Ok(())
+}
+
+/// Whether the line adds the table `t` of `t.csv`, as the first line.
+fn adds_table(line: &TableLine) -> bool {
+    match line {
+        TableLine::Table { number, name, file } => {
+            *number == 1 && name.as_str() == "t" && file.as_str() == "t.csv"
+        }
+        TableLine::Key { .. } => false,
+    }
+}
+
+/// Whether the line adds a key of two columns to `t`, as the third line.
+fn adds_key(line: &TableLine) -> bool {
+    match line {
+        TableLine::Table { .. } => false,
+        TableLine::Key {
+            number,
+            name,
+            columns,
+        } => *number == 3 && name.as_str() == "t" && columns.as_slice() == [2, 1].as_slice(),
+    }
+}
+
+/// Whether the entry gives row 2 the text, as an addition or as a correction.
+fn gives(entry: &Entry, correction: bool, expected: &[char]) -> bool {
+    match entry {
+        Entry::Edit(Edit::Add { row, text }) => {
+            !correction && *row == 2 && text.as_slice() == expected
+        }
+        Entry::Edit(Edit::Correct { row, text }) => {
+            correction && *row == 2 && text.as_slice() == expected
+        }
+        _ => false,
+    }
+}
+
+/// Whether the entry is the one of this place in the whole script, from 0.
+fn is_entry(place: usize, entry: &Entry) -> bool {
+    match place {
+        0 => gives(entry, false, &['x']),
+        1 => gives(entry, true, &[]),
+        2 => matches!(entry, Entry::Edit(Edit::Retract { row: 2 })),
+        3 => matches!(entry, Entry::Edit(Edit::Clear)),
+        4 => matches!(entry, Entry::Programs),
+        5 => matches!(entry, Entry::Switch),
+        6 => matches!(entry, Entry::Fill),
+        7 => matches!(entry, Entry::Count),
+        _ => matches!(entry, Entry::Answer { row: 7 }),
+    }
+}
+
+fn are_entries(entries: &[Entry]) -> bool {
+    for i in 0..entries.len() {
+        if !is_entry(i, &entries[i]) {
+            return false;
+        }
+    }
+    entries.len() == 9
+}
+
+/// Whether the script has the sheet, the columns and the settings of the whole script.
+fn has_settings(script: &Script) -> bool {
+    let settings = Settings {
+        depth: 3,
+        constants: Constants::Separators,
+        profile: 2,
+    };
+    script.sheet.as_str() == "s.csv"
+        && script.header
+        && script.inputs.as_slice() == [2, 1].as_slice()
+        && script.output == Some(3)
+        && script.settings == settings
+}
+
+fn are_tables(tables: &[TableLine]) -> bool {
+    tables.len() == 2 && adds_table(&tables[0]) && adds_key(&tables[1])
+}
+
+#[test]
+fn a_whole_script(rt: HostRuntime) -> Result<(), Fail> {
+    let bytes =
+        b"table,t,t.csv\nprofile,2\nkey,t,2,1\nheader\noutput,3\ndepth,3\ninputs,2,1\nconstants,separators\nsheet,s.csv\nbegin\nadd,2,x\ncorrect,2,\nretract,2\nclear\nprograms\nswitch\nfill\ncount\nanswer,7\n";
+    let script = Script::read(rt.alloc(), bytes)?;
+    assert!(rt; has_settings(&script));
+    assert!(rt; are_tables(script.tables.as_slice()));
+    assert!(rt; are_entries(script.entries.as_slice()));
+    Ok(())
+}
+
+/// Whether the script has what stands where no line says otherwise.
+fn has_defaults(script: &Script) -> bool {
+    !script.header
+        && script.output == None
+        && script.settings.depth == 1
+        && script.settings.profile == 1
+        && script.settings.constants == Constants::Any
+        && script.tables.len() == 0
+        && script.entries.len() == 0
+}
+
+#[test]
+fn settings_that_no_line_sets(rt: HostRuntime) -> Result<(), Fail> {
+    let script = Script::read(rt.alloc(), b"sheet,s.csv\ninputs,1\nbegin\n")?;
+    assert!(rt; has_defaults(&script));
+    assert_eq!(rt; number_in(b"0"), Some(0));
+    Ok(())
+}

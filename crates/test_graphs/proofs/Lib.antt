@@ -1,0 +1,3 @@
+mod Trimmed
+mod Ranked
+mod Met

@@ -1,0 +1,131 @@
+//! Small graphs, and what stands in two of them.
+ghost use Rattle.std.specs.Prelude.{◌≡◌, ◌≤◌, [], ◌∷◌, length, IfOk};
+ghost use Rattle.fill_arena.specs.Contents.{Extends, IsGraph};
+
+use fill_meet::meet::meet;
+use fill_arena::{Arena, AtomItem, AtomSet, Edge, GraphId, SourceItem, SourceSet};
+use fill_edge::{Ledger, Steps};
+use fill_text::{List, NoMemory, Text};
+use fill_tree::{Atom, Program, Source};
+use std::alloc::Global;
+use std::marker::Brand;
+use std::sync::ledger::Blank;
+use std::test::Fail;
+
+/// The text, and the whole of the sources.
+fn atoms(alloc: Global, text: Text, whole: SourceSet) -> Result<List<AtomItem>, NoMemory>
+    ensures { IfOk result (λ made. made ≡ AtomItem.Const text ∷ AtomItem.Whole whole ∷ []) }
+{
+    let mut items = List::new(alloc);
+    items.push(AtomItem::Const(text))?;
+    items.push(AtomItem::Whole(whole))?;
+    Ok(items)
+}
+
+fn sources(alloc: Global, column: u32) -> Result<List<SourceItem>, NoMemory>
+    ensures { IfOk result (λ made. made ≡ SourceItem.Col column ∷ []) }
+{
+    let mut items = List::new(alloc);
+    items.push(SourceItem::Col(column))?;
+    Ok(items)
+}
+
+/// The edge from the first node to the second.
+fn edges(alloc: Global, atoms: AtomSet) -> Result<List<Edge>, NoMemory>
+    ensures { IfOk result (λ made. made ≡ (record { from = 0; to = 1; atoms = atoms }) ∷ []) }
+{
+    let mut edges = List::new(alloc);
+    edges.push(Edge {
+        from: 0,
+        to: 1,
+        atoms,
+    })?;
+    Ok(edges)
+}
+
+/// The graph of one edge, for the text and for the whole of the column.
+fn graph<L: Ledger>(
+    alloc: Global,
+    arena: &mut Arena,
+    text: Text,
+    column: u32,
+    steps: &mut Steps<L>,
+) -> Result<GraphId, NoMemory>
+    requires { length text ≤ 100 }
+    ensures graph { IfOk result (IsGraph arena.new) }
+    ensures kept { Extends arena.old arena.new }
+{
+    let whole = arena.intern_sources(sources(alloc, column)?)?;
+    let all = arena.intern_atoms(atoms(alloc, text, whole)?)?;
+    arena.intern_graph(2, edges(alloc, all)?, steps)
+}
+
+/// The program of one atom.
+fn program(alloc: Global, atom: Atom) -> Result<Program, NoMemory> {
+    let mut atoms = List::new(alloc);
+    atoms.push(atom)?;
+    Ok(Program { atoms })
+}
+
+/// The text, or an empty one where it is too long for a constant.
+fn constant(alloc: Global, characters: &str) -> Result<Text, Fail>
+    ensures { IfOk result (λ made. length made ≤ 100) }
+{
+    let made = Text::from_utf8(alloc, characters.as_bytes())?;
+    if made.len() > 100 {
+        return Ok(Text::new(alloc));
+    }
+    Ok(made)
+}
+
+/// Whether the text `a`, and whether the whole of column 1, stands in the graph of `a` and column 1 and in that of the
+/// text and the column. None where no program does, and the arena is as it was.
+fn met<L: Ledger>(
+    alloc: Global,
+    blank: Blank,
+    text: Text,
+    column: u32,
+) -> Result<Option<(bool, bool)>, Fail>
+    requires short { length text ≤ 100 }
+    requires name { blank.name ≡ L.name }
+    requires parts { blank.parts ≡ L.parts }
+    requires one { blank.parts ≡ 1 }
+{
+    let (book, share) = blank.open::<L>();
+    let mut steps: Steps<L> = Steps::new(book, share);
+    let mut arena = Arena::new(alloc);
+    let first = graph(alloc, &mut arena, constant(alloc, "a")?, 1, &mut steps)?;
+    let second = graph(alloc, &mut arena, text, column, &mut steps)?;
+    let before = arena.mark();
+    let Some(made) = meet(alloc, &mut arena, first, second, &mut steps)? else {
+        return Ok(if arena.mark() == before {
+            None
+        } else {
+            Some((true, true))
+        });
+    };
+    let text = program(alloc, Atom::Const(constant(alloc, "a")?))?;
+    let whole = program(alloc, Atom::Whole(Source::Col(1)))?;
+    Ok(Some((arena.holds(made, &text), arena.holds(made, &whole))))
+}
+
+/// The same, where nothing is counted yet.
+fn both(alloc: Global, characters: &str, column: u32) -> Result<Option<(bool, bool)>, Fail> {
+    let text = constant(alloc, characters)?;
+    met::<Brand>(alloc, Blank::new(1), text, column)
+}
+
+#[test]
+fn what_stands_in_both_stays(rt: HostRuntime) -> Result<(), Fail> {
+    let alloc = rt.alloc();
+    assert_eq!(rt; both(alloc, "a", 1)?, Some((true, true)));
+    assert_eq!(rt; both(alloc, "b", 1)?, Some((false, true)));
+    assert_eq!(rt; both(alloc, "a", 2)?, Some((true, false)));
+    Ok(())
+}
+
+#[test]
+fn nothing_is_made_where_nothing_stands_in_both(rt: HostRuntime) -> Result<(), Fail> {
+    assert_eq!(rt; both(rt.alloc(), "b", 2)?, None);
+    Ok(())
+}

@@ -1,0 +1,21 @@
+//! Tests through public calls, of what no contract says. The language: tokens, positions, programs, what they give, guards and the notation.
+#![tactic(auto)]
+
+#[cfg(test)]
+mod eval;
+#[cfg(test)]
+mod guard;
+#[cfg(test)]
+mod places;
+#[cfg(test)]
+mod print;
+#[cfg(test)]
+mod reach;
+#[cfg(test)]
+mod shapes;
+#[cfg(test)]
+mod spans;
+#[cfg(test)]
+mod tokens;
+#[cfg(test)]
+mod tree;

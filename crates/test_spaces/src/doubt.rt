@@ -1,0 +1,312 @@
+//! What small sets and graphs, made by hand, answer on the first row of small sheets.
+ghost use Rattle.std.specs.Prelude.{◌≡◌, ◌≤◌, List as Items, [], ◌∷◌, length, slice_get, None, Some, IfOk};
+ghost use Rattle.fill_arena.specs.Contents.{Extends, IsAtomSet, IsGraph, IsPlaceSet, IsSourceSet};
+ghost use Rattle.fill_arena.specs.WellMade.{IsAtomItem};
+ghost use Rattle.fill_arena.specs.declared.entry.Entry.{Entry as Kept};
+
+use fill_doubt::*;
+use fill_arena::{
+    Arena, AtomItem, AtomSet, ConditionItem, Edge, GraphId, PlaceSet, SelectItem, SourceItem,
+    SourceSet,
+};
+use fill_edge::{Ledger, Steps};
+use fill_sheet::Sheet;
+use fill_tables::Tables;
+use fill_text::{List, NoMemory, Text};
+use fill_tokens::Place;
+use std::alloc::Global;
+use std::marker::Brand;
+use std::sync::ledger::Blank;
+use std::test::Fail;
+
+/// Atoms of a set.
+#[derive(Clone, Copy)]
+enum Listed {
+    Constant(&'static str),
+    Whole,
+    /// The piece of column 1 from the start to place 2.
+    Piece,
+    /// The month whose number is column 1.
+    Month,
+}
+
+/// The sets that atoms name: column 1, the months by the whole of it, the start, and place 2.
+#[derive(Clone, Copy)]
+struct Sets {
+    column: SourceSet,
+    months: SourceSet,
+    start: PlaceSet,
+    stop: PlaceSet,
+}
+
+fn sources(alloc: Global) -> Result<List<SourceItem>, NoMemory>
+    ensures { IfOk result (λ made. made ≡ SourceItem.Col 1 ∷ []) }
+{
+    let mut items = List::new(alloc);
+    items.push(SourceItem::Col(1))?;
+    Ok(items)
+}
+
+/// The whole of the column.
+fn wholes(alloc: Global, column: SourceSet) -> Result<List<AtomItem>, NoMemory>
+    ensures { IfOk result (λ made. made ≡ AtomItem.Whole column ∷ []) }
+{
+    let mut items = List::new(alloc);
+    items.push(AtomItem::Whole(column))?;
+    Ok(items)
+}
+
+/// The condition that is one of the atoms.
+fn condition(alloc: Global, atoms: AtomSet) -> Result<List<ConditionItem>, NoMemory>
+    ensures { IfOk result (λ made. made ≡ (record { constant = None; atoms = Some atoms }) ∷ []) }
+{
+    let mut conditions = List::new(alloc);
+    conditions.push(ConditionItem {
+        constant: None,
+        atoms: Some(atoms),
+    })?;
+    Ok(conditions)
+}
+
+/// The months by this condition.
+fn lookups(alloc: Global, conditions: List<ConditionItem>) -> Result<List<SourceItem>, NoMemory>
+    ensures { IfOk result (λ made. made ≡ SourceItem.Select (record { column = 2; table = 1; key = 1; conditions = conditions }) ∷ []) }
+{
+    let mut items = List::new(alloc);
+    items.push(SourceItem::Select(SelectItem {
+        column: 2,
+        table: 1,
+        key: 1,
+        conditions,
+    }))?;
+    Ok(items)
+}
+
+/// The months by the whole of column 1.
+fn months(alloc: Global, arena: &mut Arena, column: SourceSet) -> Result<SourceSet, NoMemory>
+    requires { slice_get arena.old column ≡ Some (Kept.Sources (SourceItem.Col 1 ∷ [])) }
+    ensures months { IfOk result (IsSourceSet arena.new) }
+    ensures kept { Extends arena.old arena.new }
+{
+    let whole = arena.intern_atoms(wholes(alloc, column)?)?;
+    let conditions = condition(alloc, whole)?;
+    arena.intern_sources(lookups(alloc, conditions)?)
+}
+
+fn named(alloc: Global, arena: &mut Arena) -> Result<Sets, NoMemory>
+    ensures { IfOk result (λ sets. IsSourceSet arena.new sets.column × IsSourceSet arena.new sets.months × IsPlaceSet arena.new sets.start × IsPlaceSet arena.new sets.stop) }
+{
+    let start = arena.intern_places(&[Place::CPos(0)])?;
+    let stop = arena.intern_places(&[Place::CPos(2)])?;
+    let column = arena.intern_sources(sources(alloc)?)?;
+    let months = months(alloc, arena, column)?;
+    Ok(Sets {
+        column,
+        months,
+        start,
+        stop,
+    })
+}
+
+/// The text, or an empty one where it is too long for a constant.
+fn constant(alloc: Global, characters: &str) -> Result<Text, Fail>
+    ensures { IfOk result (λ made. length made ≤ 100) }
+{
+    let made = Text::from_utf8(alloc, characters.as_bytes())?;
+    if made.len() > 100 {
+        return Ok(Text::new(alloc));
+    }
+    Ok(made)
+}
+
+fn item(alloc: Global, sets: Sets, listed: Listed) -> Result<AtomItem, Fail>
+    ensures { IfOk result (λ made. (c : Items Kept) → IsSourceSet c sets.column → IsSourceSet c sets.months → IsPlaceSet c sets.start → IsPlaceSet c sets.stop → IsAtomItem c (length c) made) }
+{
+    match listed {
+        Listed::Constant(characters) => Ok(AtomItem::Const(constant(alloc, characters)?)),
+        Listed::Whole => Ok(AtomItem::Whole(sets.column)),
+        Listed::Month => Ok(AtomItem::Whole(sets.months)),
+        Listed::Piece => Ok(AtomItem::Sub(sets.column, sets.start, sets.stop)),
+    }
+}
+
+fn pair(alloc: Global, one: AtomItem, other: AtomItem) -> Result<List<AtomItem>, NoMemory>
+    ensures { IfOk result (λ made. made ≡ one ∷ other ∷ []) }
+{
+    let mut items = List::new(alloc);
+    items.push(one)?;
+    items.push(other)?;
+    Ok(items)
+}
+
+/// The number of a set of two atoms.
+fn atoms(
+    alloc: Global,
+    arena: &mut Arena,
+    sets: Sets,
+    one: Listed,
+    other: Listed,
+) -> Result<AtomSet, Fail>
+    requires column { IsSourceSet arena.old sets.column }
+    requires months { IsSourceSet arena.old sets.months }
+    requires start { IsPlaceSet arena.old sets.start }
+    requires stop { IsPlaceSet arena.old sets.stop }
+    ensures set { IfOk result (IsAtomSet arena.new) }
+    ensures kept { Extends arena.old arena.new }
+{
+    let first = item(alloc, sets, one)?;
+    let second = item(alloc, sets, other)?;
+    let items = pair(alloc, first, second)?;
+    Ok(arena.intern_atoms(items)?)
+}
+
+/// One edge after the other.
+fn edges(alloc: Global, first: AtomSet, second: AtomSet) -> Result<List<Edge>, NoMemory>
+    ensures { IfOk result (λ made. made ≡ (record { from = 0; to = 1; atoms = first }) ∷ (record { from = 1; to = 2; atoms = second }) ∷ []) }
+{
+    let mut edges = List::new(alloc);
+    edges.push(Edge {
+        from: 0,
+        to: 1,
+        atoms: first,
+    })?;
+    edges.push(Edge {
+        from: 1,
+        to: 2,
+        atoms: second,
+    })?;
+    Ok(edges)
+}
+
+fn tables(alloc: Global) -> Result<Tables, Fail> {
+    let mut tables = Tables::new(alloc);
+    tables.add_table("months", b"01,Jan\n02,Feb\n")?;
+    tables.add_key("months", &[1])?;
+    Ok(tables)
+}
+
+/// The graph of two edges, where nothing is counted yet.
+fn graph_of<L: Ledger>(
+    alloc: Global,
+    blank: Blank,
+    arena: &mut Arena,
+    first: AtomSet,
+    second: AtomSet,
+) -> Result<GraphId, NoMemory>
+    requires name { blank.name ≡ L.name }
+    requires parts { blank.parts ≡ L.parts }
+    requires one { blank.parts ≡ 1 }
+    requires first { IsAtomSet arena.old first }
+    requires second { IsAtomSet arena.old second }
+    ensures { IfOk result (IsGraph arena.new) }
+{
+    let (book, share) = blank.open::<L>();
+    let mut steps: Steps<L> = Steps::new(book, share);
+    arena.intern_graph(3, edges(alloc, first, second)?, &mut steps)
+}
+
+/// The flag of a graph of two edges, of two atoms each, on a row of one cell; None where the sheet has no row.
+fn doubted(
+    alloc: Global,
+    cell: &str,
+    first: (Listed, Listed),
+    second: (Listed, Listed),
+) -> Result<Option<bool>, Fail> {
+    let mut arena = Arena::new(alloc);
+    let sets = named(alloc, &mut arena)?;
+    let a = atoms(alloc, &mut arena, sets, first.0, first.1)?;
+    let b = atoms(alloc, &mut arena, sets, second.0, second.1)?;
+    let graph = graph_of::<Brand>(alloc, Blank::new(1), &mut arena, a, b)?;
+    let sheet = Sheet::read(alloc, cell.as_bytes(), false, &[1], None)?;
+    if sheet.rows() == 0 {
+        return Ok(None);
+    }
+    Ok(Some(doubt(alloc, &arena, graph, 1, &sheet, &tables(alloc)?)?))
+}
+
+#[test]
+fn equal_answers_are_no_doubt(rt: HostRuntime) -> Result<(), Fail> {
+    use Listed::{Constant, Month, Piece, Whole};
+    let z = (Constant("z"), Constant("z"));
+    for (cell, first, second) in [
+        ("a", (Constant("a"), Whole), z),
+        ("ab", (Piece, Whole), z),
+        ("01", (Month, Constant("Jan")), z),
+        ("07", (Month, Month), z),
+        ("a", (Piece, Piece), z),
+        ("a", (Piece, Piece), (Constant("a"), Constant("b"))),
+    ] {
+        assert_eq!(rt; doubted(rt.alloc(), cell, first, second)?, Some(false));
+    }
+    Ok(())
+}
+
+#[test]
+fn different_answers_are_doubt(rt: HostRuntime) -> Result<(), Fail> {
+    use Listed::{Constant, Month, Piece, Whole};
+    let z = (Constant("z"), Constant("z"));
+    let lengths = (Constant("bc"), Constant("c"));
+    for (cell, first, second) in [
+        ("b", (Constant("a"), Whole), z),
+        ("abc", (Piece, Whole), z),
+        ("a", (Constant("a"), Piece), z),
+        ("07", (Month, Constant("Jan")), z),
+        ("a", z, (Piece, Constant("a"))),
+        ("x", (Constant("a"), Constant("ab")), lengths),
+    ] {
+        assert_eq!(rt; doubted(rt.alloc(), cell, first, second)?, Some(true));
+    }
+    Ok(())
+}
+
+/// The values of a set of two atoms on a row of one cell, one after the other, and whether one of them has none.
+fn row_values(
+    alloc: Global,
+    cell: &str,
+    one: Listed,
+    other: Listed,
+) -> Result<Option<ValueSet>, Fail> {
+    let mut arena = Arena::new(alloc);
+    let sets = named(alloc, &mut arena)?;
+    let s = atoms(alloc, &mut arena, sets, one, other)?;
+    let sheet = Sheet::read(alloc, cell.as_bytes(), false, &[1], None)?;
+    if sheet.rows() == 0 {
+        return Ok(None);
+    }
+    Ok(Some(values(alloc, &arena, s, 1, &sheet, &tables(alloc)?)?))
+}
+
+/// Whether the values are these, and whether some atom has none.
+fn are(alloc: Global, found: &ValueSet, texts: &[&str], none: bool) -> Result<bool, Fail> {
+    if found.texts.len() != texts.len() || found.none != none {
+        return Ok(false);
+    }
+    for (text, characters) in found.texts.as_slice().iter().zip(texts) {
+        if !text.same(&constant(alloc, characters)?) {
+            return Ok(false);
+        }
+    }
+    Ok(true)
+}
+
+/// Whether two atoms have these values on a row of the cell `a`.
+fn have(
+    alloc: Global,
+    (one, other): (Listed, Listed),
+    texts: &[&str],
+    none: bool,
+) -> Result<bool, Fail> {
+    match row_values(alloc, "a", one, other)? {
+        Some(found) => are(alloc, &found, texts, none),
+        None => Ok(false),
+    }
+}
+
+#[test]
+fn values_of_sets(rt: HostRuntime) -> Result<(), Fail> {
+    use Listed::{Constant, Piece, Whole};
+    let both = ["a", "b"];
+    assert!(rt; have(rt.alloc(), (Constant("b"), Whole), both.as_slice(), false)?);
+    assert!(rt; have(rt.alloc(), (Constant("a"), Piece), ["a"].as_slice(), true)?);
+    Ok(())
+}

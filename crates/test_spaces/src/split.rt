@@ -1,0 +1,471 @@
+//! Branches of numbers whose sum is at most ten.
+ghost use Rattle.std.specs.Prelude.{◌≡◌, ◌+◌, ◌-◌, ◌<◌, ◌≤◌, List as Listed, ℕ, [], ◌∷◌, ◌++◌, sum, slice_get, Some, length, IfOk, OnErr, MatchOption, refl};
+ghost use Rattle.std.proofs.Common.{◌∙◌, sym};
+ghost use Rattle.fill_split.specs.Standing.{FoldsStand};
+ghost use Rattle.fill_split.specs.Changes.{put_in, taken_out, IsPlace};
+
+use fill_split::{
+    Change, Fold, FoldError, Folds, Maker, Placing, folds_stay, placed_once, renewed_folds_stand,
+};
+use fill_edge::{Ledger, Steps};
+use fill_text::{List, NoMemory};
+use std::alloc::Global;
+use std::marker::{Brand, Model};
+use std::sync::ledger::Blank;
+use std::test::Fail;
+
+/// Sums that are at most ten, how many calls were made for them, and the number of the call that finds no memory.
+#[derive(Drop)]
+struct Sums {
+    kept: Vec<u32>,
+    firsts: u64,
+    joins: u64,
+    fails_at: u64,
+}
+
+impl Model for Sums {
+    ghost use Rattle.std.specs.Prelude.{List as Listed, ℕ};
+
+    ghost Value = { Listed ℕ };
+
+    ghost view = { λ sums. sums.kept.items };
+}
+
+impl Sums {
+    fn new(alloc: Global, fails_at: u64) -> Sums
+        ensures { result ≡ [] }
+    {
+        Sums {
+            kept: Vec::new(alloc),
+            firsts: 0,
+            joins: 0,
+            fails_at,
+        }
+    }
+
+    /// Refuses the call that is to find no memory.
+    fn admit(&mut self) -> Result<(), NoMemory>
+        ensures { self.new ≡ self.old }
+    {
+        if self.firsts.wrapping_add(self.joins) == self.fails_at {
+            return Err(NoMemory);
+        }
+        Ok(())
+    }
+
+    /// Keeps a sum that is at most ten.
+    fn keep(&mut self, sum: u32) -> Result<Option<usize>, NoMemory>
+        ensures kept { IfOk result (λ made. MatchOption made ((sum ≤ 10 → ⊥) × (self.new ≡ self.old))
+            (λ k. (sum ≤ 10) × (self.new ≡ self.old ++ sum ∷ []) × (k ≡ length self.old))) }
+        ensures err { OnErr result (self.new ≡ self.old) }
+    {
+        self.admit()?;
+        if sum > 10 {
+            return Ok(None);
+        }
+        let place = self.kept.len();
+        match self.kept.push(sum) {
+            Ok(()) => Ok(Some(place)),
+            Err(_refused) => Err(NoMemory),
+        }
+    }
+}
+
+impl Maker for Sums {
+    type Item = u32;
+
+    type Kept = usize;
+
+    type Mark = usize;
+
+    type Base = ();
+
+    ghost base = { λ _. tt };
+
+    ghost fits = { λ _ l. sum l ≤ 10 };
+
+    ghost weight = { λ _ l n. n ≡ 10 - sum l };
+
+    ghost allowed = { λ _ _. Unit {0} };
+
+    ghost stands = { λ sums k l. (slice_get sums k ≡ Some (sum l)) × (sum l ≤ 10) };
+
+    ghost marked = { λ sums mark k l. (k < mark) × (slice_get sums k ≡ Some (sum l)) × (sum l ≤ 10) };
+
+    ghost valid = { λ sums mark. mark ≤ length sums };
+
+    ghost no_later = { λ a b. a ≤ b };
+
+    fn first<L: Ledger>(
+        &mut self,
+        item: &u32,
+        steps: &mut Steps<L>,
+    ) -> Result<Option<usize>, NoMemory> {
+        steps.tick();
+        self.firsts = self.firsts.wrapping_add(1);
+        self.keep(*item)
+    }
+
+    fn join<L: Ledger>(
+        &mut self,
+        kept: usize,
+        one: usize,
+        steps: &mut Steps<L>,
+    ) -> Result<Option<usize>, NoMemory> {
+        steps.tick();
+        self.joins = self.joins.wrapping_add(1);
+        let sum = self.kept[kept] + self.kept[one];
+        self.keep(sum)
+    }
+
+    fn mark(&self) -> usize {
+        self.kept.len()
+    }
+
+    fn cut(&mut self, mark: usize) {
+        self.kept.truncate(mark);
+    }
+
+    fn weight(&self, kept: usize) -> Result<u64, NoMemory> {
+        Ok(10 - self.kept[kept] as u64)
+    }
+
+    ghost stands_fit = { λ m k l s. s.1 };
+
+    ghost one_weight = { λ b l v w h k. h ∙ sym k };
+}
+
+/// Folds, and how many items they stand for.
+#[derive(Drop)]
+struct Held {
+    folds: Folds<Sums>,
+    count: usize,
+}
+
+/// How many items there are after the change, where its place is one.
+fn count_after(change: &Change<u32>, at: usize, count: usize) -> Option<usize>
+    ensures { MatchOption result (Unit {0}) (λ n. IsPlace change.now at count × (n + taken_out change.now ≡ count + length (put_in change.now))) }
+{
+    match change {
+        Change::Insert(_item) => {
+            if at <= count && count < 100 {
+                Some(count + 1)
+            } else {
+                None
+            }
+        }
+        Change::Replace(_item) => { if at < count { Some(count) } else { None } }
+        Change::Remove => { if at < count { Some(count - 1) } else { None } }
+    }
+}
+
+/// The change of a row of a table.
+#[derive(Clone, Copy)]
+enum Edit {
+    Insert(usize, u32),
+    Replace(usize, u32),
+    Remove(usize),
+}
+
+fn change_of(edit: Edit) -> (usize, Change<u32>) {
+    match edit {
+        Edit::Insert(at, item) => (at, Change::Insert(item)),
+        Edit::Replace(at, item) => (at, Change::Replace(item)),
+        Edit::Remove(at) => (at, Change::Remove),
+    }
+}
+
+/// Makes a change, where its place is one.
+fn apply<L: Ledger>(
+    sums: &mut Sums,
+    held: &mut Held,
+    edit: Edit,
+    steps: &mut Steps<L>,
+) -> Result<(), FoldError>
+    requires { (items : Listed ℕ) × FoldsStand ⟦<Sums as Maker>⟧ sums.old items held.old.folds × (length items ≡ held.old.count) }
+    ensures { (items : Listed ℕ) × FoldsStand ⟦<Sums as Maker>⟧ sums.new items held.new.folds × (length items ≡ held.new.count) }
+{
+    let (at, change) = change_of(edit);
+    let count = match count_after(&change, at, held.count) {
+        Some(count) => count,
+        None => return Err(FoldError::NoMemory),
+    };
+    match held.folds.refold(sums, at, change, steps) {
+        Ok(folds) => {
+            held.folds = folds;
+            held.count = count;
+            Ok(())
+        }
+        Err(refusal) => Err(refusal),
+    }
+}
+
+/// Whether these are the places of the branches' items.
+fn are(branches: &[Fold<usize>], wanted: &'static [&'static [usize]]) -> bool {
+    if branches.len() != wanted.len() {
+        return false;
+    }
+    for i in 0..branches.len() {
+        if branches[i].items.as_slice() != wanted[i] {
+            return false;
+        }
+    }
+    true
+}
+
+/// A change, the branches after it and the calls that it makes.
+#[derive(Clone, Copy)]
+struct Row {
+    edit: Edit,
+    branches: &'static [&'static [usize]],
+    firsts: u64,
+    joins: u64,
+}
+
+/// The branches of no items.
+const NO_BRANCHES: &[&[usize]] = &[];
+
+/// Six, five, four and three at the end in turn, and then the first one taken out.
+const FIRST: [Row; 5] = [
+    Row {
+        edit: Edit::Insert(0, 6),
+        branches: &[&[0]],
+        firsts: 1,
+        joins: 0,
+    },
+    Row {
+        edit: Edit::Insert(1, 5),
+        branches: &[&[0], &[1]],
+        firsts: 1,
+        joins: 1,
+    },
+    Row {
+        edit: Edit::Insert(2, 4),
+        branches: &[&[0, 2], &[1]],
+        firsts: 1,
+        joins: 1,
+    },
+    Row {
+        edit: Edit::Insert(3, 3),
+        branches: &[&[0, 2], &[1, 3]],
+        firsts: 1,
+        joins: 2,
+    },
+    Row {
+        edit: Edit::Remove(0),
+        branches: &[&[0, 1], &[2]],
+        firsts: 0,
+        joins: 2,
+    },
+];
+
+/// Five, six and four by weight.
+const LIGHTEST: [Row; 3] = [
+    Row {
+        edit: Edit::Insert(0, 5),
+        branches: &[&[0]],
+        firsts: 1,
+        joins: 0,
+    },
+    Row {
+        edit: Edit::Insert(1, 6),
+        branches: &[&[0], &[1]],
+        firsts: 1,
+        joins: 1,
+    },
+    Row {
+        edit: Edit::Insert(2, 4),
+        branches: &[&[0], &[1, 2]],
+        firsts: 1,
+        joins: 2,
+    },
+];
+
+/// The same by the first branch that fits.
+const BY_FIRST: [Row; 3] = [
+    Row {
+        edit: Edit::Insert(0, 5),
+        branches: &[&[0]],
+        firsts: 1,
+        joins: 0,
+    },
+    Row {
+        edit: Edit::Insert(1, 6),
+        branches: &[&[0], &[1]],
+        firsts: 1,
+        joins: 1,
+    },
+    Row {
+        edit: Edit::Insert(2, 4),
+        branches: &[&[0, 2], &[1]],
+        firsts: 1,
+        joins: 1,
+    },
+];
+
+/// Makes a row's change, and again where the call that is to find no memory is one of it: whether all is as it was after
+/// that, and the branches and the calls are the row's in the end.
+fn holds<L: Ledger>(
+    sums: &mut Sums,
+    held: &mut Held,
+    before: &'static [&'static [usize]],
+    row: Row,
+    steps: &mut Steps<L>,
+) -> Result<bool, Fail>
+    requires { (items : Listed ℕ) × FoldsStand ⟦<Sums as Maker>⟧ sums.old items held.old.folds × (length items ≡ held.old.count) }
+    ensures { (items : Listed ℕ) × FoldsStand ⟦<Sums as Maker>⟧ sums.new items held.new.folds × (length items ≡ held.new.count) }
+{
+    let live = sums.kept.len();
+    let (firsts, joins) = (sums.firsts, sums.joins);
+    match apply(sums, held, row.edit, steps) {
+        Ok(()) => Ok(
+            are(held.folds.branches(), row.branches)
+                && sums.firsts.wrapping_sub(firsts) == row.firsts
+                && sums.joins.wrapping_sub(joins) == row.joins,
+        ),
+        Err(FoldError::NoMemory) => {
+            if sums.firsts.wrapping_add(sums.joins) != sums.fails_at {
+                return Err(Fail::from(NoMemory));
+            }
+            let as_before = sums.kept.len() == live && are(held.folds.branches(), before);
+            match apply(sums, held, row.edit, steps) {
+                Ok(()) => Ok(as_before && are(held.folds.branches(), row.branches)),
+                Err(FoldError::NoMemory) => Err(Fail::from(NoMemory)),
+                Err(_other) => Ok(false),
+            }
+        }
+        Err(_other) => Ok(false),
+    }
+}
+
+/// Whether all rows hold, and how many calls are made in all, where the call of this number finds no memory.
+fn rows_hold<L: Ledger>(
+    alloc: Global,
+    blank: Blank,
+    rule: Placing,
+    fails_at: u64,
+    rows: &[Row],
+) -> Result<Option<u64>, Fail>
+    requires name { blank.name ≡ L.name }
+    requires parts { blank.parts ≡ L.parts }
+    requires one { blank.parts ≡ 1 }
+{
+    let (book, share) = blank.open::<L>();
+    let mut steps: Steps<L> = Steps::new(book, share);
+    let mut sums = Sums::new(alloc, fails_at);
+    let mut held = Held {
+        folds: Folds::new(alloc, rule),
+        count: 0,
+    };
+    let mut before = NO_BRANCHES;
+    for i in 0..rows.len() {
+        let row = rows[i];
+        match holds(&mut sums, &mut held, before, row, &mut steps) {
+            Ok(true) => before = row.branches,
+            Ok(false) => return Ok(None),
+            Err(fail) => return Err(fail),
+        }
+    }
+    Ok(Some(sums.firsts.wrapping_add(sums.joins)))
+}
+
+#[test]
+fn the_first_branch_that_fits_takes_an_item(rt: HostRuntime) -> Result<(), Fail> {
+    let calls = rows_hold::<Brand>(
+        rt.alloc(),
+        Blank::new(1),
+        Placing::First,
+        0,
+        FIRST.as_slice(),
+    )?;
+    assert_eq!(rt; calls, Some(10));
+    Ok(())
+}
+
+#[test]
+fn the_lightest_branch_takes_an_item(rt: HostRuntime) -> Result<(), Fail> {
+    let lightest = rows_hold::<Brand>(
+        rt.alloc(),
+        Blank::new(1),
+        Placing::Lightest,
+        0,
+        LIGHTEST.as_slice(),
+    )?;
+    assert_eq!(rt; lightest, Some(6));
+    let first = rows_hold::<Brand>(
+        rt.alloc(),
+        Blank::new(1),
+        Placing::First,
+        0,
+        BY_FIRST.as_slice(),
+    )?;
+    assert_eq!(rt; first, Some(5));
+    Ok(())
+}
+
+#[test]
+fn a_call_without_memory_changes_nothing(rt: HostRuntime) -> Result<(), Fail> {
+    for call in 1..11u64 {
+        let rows = FIRST.as_slice();
+        let calls = rows_hold::<Brand>(rt.alloc(), Blank::new(1), Placing::First, call, rows)?;
+        assert!(rt; calls.is_some());
+    }
+    Ok(())
+}
+
+/// One branch of three items.
+const ALL_IN_ONE: &[&[usize]] = &[&[0, 1, 2]];
+
+/// Whether the folds after the rows refuse an item and take another one for one of theirs, and whether renewed and cleared
+/// folds are as they should be.
+fn changes_hold<L: Ledger>(alloc: Global, blank: Blank) -> Result<bool, Fail>
+    requires name { blank.name ≡ L.name }
+    requires parts { blank.parts ≡ L.parts }
+    requires one { blank.parts ≡ 1 }
+{
+    let (book, share) = blank.open::<L>();
+    let mut steps: Steps<L> = Steps::new(book, share);
+    let mut sums = Sums::new(alloc, 0);
+    let mut held = Held {
+        folds: Folds::new(alloc, Placing::First),
+        count: 0,
+    };
+    for (at, item) in [5, 4, 3].iter().enumerate() {
+        if let Err(refusal) = apply(&mut sums, &mut held, Edit::Insert(at, *item), &mut steps) {
+            return Err(Fail::from(refusal));
+        }
+    }
+    let live = sums.kept.len();
+    let calls = (sums.firsts, sums.joins);
+    let refused = apply(&mut sums, &mut held, Edit::Insert(3, 11), &mut steps);
+    let alone = match refused {
+        Err(FoldError::Alone { item: 3 }) => sums.kept.len() == live,
+        Err(FoldError::NoMemory) => return Err(Fail::from(NoMemory)),
+        _ => false,
+    };
+    let alone = alone
+        && are(held.folds.branches(), FIRST[4].branches)
+        && (sums.firsts, sums.joins) == (calls.0.wrapping_add(1), calls.1);
+    let calls = (sums.firsts, sums.joins);
+    if let Err(refusal) = apply(&mut sums, &mut held, Edit::Replace(1, 2), &mut steps) {
+        return Err(Fail::from(refusal));
+    }
+    let replaced = are(held.folds.branches(), ALL_IN_ONE)
+        && (sums.firsts, sums.joins) == (calls.0.wrapping_add(1), calls.1.wrapping_add(2));
+    let mut kept: List<usize> = List::new(alloc);
+    kept.append(held.folds.kept())?;
+    let mut folds = held.folds;
+    folds.renew(kept.as_slice());
+    let renewed = folds.kept() == kept.as_slice() && are(folds.branches(), ALL_IN_ONE);
+    folds.clear();
+    folds_stay::<Sums>();
+    renewed_folds_stand::<Sums>();
+    placed_once::<Sums>();
+    Ok(alone && replaced && renewed && folds.branches().is_empty() && folds.kept().is_empty())
+}
+
+#[test]
+fn branches_follow_changes(rt: HostRuntime) -> Result<(), Fail> {
+    assert!(rt; changes_hold::<Brand>(rt.alloc(), Blank::new(1))?);
+    Ok(())
+}
