@@ -11,3 +11,6 @@ mod pool;
 
 pub use numbers::{PoolMark, Span};
 pub use pool::Pool;
+
+#[cfg(test)]
+mod tests;

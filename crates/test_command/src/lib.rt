@@ -1,4 +1,5 @@
-//! Tests through public calls, of what no contract says. What the command is made of: session files, saved programs and the opening steps.
+//! What no contract says of the files and the words of the command, through public calls: session files, saved programs,
+//! and the steps of the opening.
 #![tactic(auto)]
 
 #[cfg(test)]

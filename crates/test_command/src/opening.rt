@@ -1,6 +1,6 @@
 //! How sessions open, over files in memory.
-use fill_open::*;
 use fill_edge::MemoryCabinet;
+use fill_open::*;
 use fill_text::{List, NoMemory};
 use std::alloc::{AllocError, Global};
 use std::test::Fail;

@@ -1,8 +1,6 @@
-//! Tests through public calls, of what no contract says. The layers of files: texts, records, sheets, tables and the pool of texts.
+//! What no contract says of the files: texts and their UTF-8, records, sheets and tables, through their public calls.
 #![tactic(auto)]
 
-#[cfg(test)]
-mod pool;
 #[cfg(test)]
 mod records;
 #[cfg(test)]

@@ -1,4 +1,4 @@
-//! Tests through public calls, of what no contract says. Sets and graphs of programs.
+//! What no contract says of sets and graphs of programs, through their public calls: made, trimmed, intersected, ranked.
 #![tactic(auto)]
 
 #[cfg(test)]

@@ -1,6 +1,6 @@
 //! Values of trees on the rows of small sheets, worked by hand.
-use fill_eval::*;
 use Token::{Digits, Hyphen, Upper};
+use fill_eval::*;
 use fill_sheet::Sheet;
 use fill_tables::Tables;
 use fill_text::{List, Text};

@@ -2,8 +2,8 @@
 ghost use Rattle.std.specs.Prelude.{◌↔◌, IsTrue, All};
 ghost use Rattle.fill_guard.specs.Read.{IsRowOf};
 
-use fill_guard::guard;
 use Token::{Digits, Lower, NonAlpha, Start, Upper};
+use fill_guard::guard;
 use fill_sheet::Sheet;
 use fill_tokens::{Seq, Token};
 use fill_tree::{Constants, Guard, Literal, Settings};

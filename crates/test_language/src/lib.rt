@@ -1,4 +1,5 @@
-//! Tests through public calls, of what no contract says. The language: tokens, positions, programs, what they give, guards and the notation.
+//! What no contract says of the language: tokens, positions, programs, what they give, guards and the notation, through
+//! their public calls.
 #![tactic(auto)]
 
 #[cfg(test)]

@@ -1,7 +1,7 @@
 ghost use Rattle.fill_tokens.specs.Profile.{IsProfile};
 
-use fill_places::*;
 use Token::{Alpha, Digits, End, Hyphen, Lower, NonAlpha, NonDigit, NonSpace, Start, Upper, Word};
+use fill_places::*;
 use fill_text::Text;
 use fill_tokens::{Place, Seq, Token, is_place, place_value};
 use std::alloc::Global;

@@ -1,6 +1,6 @@
 //! The pieces of small texts, worked by hand, and those that a look from each position finds.
-use fill_spans::{Spans, token_at};
 use Token::{Alpha, Digits, End, Hyphen, Lower, NonAlpha, NonSpace, Space, Start, Upper, Word};
+use fill_spans::{Spans, token_at};
 use fill_text::Text;
 use fill_tokens::{Token, span};
 use std::alloc::Global;

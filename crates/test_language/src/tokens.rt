@@ -1,9 +1,9 @@
-use fill_tokens::*;
 use Token::{
     Alpha, Digits, Dollar, End, Hyphen, Lower, NonAlpha, NonDigit, NonSpace, Space, Start, Upper,
     Word,
 };
 use fill_text::{Text, TextError};
+use fill_tokens::*;
 use std::alloc::Global;
 use std::cmp::Ordering;
 use std::test::Fail;

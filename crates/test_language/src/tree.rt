@@ -1,8 +1,8 @@
 mod grammar;
 
-use fill_tree::*;
 use Token::{Hyphen, Space, Upper};
 use fill_text::{List, Text};
+use fill_tree::*;
 use std::alloc::Global;
 use std::cmp::Ordering;
 use std::test::Fail;

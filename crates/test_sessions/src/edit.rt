@@ -22,13 +22,23 @@ fn text_of(alloc: Global, length: u32) -> Result<Text, Fail> {
 }
 
 /// Makes an edit that puts a text of so many characters to a row.
-fn put(alloc: Global, session: &mut Session, row: u32, length: u32) -> Result<Option<EditError>, Fail> {
+fn put(
+    alloc: Global,
+    session: &mut Session,
+    row: u32,
+    length: u32,
+) -> Result<Option<EditError>, Fail> {
     let text = text_of(alloc, length)?;
     Ok(make(session, &Edit::Add { row, text }))
 }
 
 /// Corrects the text of a row to one of so many characters.
-fn correct(alloc: Global, session: &mut Session, row: u32, length: u32) -> Result<Option<EditError>, Fail> {
+fn correct(
+    alloc: Global,
+    session: &mut Session,
+    row: u32,
+    length: u32,
+) -> Result<Option<EditError>, Fail> {
     let text = text_of(alloc, length)?;
     Ok(make(session, &Edit::Correct { row, text }))
 }
@@ -50,8 +60,14 @@ fn the_first_of_several_reasons(rt: HostRuntime) -> Result<(), Fail> {
     let no_row = Some(EditError::NoSuchRow { rows: 3 });
     assert_eq!(rt; make(&mut session, &Edit::Retract { row: 0 }), no_row);
     assert_eq!(rt; put(alloc, &mut session, 4, 101)?, no_row);
-    assert_eq!(rt; put(alloc, &mut session, 1, 101)?, Some(EditError::HasExample));
-    assert_eq!(rt; correct(alloc, &mut session, 2, 101)?, Some(EditError::NoExample));
+    assert_eq!(rt;
+        put(alloc, &mut session, 1, 101)?,
+        Some(EditError::HasExample)
+    );
+    assert_eq!(rt;
+        correct(alloc, &mut session, 2, 101)?,
+        Some(EditError::NoExample)
+    );
     Ok(())
 }
 

@@ -1,8 +1,8 @@
 //! Edits one after the other.
 ghost use Rattle.std.specs.Prelude.{◌≡◌, length};
 
-use fill_session::{EditError, Session};
 use fill_edge::{Ledger, Steps};
+use fill_session::{EditError, Session};
 use fill_sheet::Sheet;
 use fill_tables::Tables;
 use fill_text::Text;

@@ -1,4 +1,4 @@
-//! Tests through public calls, of what no contract says. Sessions.
+//! What no contract says of sessions, through their public calls.
 #![tactic(auto)]
 
 #[cfg(test)]

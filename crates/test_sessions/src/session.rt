@@ -2,8 +2,8 @@
 ghost use Rattle.std.specs.Prelude.{◌≡◌, ◌≤◌};
 ghost use Rattle.fill_tree.specs.Grammar.{AreSettings};
 
-use fill_session::{Answer, EditError, Session, Shapes, State};
 use fill_edge::{Ledger, Steps};
+use fill_session::{Answer, EditError, Session, Shapes, State};
 use fill_sheet::Sheet;
 use fill_tables::Tables;
 use fill_text::Text;

@@ -4,11 +4,11 @@ ghost use Rattle.fill_arena.specs.Contents.{Extends, IsAtomSet, IsGraph, IsPlace
 ghost use Rattle.fill_arena.specs.WellMade.{IsAtomItem};
 ghost use Rattle.fill_arena.specs.declared.entry.Entry.{Entry as Kept};
 
-use fill_doubt::*;
 use fill_arena::{
     Arena, AtomItem, AtomSet, ConditionItem, Edge, GraphId, PlaceSet, SelectItem, SourceItem,
     SourceSet,
 };
+use fill_doubt::*;
 use fill_edge::{Ledger, Steps};
 use fill_sheet::Sheet;
 use fill_tables::Tables;

@@ -1,4 +1,4 @@
-//! Tests through public calls, of what no contract says. Flags, branches and the spaces of programs.
+//! What no contract says of flags, branches and the spaces of programs, through their public calls.
 #![tactic(auto)]
 
 #[cfg(test)]

@@ -4,9 +4,9 @@ ghost use Rattle.fill_tree.specs.declared.user.Example.{Example as Given};
 ghost use Rattle.fill_split.specs.Keeping.{Keeps};
 ghost use Rattle.fill_space.specs.Spaces.{SpaceStands};
 
-use fill_space::{Space, Spaces, laws};
 use fill_edge::{Ledger, Steps};
 use fill_sheet::Sheet;
+use fill_space::{Space, Spaces, laws};
 use fill_split::Maker;
 use fill_tables::Tables;
 use fill_text::{List, NoMemory, Text};

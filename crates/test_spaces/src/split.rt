@@ -4,10 +4,10 @@ ghost use Rattle.std.proofs.Common.{◌∙◌, sym};
 ghost use Rattle.fill_split.specs.Standing.{FoldsStand};
 ghost use Rattle.fill_split.specs.Changes.{put_in, taken_out, IsPlace};
 
+use fill_edge::{Ledger, Steps};
 use fill_split::{
     Change, Fold, FoldError, Folds, Maker, Placing, folds_stay, placed_once, renewed_folds_stand,
 };
-use fill_edge::{Ledger, Steps};
 use fill_text::{List, NoMemory};
 use std::alloc::Global;
 use std::marker::{Brand, Model};

@@ -2,11 +2,11 @@
 ghost use Rattle.std.specs.Prelude.{◌≤◌};
 
 use super::{Numbers, by_two, constant, input, lookup, one, piece, price};
-use fill_tree::*;
 use Token::{NonSpace, Upper};
 use fill_sheet::Sheet;
 use fill_tables::Tables;
 use fill_text::List;
+use fill_tree::*;
 use std::alloc::Global;
 use std::test::Fail;
 

@@ -1,7 +1,7 @@
 //! Slices that are put in, read and cut away.
 ghost use Rattle.std.specs.Prelude.{◌≤◌};
 
-use fill_pool::*;
+use crate::*;
 use fill_text::NoMemory;
 use std::test::Fail;
 
