@@ -5,7 +5,7 @@ use Rattle.fill_tokens.specs.PlaceGrammar.{IsPlace}
 use Rattle.fill_tokens.specs.declared.place.Place.{Place}
 use Rattle.fill_tree.specs.Tree.{SourceTree, AtomTree, col, select}
 use Rattle.fill_tree.specs.Grammar.{source_depth}
-use Rattle.fill_arena.specs.Contents.{In, SomeIn, Extends}
+use Rattle.fill_arena.specs.Contents.{In, SomeIn, EachIn, Extends}
 use Rattle.fill_arena.specs.Stands.{PlaceStands, SourceStands, AtomStands}
 use Rattle.fill_arena.specs.WellMade.{ArePlaces, AreSources, AreAtoms, IsSourceItem, IsAtomItem, IsWellMade}
 use Rattle.fill_arena.specs.declared.entry.Entry.{Entry}
@@ -72,6 +72,11 @@ module _ (c d : List Entry) (o : Extends c d) (s t : ℕ) (xs ys zs : List Place
   pub places_apart : length zs ≡ 0 → AreApart PlaceStands c s t
   places_apart none =
       set_apart ListsPlace Places one_places c s t xs ys hs ht (λ e p a f g. in_empty a (subst (In a) (is_empty zs none) ((both a).1 (f, g))))
+
+-- where each place of the first set is one of the second, the first set has what both have
+pub places_within_met : (c : List Entry) (s t : ℕ) (xs ys : List Place) → slice_get c s ≡ Some (Places xs) → slice_get c t ≡ Some (Places ys) → ArePlaces xs → EachIn (λ p. In p ys) xs → AreMet PlaceStands c s t s
+places_within_met c s t xs ys hs ht are all =
+    places_met c c (extends_same c) s t xs ys xs hs ht (λ p. (λ h. (h, all h.0 p h.1), λ h. h.0)) s hs (λ e. let lt = are.some in absurd (omega arith))
 
 pub are_places : (zs : List Place) → (length zs ≡ 0 → ⊥) → AllPairs Before zs → All IsPlace zs → ArePlaces zs
 are_places zs some rising grammar = record { some = positive (length zs) some; rising = rising; grammar = grammar }

@@ -1,5 +1,5 @@
 -- A set has in common with itself what stands in it; and a pair has what its mirror has.
-use Rattle.std.proofs.Common.{rules, ◌≡◌, ◌⊎◌, inl, inr, true, nat_eq, ℕ, List, Option, Some, None, slice_get, sym, ◌∙◌, subst, arith}
+use Rattle.std.proofs.Common.{rules, ◌≡◌, true, nat_eq, ℕ, List, Option, Some, None, slice_get, sym, ◌∙◌, subst, arith}
 use Rattle.std.proofs.lemmas.Option.{slice_get_within}
 use Rattle.std.specs.HashMap.{HashMap, get}
 use Rattle.fill_tree.specs.Tree.{AtomTree, Atoms}
@@ -14,7 +14,7 @@ use Rattle.fill_arena.proofs.Filled.{place_filled, source_filled, atom_filled, a
 use Rattle.fill_arena.proofs.Grows.{places_stay, sources_stay, atoms_stay, all_older, atom_below, agree_below}
 use Rattle.fill_meet.specs.Meet.{AreMet, AreApart, IsMeet}
 use Rattle.fill_meet.specs.Memory.{AreRight, pair_eq}
-use Rattle.fill_meet.specs.Sets.{AtomIn, AreAtomsMet, PlaceSetsMeet, SourceSetsMeet, AtomSetsMeet}
+use Rattle.fill_meet.specs.Sets.{AtomIn, AreAtomsMet, PlaceSetsMeet}
 
 -- numbers by their test
 pub number_same : (s t : ℕ) → nat_eq s t ≡ true → s ≡ t
@@ -75,18 +75,6 @@ pub places_mirror : (c : List Entry) (s t : ℕ) (made : Option ℕ) → PlaceSe
 places_mirror c s t None m = apart_mirror PlaceStands c s t m
 places_mirror c s t (Some n) m = met_mirror PlaceStands c s t n m
 
-pub sources_mirror : (c : List Entry) (s t : ℕ) (made : Option ℕ) → SourceSetsMeet c s t made → SourceSetsMeet c t s made
-sources_mirror c s t None m = apart_mirror SourceStands c s t m
-sources_mirror c s t (Some n) m = met_mirror SourceStands c s t n m
-
-pub atoms_mirror : (c : List Entry) (s t : ℕ) (made : Option ℕ) → AtomSetsMeet c s t made → AtomSetsMeet c t s made
-atoms_mirror c s t None m = apart_mirror AtomStands c s t m
-atoms_mirror c s t (Some n) m = record { met = met_mirror AtomStands c s t n m.met; each = m.each }
-
--- what a table tells of a pair or its mirror
-pub told : {S : Type 0} (Meet : ℕ → ℕ → Option ℕ → Type 0) (mirror : (s t : ℕ) (made : Option ℕ) → Meet s t made → Meet t s made) (table : HashMap (ℕ × ℕ) (Option ℕ) S) (s t : ℕ) (made : Option ℕ) →
-    AreRight Meet table → (get pair_eq table (s, t) ≡ Some made) ⊎ (get pair_eq table (t, s) ≡ Some made) → Meet s t made
-told Meet mirror table s t made right h = elim h [
-  | inl a ↦ right.each (s, t) made a
-  | inr b ↦ mirror t s made (right.each (t, s) made b)
-]
+-- what a table tells of a pair
+pub told : {S : Type 0} (Meet : ℕ → ℕ → Option ℕ → Type 0) (table : HashMap (ℕ × ℕ) (Option ℕ) S) (s t : ℕ) (made : Option ℕ) → AreRight Meet table → get pair_eq table (s, t) ≡ Some made → Meet s t made
+told Meet table s t made right h = right.each (s, t) made h

@@ -1,4 +1,4 @@
-pub mod Ends
+pub mod Outlines
 pub mod Joins
 pub mod Meet
 pub mod Memory

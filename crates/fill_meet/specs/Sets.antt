@@ -89,6 +89,10 @@ pub record ConditionsMeet (c : List Entry) (x y z : ConditionItem) : Type 0 wher
 pub record RowsMeet (c : List Entry) (xs ys zs : List ConditionItem) : Type 0 where
   pub each : (k : ℕ) (x y z : ConditionItem) → slice_get xs k ≡ Some x → slice_get ys k ≡ Some y → slice_get zs k ≡ Some z → ConditionsMeet c x y z
 
+-- each place of the first set stands in the second one, and some place does
+abbrev pub IsWithin : List Entry → ℕ → ℕ → Type 0
+IsWithin c s t = AreMet PlaceStands c s t s
+
 -- an item that is no constant
 abbrev pub IsPartItem : AtomItem → Type 0
 IsPartItem (Const t) = ⊥

@@ -8,9 +8,9 @@
 
 mod apart;
 mod copy;
-mod ends;
 pub mod meet;
 mod memo;
+mod outlines;
 mod outs;
 mod places;
 mod product;

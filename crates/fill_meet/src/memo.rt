@@ -1,5 +1,5 @@
 //! What was found for pairs of sets, in one call.
-ghost use Rattle.std.specs.Prelude.{◌≡◌, ◌⊎◌, ℕ, List, Some, IfSome, OnOk};
+ghost use Rattle.std.specs.Prelude.{◌≡◌, ℕ, List, Some, IfSome, OnOk};
 ghost use Rattle.std.specs.HashMap.{get, Updates};
 ghost use Rattle.fill_arena.specs.declared.entry.Entry.{Entry};
 ghost use Rattle.fill_meet.specs.Memory.{IsRight, pair_eq};
@@ -32,18 +32,15 @@ impl Memo {
     }
 }
 
-/// What was found for the pair or its mirror.
+/// What was found for the pair.
 pub(crate) fn find_places(
     table: &HashMap<(PlaceSet, PlaceSet), Option<PlaceSet>>,
     s: PlaceSet,
     t: PlaceSet,
 ) -> Option<Option<PlaceSet>>
-    ensures { IfSome result (λ made. (get pair_eq table.now (s, t) ≡ Some made) ⊎ (get pair_eq table.now (t, s) ≡ Some made)) }
+    ensures { IfSome result (λ made. get pair_eq table.now (s, t) ≡ Some made) }
 {
-    if let Some(made) = table.get(&(s, t)) {
-        return Some(*made);
-    }
-    match table.get(&(t, s)) {
+    match table.get(&(s, t)) {
         Some(made) => Some(*made),
         None => None,
     }
@@ -63,18 +60,15 @@ pub(crate) fn put_places(
     }
 }
 
-/// What was found for the pair or its mirror.
+/// What was found for the pair.
 pub(crate) fn find_sources(
     table: &HashMap<(SourceSet, SourceSet), Option<SourceSet>>,
     s: SourceSet,
     t: SourceSet,
 ) -> Option<Option<SourceSet>>
-    ensures { IfSome result (λ made. (get pair_eq table.now (s, t) ≡ Some made) ⊎ (get pair_eq table.now (t, s) ≡ Some made)) }
+    ensures { IfSome result (λ made. get pair_eq table.now (s, t) ≡ Some made) }
 {
-    if let Some(made) = table.get(&(s, t)) {
-        return Some(*made);
-    }
-    match table.get(&(t, s)) {
+    match table.get(&(s, t)) {
         Some(made) => Some(*made),
         None => None,
     }
@@ -94,18 +88,15 @@ pub(crate) fn put_sources(
     }
 }
 
-/// What was found for the pair or its mirror.
+/// What was found for the pair.
 pub(crate) fn find_atoms(
     table: &HashMap<(AtomSet, AtomSet), Option<AtomSet>>,
     s: AtomSet,
     t: AtomSet,
 ) -> Option<Option<AtomSet>>
-    ensures { IfSome result (λ made. (get pair_eq table.now (s, t) ≡ Some made) ⊎ (get pair_eq table.now (t, s) ≡ Some made)) }
+    ensures { IfSome result (λ made. get pair_eq table.now (s, t) ≡ Some made) }
 {
-    if let Some(made) = table.get(&(s, t)) {
-        return Some(*made);
-    }
-    match table.get(&(t, s)) {
+    match table.get(&(s, t)) {
         Some(made) => Some(*made),
         None => None,
     }

@@ -1,16 +1,16 @@
 //! The edges of a graph by the nodes that they come from.
 ghost use Rattle.std.specs.Prelude.{◌≡◌, ◌<◌, ℕ, length, get_or, slice_get, Some, IfOk};
 ghost use Rattle.fill_arena.specs.Contents.{EachIn, IsAtomSet};
-ghost use Rattle.fill_meet.specs.Ends.{AreEnds};
+ghost use Rattle.fill_meet.specs.Outlines.{AreOutlines};
 ghost use Rattle.fill_meet.specs.Outs.{AreChainedFrom, AreOuts};
 
-use crate::ends::{Ends, find_ends};
+use crate::outlines::{Outline, find_outlines};
 use fill_arena::{Arena, Edge};
 use fill_text::NoMemory;
 use std::alloc::Global;
 
 /// Edges, for each node the place of the first edge out of it, and for each edge that of the next one out of its node, and
-/// the ends of what stands on it.
+/// the outline of its set.
 ///
 /// Where there is no such edge, it is a place past the last one.
 #[derive(Drop)]
@@ -18,7 +18,7 @@ pub(crate) struct Outs<'a> {
     pub(crate) edges: &'a [Edge],
     pub(crate) firsts: Vec<usize>,
     pub(crate) nexts: Vec<usize>,
-    pub(crate) ends: Vec<Option<Ends>>,
+    pub(crate) outlines: Vec<Option<Outline>>,
 }
 
 impl<'a> Outs<'a> {
@@ -33,17 +33,17 @@ impl<'a> Outs<'a> {
         requires sets { EachIn (λ e. IsAtomSet arena.now e.atoms) edges.now }
         ensures outs { IfOk result (AreOuts nodes) }
         ensures edges { IfOk result (λ outs. outs.edges.now ≡ edges.now) }
-        ensures ends { IfOk result (λ outs. AreEnds arena.now outs.edges.now outs.ends.items) }
+        ensures outlines { IfOk result (λ outs. AreOutlines arena.now outs.edges.now outs.outlines.items) }
     {
         let mut firsts = vec![in alloc; edges.len(); nodes]?;
         let mut nexts = vec![in alloc; edges.len(); edges.len()]?;
         chain(firsts.as_mut_slice(), nexts.as_mut_slice(), edges);
-        let ends = find_ends(alloc, arena, edges)?;
+        let outlines = find_outlines(alloc, arena, edges)?;
         Ok(Outs {
             edges,
             firsts,
             nexts,
-            ends,
+            outlines,
         })
     }
 
@@ -63,12 +63,12 @@ impl<'a> Outs<'a> {
         self.nexts[place]
     }
 
-    /// The ends of what stands on the edge at this place.
-    pub(crate) fn ends(&self, place: usize) -> Option<Ends>
-        requires { place < length self.now.ends.items }
-        ensures { slice_get self.now.ends.items place ≡ Some result }
+    /// The outline of the set of the edge at this place, where it has one.
+    pub(crate) fn outline(&self, place: usize) -> Option<Outline>
+        requires { place < length self.now.outlines.items }
+        ensures { slice_get self.now.outlines.items place ≡ Some result }
     {
-        self.ends[place]
+        self.outlines[place]
     }
 }
 

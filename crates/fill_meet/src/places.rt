@@ -1,14 +1,14 @@
 //! What two sets of places have in common.
-ghost use Rattle.std.specs.Prelude.{◌≡◌, ◌↔◌, ◌++◌, ◌∷◌, [], All, IfOk, OnOk};
+ghost use Rattle.std.specs.Prelude.{◌≡◌, ◌↔◌, ◌++◌, ◌∷◌, [], All, IfOk, IfSome, IsTrue, OnOk, Some, slice_get};
 ghost use Rattle.std.specs.List.{AllPairs};
 ghost use Rattle.std.specs.declared.cmp.Ordering.TheVariants.{Less};
 ghost use Rattle.fill_tokens.specs.Place.{place_cmp};
 ghost use Rattle.fill_tokens.specs.PlaceGrammar.{IsPlace};
 ghost use Rattle.fill_tokens.specs.declared.place.Place.{Place};
-ghost use Rattle.fill_arena.specs.Contents.{Extends, In, IsPlaceSet};
+ghost use Rattle.fill_arena.specs.Contents.{EachIn, Extends, In, IsPlaceSet};
 ghost use Rattle.fill_arena.specs.WellMade.{ArePlaces};
 ghost use Rattle.fill_meet.specs.Memory.{IsRight};
-ghost use Rattle.fill_meet.specs.Sets.{PlaceSetsMeet};
+ghost use Rattle.fill_meet.specs.Sets.{IsWithin, PlaceSetsMeet};
 
 use crate::memo::{Memo, find_places, put_places};
 use fill_arena::{Arena, PlaceSet};
@@ -43,7 +43,73 @@ pub(crate) fn meet_places(
     Ok(made)
 }
 
+/// The same, where the sets are two, and with no table for the pair.
+///
+/// Where the one set has only places of the other, it is what they have in common. An example more mostly leaves a set as
+/// it was.
 fn make_places(
+    arena: &mut Arena,
+    memo: &Memo,
+    s: PlaceSet,
+    t: PlaceSet,
+) -> Result<Option<PlaceSet>, NoMemory>
+    requires first { IsPlaceSet arena.old s }
+    requires second { IsPlaceSet arena.old t }
+    ensures kept { Extends arena.old arena.new }
+    ensures met { IfOk result (PlaceSetsMeet arena.new s t) }
+{
+    if is_within(arena, s, t) {
+        return Ok(Some(s));
+    }
+    if is_within(arena, t, s) {
+        return Ok(Some(t));
+    }
+    intern_common(arena, memo, s, t)
+}
+
+/// Whether each place of the first set stands in the second one.
+fn is_within(arena: &Arena, s: PlaceSet, t: PlaceSet) -> bool
+    requires first { IsPlaceSet arena.now s }
+    requires second { IsPlaceSet arena.now t }
+    ensures { IsTrue result → IsWithin arena.now s t }
+{
+    arena.keeps_made();
+    lists_all(arena.places(t), arena.places(s))
+}
+
+/// Whether each of the places is in the list, found by one pass.
+fn lists_all(xs: &[Place], places: &[Place]) -> bool
+    ensures { IsTrue result → EachIn (λ p. In p xs.now) places.now }
+{
+    if places.len() > xs.len() {
+        return false;
+    }
+    let mut from = 0;
+    for i in 0..places.len() {
+        let Some(k) = find_from(xs, from, &places[i]) else {
+            return false;
+        };
+        from = k;
+    }
+    true
+}
+
+/// A place of the list where the given one stands, from an index on; none where a greater one comes first.
+fn find_from(xs: &[Place], from: usize, place: &Place) -> Option<usize>
+    ensures { IfSome result (λ k. slice_get xs.now k ≡ Some place.now) }
+{
+    for k in from..xs.len() {
+        match xs[k].compare(place) {
+            Ordering::Less => continue,
+            Ordering::Equal => return Some(k),
+            Ordering::Greater => return None,
+        }
+    }
+    None
+}
+
+/// The set of the places that stand in both sets, made from their lists.
+fn intern_common(
     arena: &mut Arena,
     memo: &Memo,
     s: PlaceSet,
@@ -70,7 +136,7 @@ fn common_places(alloc: Global, xs: &[Place], ys: &[Place]) -> Result<List<Place
     ensures rising { IfOk result (λ both. AllPairs (λ p q. place_cmp p q ≡ Less) both) }
     ensures grammar { IfOk result (λ both. All IsPlace both) }
 {
-    let mut both = List::new(alloc);
+    let mut both = List::with_capacity(alloc, xs.len().min(ys.len()))?;
     let mut i = 0;
     let mut j = 0;
     while i < xs.len() && j < ys.len() {

@@ -126,13 +126,13 @@ fn meet_atom_items(
             None => Ok(None),
         },
         (AtomItem::Sub(s, p, q), AtomItem::Sub(t, u, v)) => {
+            let Some(sources) = meet_sources(arena, memo, *s, *t)? else {
+                return Ok(None);
+            };
             let Some(lefts) = meet_places(arena, memo, *p, *u)? else {
                 return Ok(None);
             };
             let Some(rights) = meet_places(arena, memo, *q, *v)? else {
-                return Ok(None);
-            };
-            let Some(sources) = meet_sources(arena, memo, *s, *t)? else {
                 return Ok(None);
             };
             Ok(Some(AtomItem::Sub(sources, lefts, rights)))

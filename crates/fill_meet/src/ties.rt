@@ -1,13 +1,13 @@
 //! The pairs of edges that may have an atom in common.
 ghost use Rattle.std.specs.Prelude.{◌≡◌, ◌<◌, ◌+◌, ◌*◌, length, IfOk, IfSome, OnOk};
 ghost use Rattle.fill_arena.specs.Contents.{IsAtomSet};
-ghost use Rattle.fill_meet.specs.Ends.{AreEnds, HasEnds};
+ghost use Rattle.fill_meet.specs.Outlines.{AreOutlines, HasOutline};
 ghost use Rattle.fill_meet.specs.Product.{ArePairable};
 ghost use Rattle.fill_meet.specs.Ties.{AreRising, AreTies, IsOut, IsTried, NameSets, TieState};
 ghost use Rattle.fill_meet.specs.Tried.{AreTried};
 
 use crate::apart::may_meet;
-use crate::ends::{Ends, are_told_apart};
+use crate::outlines::{Outline, are_told_apart};
 use crate::outs::Outs;
 use crate::tried::Tried;
 use fill_arena::{Arena, AtomSet, Edge};
@@ -82,8 +82,8 @@ fn tie_nodes(
     at: usize,
     net: &mut Net,
 ) -> Result<(), NoMemory>
-    requires firsts { AreEnds arena.now xs.now.edges.now xs.now.ends.items }
-    requires seconds { AreEnds arena.now ys.now.edges.now ys.now.ends.items }
+    requires firsts { AreOutlines arena.now xs.now.edges.now xs.now.outlines.items }
+    requires seconds { AreOutlines arena.now ys.now.edges.now ys.now.outlines.items }
     requires wide { 0 < net.old.width }
     requires within { at < length net.old.reached.items }
     requires state { TieState arena.now xs.now ys.now at 0 0 net.old }
@@ -110,8 +110,8 @@ fn tie_row(
     at: usize,
     net: &mut Net,
 ) -> Result<(), NoMemory>
-    requires firsts { AreEnds arena.now xs.now.edges.now xs.now.ends.items }
-    requires seconds { AreEnds arena.now ys.now.edges.now ys.now.ends.items }
+    requires firsts { AreOutlines arena.now xs.now.edges.now xs.now.outlines.items }
+    requires seconds { AreOutlines arena.now ys.now.edges.now ys.now.outlines.items }
     requires within { k < length xs.now.edges.now }
     requires from { IsOut xs.now.edges.now k net.old.width node at }
     requires state { TieState arena.now xs.now ys.now at k 0 net.old }
@@ -121,26 +121,33 @@ fn tie_row(
 {
     let mut l = ys.first(node);
     while l < ys.edges.len() {
-        tie_edges(arena, xs.edges[k], ys.edges[l], xs.ends(k), ys.ends(l), net)?;
+        tie_edges(
+            arena,
+            xs.edges[k],
+            ys.edges[l],
+            xs.outline(k),
+            ys.outline(l),
+            net,
+        )?;
         l = ys.next(l);
     }
     Ok(())
 }
 
-/// Ties two edges, if they may have an atom in common. What stands on them has the given ends.
+/// Ties two edges, if they may have an atom in common. Their sets have the given outlines.
 fn tie_edges(
     arena: &Arena,
     x: Edge,
     y: Edge,
-    first: Option<Ends>,
-    second: Option<Ends>,
+    first: Option<Outline>,
+    second: Option<Outline>,
     net: &mut Net,
 ) -> Result<(), NoMemory>
     requires tried { AreTried arena.now net.old.tried }
     requires first { IsAtomSet arena.now x.atoms }
     requires second { IsAtomSet arena.now y.atoms }
-    requires first_ends { IfSome first (HasEnds arena.now x.atoms) }
-    requires second_ends { IfSome second (HasEnds arena.now y.atoms) }
+    requires first_outline { IfSome first (HasOutline arena.now x.atoms) }
+    requires second_outline { IfSome second (HasOutline arena.now y.atoms) }
     requires from { x.from * net.old.width + y.from < length net.old.reached.items }
     requires to { x.to * net.old.width + y.to < length net.old.reached.items }
     ensures tried { OnOk result (AreTried arena.now net.new.tried) }

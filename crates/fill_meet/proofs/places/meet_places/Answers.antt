@@ -1,11 +1,11 @@
 use Rattle.std.proofs.Common.{sym, ◌∙◌}
 use Rattle.fill_meet.specs.Sets.{PlaceSetsMeet}
 use Rattle.fill_meet.proofs.Memories.{right_stays, right_put}
-use Rattle.fill_meet.proofs.Selves.{number_same, places_self, places_mirror, told}
+use Rattle.fill_meet.proofs.Selves.{number_same, places_self, told}
 use Rattle.fill_meet.proofs.places.meet_places.Goals as goal
 
 pub returns-in-Some-clause-met : goal.returns-in-Some-clause-met
-returns-in-Some-clause-met c = told (PlaceSetsMeet c.args.arena.now) (places_mirror c.args.arena.now) _ c.args.s c.args.t _ c.requires.memo.places c.in-Some.ensures
+returns-in-Some-clause-met c = told (PlaceSetsMeet c.args.arena.now) _ c.args.s c.args.t _ c.requires.memo.places c.in-Some.ensures
 
 pub returns-clause-memo : goal.returns-clause-memo
 returns-clause-memo c =

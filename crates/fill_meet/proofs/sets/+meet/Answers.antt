@@ -16,7 +16,7 @@ use Rattle.fill_meet.proofs.AtomPairs as atoms
 use Rattle.fill_meet.proofs.Parts.{parts_apart, parts_constants, parts_met, met_set, condition_met}
 use Rattle.fill_meet.proofs.Conditions.{rows_push}
 use Rattle.fill_meet.proofs.Selects as selects
-use Rattle.fill_meet.proofs.Selves.{number_same, atoms_self, sources_self, atoms_mirror, sources_mirror, told}
+use Rattle.fill_meet.proofs.Selves.{number_same, atoms_self, sources_self, told}
 use Rattle.fill_meet.proofs.sets.+meet.Goals as goal
 
 pub make_atoms-loop-i-init : goal.make_atoms-loop-i-init
@@ -84,15 +84,15 @@ make_sources-returns-clause-met n c =
 
 pub meet_atom_items-returns-in_default-2-clause-met : goal.meet_atom_items-returns-in_default-2-clause-met
 meet_atom_items-returns-in_default-2-clause-met n c =
-    rw (c.in-Sub-Sub.is-0, c.in-Sub-Sub.is-1) (atoms.sub_apart_left _ _ _ _ _ _ _ (rw (is_none _ c.in_default-2.not-Some) at c.in_ok-lefts-in-Sub-Sub.ensures.met))
+    rw (c.in-Sub-Sub.is-0, c.in-Sub-Sub.is-1) (atoms.sub_apart_source _ _ _ _ _ _ _ (rw (is_none _ c.in_default-2.not-Some) at c.in_ok-sources-in-Sub-Sub.ensures.met))
 
 pub meet_atom_items-returns-in_default-3-clause-met : goal.meet_atom_items-returns-in_default-3-clause-met
 meet_atom_items-returns-in_default-3-clause-met n c =
-    rw (c.in-Sub-Sub.is-0, c.in-Sub-Sub.is-1) (atoms.sub_apart_right _ _ _ _ _ _ _ (rw (is_none _ c.in_default-3.not-Some) at c.in_ok-rights-in-Sub-Sub.ensures.met))
+    rw (c.in-Sub-Sub.is-0, c.in-Sub-Sub.is-1) (atoms.sub_apart_left _ _ _ _ _ _ _ (rw (is_none _ c.in_default-3.not-Some) at c.in_ok-lefts-in-Sub-Sub.ensures.met))
 
 pub meet_atom_items-returns-in_default-4-clause-met : goal.meet_atom_items-returns-in_default-4-clause-met
 meet_atom_items-returns-in_default-4-clause-met n c =
-    rw (c.in-Sub-Sub.is-0, c.in-Sub-Sub.is-1) (atoms.sub_apart_source _ _ _ _ _ _ _ (rw (is_none _ c.in_default-4.not-Some) at c.in_ok-sources-in-Sub-Sub.ensures.met))
+    rw (c.in-Sub-Sub.is-0, c.in-Sub-Sub.is-1) (atoms.sub_apart_right _ _ _ _ _ _ _ (rw (is_none _ c.in_default-4.not-Some) at c.in_ok-rights-in-Sub-Sub.ensures.met))
 
 pub meet_atom_items-returns-in_ok-copy-in-Const-Const-clause-met : goal.meet_atom_items-returns-in_ok-copy-in-Const-Const-clause-met
 meet_atom_items-returns-in_ok-copy-in-Const-Const-clause-met n c =
@@ -116,11 +116,11 @@ meet_atom_items-returns-in-None-clause-met n c =
 
 pub meet_atom_items-returns-in-Some-4-clause-met : goal.meet_atom_items-returns-in-Some-4-clause-met
 meet_atom_items-returns-in-Some-4-clause-met n c =
-    let second = c.meet_places-in-Sub-Sub.ensures.kept in
-    let third = c.meet_sources-in-Sub-Sub.ensures.kept in
-    let lefts = met_stay _ _ third _ _ _ _ (met_stay _ _ second _ _ _ _ (rw c.in-Some-2.is at c.in_ok-lefts-in-Sub-Sub.ensures.met)) in
-    let rights = met_stay _ _ third _ _ _ _ (rw c.in-Some-3.is at c.in_ok-rights-in-Sub-Sub.ensures.met) in
-    let sources = rw c.in-Some-4.is at c.in_ok-sources-in-Sub-Sub.ensures.met in
+    let second = c.meet_places.ensures.kept in
+    let third = c.meet_places-in-Sub-Sub.ensures.kept in
+    let sources = met_stay _ _ third _ _ _ _ (met_stay _ _ second _ _ _ _ (rw c.in-Some-2.is at c.in_ok-sources-in-Sub-Sub.ensures.met)) in
+    let lefts = met_stay _ _ third _ _ _ _ (rw c.in-Some-3.is at c.in_ok-lefts-in-Sub-Sub.ensures.met) in
+    let rights = rw c.in-Some-4.is at c.in_ok-rights-in-Sub-Sub.ensures.met in
     let l = (lefts.some _ (extends_same _)).1 in
     let r = (rights.some _ (extends_same _)).1 in
     let s = (sources.some _ (extends_same _)).1 in (
@@ -149,7 +149,7 @@ pub meet_atom_row-returns-clause-pairs : goal.meet_atom_row-returns-clause-pairs
 meet_atom_row-returns-clause-pairs n c = state_row AtomIn IsAtomItem atom_item_stays _ _ _ _ _ _ _ c.loop-j-test.false c.loop-j.invariant.pairs
 
 pub meet_atoms-returns-in-Some-clause-met : goal.meet_atoms-returns-in-Some-clause-met
-meet_atoms-returns-in-Some-clause-met n c = told (AtomSetsMeet c.args.arena.now) (atoms_mirror c.args.arena.now) _ c.args.s c.args.t _ c.requires.memo.atoms c.in-Some.ensures
+meet_atoms-returns-in-Some-clause-met n c = told (AtomSetsMeet c.args.arena.now) _ c.args.s c.args.t _ c.requires.memo.atoms c.in-Some.ensures
 
 pub meet_atoms-returns-clause-memo : goal.meet_atoms-returns-clause-memo
 meet_atoms-returns-clause-memo n c =
@@ -257,7 +257,7 @@ pub meet_source_row-returns-clause-pairs : goal.meet_source_row-returns-clause-p
 meet_source_row-returns-clause-pairs n c = state_row SourceIn NamesOlder source_item_stays _ _ _ _ _ _ _ c.loop-j-test.false c.loop-j.invariant.pairs
 
 pub meet_sources-returns-in-Some-clause-met : goal.meet_sources-returns-in-Some-clause-met
-meet_sources-returns-in-Some-clause-met n c = told (SourceSetsMeet c.args.arena.now) (sources_mirror c.args.arena.now) _ c.args.s c.args.t _ c.requires.memo.sources c.in-Some.ensures
+meet_sources-returns-in-Some-clause-met n c = told (SourceSetsMeet c.args.arena.now) _ c.args.s c.args.t _ c.requires.memo.sources c.in-Some.ensures
 
 pub meet_sources-returns-clause-memo : goal.meet_sources-returns-clause-memo
 meet_sources-returns-clause-memo n c =

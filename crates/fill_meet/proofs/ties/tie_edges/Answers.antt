@@ -7,7 +7,7 @@ pub returns-then-are_told_apart-clause-tied : goal.returns-then-are_told_apart-c
 returns-then-are_told_apart-clause-tied c =
     let arena = c.args.arena.now in
     let recent = subst (EachIn (IsTold arena)) (sym c.as_slice.ensures.value) c.requires.tried.recent in
-    inl (refl, refl, c.if-are_told_apart.ensures refl arena c.args.x.atoms c.args.y.atoms recent c.requires.first_ends c.requires.second_ends)
+    inl (refl, refl, c.if-are_told_apart.ensures refl arena c.args.x.atoms c.args.y.atoms recent c.requires.first_outline c.requires.second_outline)
 
 pub returns-then-not-branch-clause-tied : goal.returns-then-not-branch-clause-tied
 returns-then-not-branch-clause-tied c = inl (refl, refl, c.in_ok-may_meet.ensures.apart c.if-not-branch.true)
