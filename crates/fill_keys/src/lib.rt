@@ -1,7 +1,7 @@
 //! The minimal keys of a table: the smallest sets of columns that tell all of its rows apart.
 //!
-//! They are the candidate keys of the relational model (Codd, "A Relational Model of Data for Large Shared Data Banks",
-//! CACM 13(6), 1970), as far as they have three columns at most.
+//! They are the nonredundant keys of the relational model (Codd, "A Relational Model of Data for Large Shared Data Banks",
+//! CACM 13(6), 1970, section 1.3), as far as they have three columns at most.
 #![tactic(auto)]
 
 mod error;

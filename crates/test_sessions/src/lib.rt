@@ -1,4 +1,4 @@
-//! Tests through public calls, of what no contract says. Sessions.
+//! Tests through public calls, of what no contract says. Sessions and their histories.
 #![tactic(auto)]
 
 #[cfg(test)]
@@ -7,5 +7,7 @@ mod edit;
 mod edits;
 #[cfg(test)]
 mod session;
+#[cfg(test)]
+mod undo;
 #[cfg(test)]
 mod want;
