@@ -11,7 +11,8 @@ use Rattle.fill_text.specs.Lists.{Adds, Lists}
 use Rattle.fill_text.proofs.ListsLaws.{adds_none, adds_one, adds_same, adds_then, adds_all}
 use Rattle.fill_tables.specs.Tables.{column_count}
 use Rattle.fill_keys.specs.Keys.{AreColumns, IsMinimalKey, keys_cmp}
-use Rattle.fill_keys.specs.Search.{AreSmaller, BeginsMinimalKey, GoesOnBefore, IsNext, IsPrefix, IsSmaller}
+use Rattle.fill_keys.specs.Search.{AreSmaller, BeginsMinimalKey, IsNext, IsPrefix}
+use Rattle.fill_keys.proofs.SoFar.{GoesOnBefore, IsSmaller}
 use Rattle.fill_keys.proofs.KeyLaws.{fewer_less, base_less}
 
 no_items : {A : Type 0} (xs : List A) → length xs ≡ 0 → xs ≡ []

@@ -1,5 +1,5 @@
 -- The search for minimal keys: sets of columns are made longer at their end, and the keys of fewer columns are known.
-use Rattle.std.specs.Prelude.{◌≡◌, ◌↔◌, ℕ, ◌<◌, ◌≤◌, ◌++◌, List, [], ◌∷◌, length, All, Contains}
+use Rattle.std.specs.Prelude.{◌≡◌, ◌↔◌, ℕ, ◌<◌, ◌≤◌, ◌++◌, List, length, All, Contains}
 use Rattle.std.specs.List.{AllPairs}
 use Rattle.fill_text.specs.Data.{TableData}
 use Rattle.fill_keys.specs.Keys.{IsMinimalKey}
@@ -28,11 +28,3 @@ pub record BeginsMinimalKey (tables : List TableData) (table size : ℕ) (column
   pub minimal : IsMinimalKey tables table key
   pub sized : length key ≡ size
   pub begins : (rest : List ℕ) × (key ≡ columns ++ rest)
-
--- .. that goes on with a column before this one
-abbrev pub GoesOnBefore : List TableData → ℕ → ℕ → List ℕ → ℕ → List ℕ → Type 0
-GoesOnBefore tables table size columns end key = (column : ℕ) × (column < end) × BeginsMinimalKey tables table size (columns ++ column ∷ []) key
-
--- .. of fewer columns than this
-abbrev pub IsSmaller : List TableData → ℕ → ℕ → List ℕ → Type 0
-IsSmaller tables table size key = IsMinimalKey tables table key × (length key < size)

@@ -1,17 +1,24 @@
 -- Moves with another state at a place.
-use Rattle.std.proofs.Common.{◌≡◌, ℕ, zero, suc, ◌-◌, ◌<◌, ◌≤◌, List, [], ◌∷◌, ◌++◌, length, length-append, get_or, refl, sym, ap, ◌∙◌, arith, Bool, true, false, Some}
-use Rattle.std.specs.Prelude.{slice_set, nat_lt, if◌then◌else◌, option_map}
+use Rattle.std.proofs.Common.{◌≡◌, ℕ, zero, suc, ◌-◌, ◌<◌, ◌≤◌, List, [], ◌∷◌, ◌++◌, length, length-append, get_or, refl, sym, ap, ◌∙◌, arith, Bool, true, false, Some, inl, inr}
+use Rattle.std.specs.Prelude.{slice_get, slice_set, nat_lt, if◌then◌else◌, option_map}
+use Rattle.std.proofs.lemmas.Bool.{cases_lt}
 use Rattle.std.proofs.lemmas.Bool.Decides.{nat_tests}
 use Rattle.std.proofs.lemmas.List.{get_or_append_left, get_or-append_right}
 use Rattle.std.proofs.lemmas.Option.{slice_get_read}
 use Rattle.fill_undo.specs.declared.done.Moved.{Moved}
-use Rattle.fill_undo.specs.Moves.{Moves, state_at, with_state, with_state_at}
+use Rattle.fill_undo.specs.Moves.{Moves, count_of, done_at, state_at, with_state, with_state_at}
 
 below : (i n : ℕ) → i < n → nat_lt i n ≡ true
 below i n lt = grind (arith, nat_tests)
 
 above : (i n : ℕ) → n ≤ i → nat_lt i n ≡ false
 above i n le = grind (arith, nat_tests)
+
+both : (i n : ℕ) → nat_lt (suc i) (suc n) ≡ nat_lt i n
+both i n = elim (cases_lt i n) [
+  | inl lt ↦ below (suc i) (suc n) (omega arith) ∙ sym (below i n lt)
+  | inr le ↦ above (suc i) (suc n) (omega arith) ∙ sym (above i n le)
+]
 
 module _ {S : Type 0} where
   set_state : (moves : List (Moved S)) (i : ℕ) (moved : Moved S) (state : S) → i < length moves → moved ≡ get_or moves i moved →
@@ -54,3 +61,62 @@ module _ {S : Type 0} where
       ap (option_map (λ (m : Moved S). m.state))
       (slice_get_read (past ++ future) (length (past ++ future)) i moved refl (omega (arith, length-append past future))
       (e ∙ ap (λ k. get_or future k moved) is ∙ sym (get_or-append_right past future (length past) i moved refl le)))
+
+  length_with : (moves : List (Moved S)) (i : ℕ) (state : S) → length (with_state moves i state) ≡ length moves
+  length_with [] i state = refl
+  length_with (x ∷ xs) zero state = refl
+  length_with (x ∷ xs) (suc i) state = ap (λ n. suc n) (length_with xs i state)
+
+  here : (moves : List (Moved S)) (i : ℕ) (state : S) → i < length moves → option_map (λ (m : Moved S). m.state) (slice_get (with_state moves i state) i) ≡ Some state
+  here [] i state lt = absurd (omega arith)
+  here (x ∷ xs) zero state lt = refl
+  here (x ∷ xs) (suc i) state lt = here xs i state (omega arith)
+
+  elsewhere : (moves : List (Moved S)) (i j : ℕ) (state : S) → (j ≡ i → ⊥) → slice_get (with_state moves i state) j ≡ slice_get moves j
+  elsewhere [] i j state ne = refl
+  elsewhere (x ∷ xs) zero zero state ne = absurd (ne refl)
+  elsewhere (x ∷ xs) zero (suc j) state ne = refl
+  elsewhere (x ∷ xs) (suc i) zero state ne = refl
+  elsewhere (x ∷ xs) (suc i) (suc j) state ne = elsewhere xs i j state (λ e. ne (ap (λ n. suc n) e))
+
+  done_stays : (moves : List (Moved S)) (i j : ℕ) (state : S) →
+      option_map (λ (m : Moved S). m.done) (slice_get (with_state moves i state) j) ≡ option_map (λ (m : Moved S). m.done) (slice_get moves j)
+  done_stays [] i j state = refl
+  done_stays (x ∷ xs) zero zero state = refl
+  done_stays (x ∷ xs) zero (suc j) state = refl
+  done_stays (x ∷ xs) (suc i) zero state = refl
+  done_stays (x ∷ xs) (suc i) (suc j) state = done_stays xs i j state
+
+  -- the moves of both sides as one list
+  joined : (past future : List (Moved S)) (i : ℕ) (state : S) →
+      with_state past i state ++ (if nat_lt i (length past) then future else with_state future (i - length past) state) ≡ with_state (past ++ future) i state
+  joined [] future i state =
+      ap (λ (b : Bool). if b then future else with_state future (i - 0) state) (above i 0 (omega arith))
+      ∙ (let e : i - 0 ≡ i = omega arith in ap (λ k. with_state future k state) e)
+  joined (x ∷ xs) future zero state =
+      ap (λ (b : Bool). record x { state = state } ∷ (xs ++ (if b then future else with_state future (0 - suc (length xs)) state))) (below 0 (suc (length xs)) (omega arith))
+  joined (x ∷ xs) future (suc i) state =
+      ap (λ l. x ∷ (with_state xs i state ++ l))
+      (ap (λ (b : Bool). if b then future else with_state future (suc i - suc (length xs)) state) (both i (length xs))
+      ∙ (let e : suc i - suc (length xs) ≡ i - length xs = omega arith in ap (λ k. if nat_lt i (length xs) then future else with_state future k state) e))
+      ∙ ap (λ l. x ∷ l) (joined xs future i state)
+
+  pub count_stays : (moves : Moves S) (i : ℕ) (state : S) → count_of (with_state_at moves i state) ≡ count_of moves
+  count_stays moves i state =
+      sym (length-append (with_state_at moves i state).past (with_state_at moves i state).future)
+      ∙ ap length (joined moves.past moves.future i state) ∙ length_with (moves.past ++ moves.future) i state ∙ length-append moves.past moves.future
+
+  pub is_changed : (moves : Moves S) (i : ℕ) (state : S) → i < count_of moves → state_at (with_state_at moves i state) i ≡ Some state
+  is_changed moves i state lt =
+      ap (λ l. option_map (λ (m : Moved S). m.state) (slice_get l i)) (joined moves.past moves.future i state)
+      ∙ here (moves.past ++ moves.future) i state (omega (arith, length-append moves.past moves.future))
+
+  pub others_stay : (moves : Moves S) (i j : ℕ) (state : S) → (j ≡ i → ⊥) → state_at (with_state_at moves i state) j ≡ state_at moves j
+  others_stay moves i j state ne =
+      ap (λ l. option_map (λ (m : Moved S). m.state) (slice_get l j)) (joined moves.past moves.future i state)
+      ∙ ap (option_map (λ (m : Moved S). m.state)) (elsewhere (moves.past ++ moves.future) i j state ne)
+
+  pub edits_stay : (moves : Moves S) (i j : ℕ) (state : S) → done_at (with_state_at moves i state) j ≡ done_at moves j
+  edits_stay moves i j state =
+      ap (λ l. option_map (λ (m : Moved S). m.done) (slice_get l j)) (joined moves.past moves.future i state)
+      ∙ done_stays (moves.past ++ moves.future) i j state

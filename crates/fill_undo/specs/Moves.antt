@@ -1,5 +1,6 @@
 -- The moves of a history, back and forth.
 use Rattle.std.specs.Prelude.{◌≡◌, ℕ, ◌+◌, ◌-◌, ◌≤◌, zero, suc, List, [], ◌∷◌, ◌++◌, length, drop, slice_get, Option, option_map, Vec, vec_len, vec_capacity, nat_lt, if◌then◌else◌}
+use Rattle.fill_undo.specs.declared.done.Done.{Done}
 use Rattle.fill_undo.specs.declared.done.Moved.{Moved}
 
 -- the edits that can be undone, and those that can be redone, each with the state on its other side; the next one is the last
@@ -24,6 +25,10 @@ module _ {S : Type 0} where
   -- the state of a place, from 0, the past before the future
   abbrev pub state_at : Moves S → ℕ → Option S
   state_at moves i = option_map (λ moved. moved.state) (slice_get (moves.past ++ moves.future) i)
+
+  -- what the edit of a place did, likewise
+  abbrev pub done_at : Moves S → ℕ → Option Done
+  done_at moves i = option_map (λ moved. moved.done) (slice_get (moves.past ++ moves.future) i)
 
   -- the moves with another state at a place
   abbrev pub with_state : List (Moved S) → ℕ → S → List (Moved S)

@@ -6,6 +6,8 @@
 
 mod done;
 mod history;
+mod laws;
 
 pub use done::{Done, Kind, Moved};
 pub use history::History;
+pub use laws::one_state_changes;

@@ -4,7 +4,8 @@ use Rattle.fill_text.specs.Lists.{Adds}
 use Rattle.fill_text.proofs.ListReads.{on_ok}
 use Rattle.fill_tables.specs.Tables.{column_count}
 use Rattle.fill_keys.specs.Keys.{IsMinimalKey, keys_cmp}
-use Rattle.fill_keys.specs.Search.{BeginsMinimalKey, GoesOnBefore, IsNext, IsPrefix}
+use Rattle.fill_keys.specs.Search.{BeginsMinimalKey, IsNext, IsPrefix}
+use Rattle.fill_keys.proofs.SoFar.{GoesOnBefore}
 use Rattle.fill_keys.proofs.SearchLaws.{begins_whole, goes_on_none, goes_on_more, goes_on_all, longer_prefix, longer_next, more_smaller}
 use Rattle.fill_keys.proofs.keys.+push_keys.Goals as goal
 

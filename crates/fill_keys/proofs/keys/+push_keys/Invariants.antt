@@ -1,7 +1,7 @@
 use Rattle.std.proofs.Common.{◌≡◌, ◌-◌, length}
 use Rattle.fill_text.specs.Lists.{Adds}
 use Rattle.fill_keys.specs.Keys.{keys_cmp}
-use Rattle.fill_keys.specs.Search.{GoesOnBefore}
+use Rattle.fill_keys.proofs.SoFar.{GoesOnBefore}
 use Rattle.fill_keys.proofs.keys.+push_keys.Given as goal
 
 abbrev pub decreases-push_keys : goal.decreases-push_keys
