@@ -1,4 +1,4 @@
-//! What no contract says of sessions, through their public calls.
+//! What no contract says of sessions and of histories, through their public calls.
 #![tactic(auto)]
 
 #[cfg(test)]
@@ -7,5 +7,7 @@ mod edit;
 mod edits;
 #[cfg(test)]
 mod session;
+#[cfg(test)]
+mod undo;
 #[cfg(test)]
 mod want;

@@ -1,0 +1,4 @@
+pub mod KeyLaws
+pub mod PartLaws
+pub mod SearchLaws
+pub mod SoFar
