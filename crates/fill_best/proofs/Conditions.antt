@@ -1,7 +1,6 @@
 -- The rows of conditions: those that begin with the constant, and those that begin with another condition.
-use Rattle.std.proofs.Common.{◌≡◌, ◌⊎◌, ℕ, ◌+◌, ◌<◌, ◌≤◌, ◌^◌, inl, inr, List, [], ◌∷◌, length, Some, None, refl, sym, ap, subst, ◌∙◌, arith}
+use Rattle.std.proofs.Common.{◌≡◌, ◌⊎◌, ℕ, ◌+◌, ◌<◌, ◌≤◌, ◌^◌, inl, inr, List, [], ◌∷◌, length, Some, None, refl, subst, arith}
 use Rattle.std.specs.Prelude.{Contains}
-use Rattle.std.specs.declared.cmp.Ordering.{Ordering}
 use Rattle.fill_tree.specs.Cost.{atom_cost, condition_cost, conditions_cost}
 use Rattle.fill_tree.specs.Grammar.{HasPart, IsPart}
 use Rattle.fill_tree.specs.Order.{atom_cmp, atoms_cmp}

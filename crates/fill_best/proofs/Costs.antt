@@ -1,8 +1,8 @@
 -- The order by costs, and what two costed items make.
-use Rattle.std.proofs.Common.{◌≡◌, ℕ, ◌+◌, inr, refl, sym, ap, subst, ◌∙◌}
+use Rattle.std.proofs.Common.{◌≡◌, ℕ, ◌+◌, inr, refl, ap, ◌∙◌}
 use Rattle.std.specs.Cmp.{IsTotalOrder}
 use Rattle.std.specs.declared.cmp.Ordering.{Ordering}
-use Rattle.std.specs.declared.cmp.Ordering.TheVariants.{Less, Equal}
+use Rattle.std.specs.declared.cmp.Ordering.TheVariants.{Less}
 use Rattle.std.specs.Ordering.{nat_cmp, ordering_then}
 use Rattle.std.proofs.lemmas.Cmp.{nat_cmp_total, on_total, then_total, tied_itself}
 use Rattle.std.proofs.lemmas.Map.Lookups.{CmpEqualImpliesEq, exact_unsigned}
@@ -33,10 +33,10 @@ module _ {A B D : Type 0} (R : A → A → Ordering) (S : B → B → Ordering) 
       let first = shifted link x.cost y.cost (R x.item y.item) ∙ less in
       let second : AtMost (ranked z.cost z.cost (S z.item z.item)) = inr (ranked-alike z.cost z.cost (S z.item z.item) refl ∙ tied_itself total z.item) in
       ap (ranked (link + x.cost + z.cost) (link + y.cost + z.cost)) (by_parts x.item y.item z.item z.item)
-          ∙ pair-less_first (link + x.cost) (link + y.cost) z.cost z.cost (R x.item y.item) (S z.item z.item) first second
+      ∙ pair-less_first (link + x.cost) (link + y.cost) z.cost z.cost (R x.item y.item) (S z.item z.item) first second
 
   pub linked-second : IsTotalOrder R → (z : Costed A) (x y : Costed B) → by_cost S x y ≡ Less → by_cost T (linked make link z x) (linked make link z y) ≡ Less
   linked-second total z x y less =
       let first : AtMost (ranked (link + z.cost) (link + z.cost) (R z.item z.item)) = inr (ranked-alike (link + z.cost) (link + z.cost) (R z.item z.item) refl ∙ tied_itself total z.item) in
       ap (ranked (link + z.cost + x.cost) (link + z.cost + y.cost)) (by_parts z.item z.item x.item y.item)
-          ∙ pair-less_second (link + z.cost) (link + z.cost) x.cost y.cost (R z.item z.item) (S x.item y.item) first less
+      ∙ pair-less_second (link + z.cost) (link + z.cost) x.cost y.cost (R z.item z.item) (S x.item y.item) first less

@@ -1,5 +1,5 @@
 -- The laws of the first k items: of two properties together, of products, and of one more item.
-use Rattle.std.proofs.Common.{◌≡◌, ◌⊎◌, ℕ, zero, suc, ◌+◌, ◌<◌, ◌≤◌, inl, inr, List, [], ◌∷◌, ◌++◌, length, map, take, drop, refl, sym, ap, subst, ◌∙◌, arith}
+use Rattle.std.proofs.Common.{◌≡◌, ◌⊎◌, ℕ, zero, suc, ◌<◌, ◌≤◌, inl, inr, List, [], ◌∷◌, ◌++◌, length, map, take, drop, refl, sym, subst, arith}
 use Rattle.std.specs.Prelude.{Contains}
 use Rattle.std.specs.Cmp.{IsTotalOrder}
 use Rattle.std.specs.declared.cmp.Ordering.{Ordering}
@@ -8,7 +8,7 @@ use Rattle.std.specs.Ordering.{ordering_reverse}
 use Rattle.std.proofs.lemmas.List.{length-map}
 use Rattle.std.proofs.lemmas.Map.Lookups.{CmpEqualImpliesEq}
 use Rattle.fill_best.specs.First.{Rises, IsPast, AreFirst, IsMade}
-use Rattle.fill_best.proofs.Items.{none_in, here, there, which, in_taken, in_inserted, inserted_new, inserted_old, in_mapped, mapped_in, head_before, tail_rises, none_rises, more_rises, taken_rises, inserted_rises, mapped_rises}
+use Rattle.fill_best.proofs.Items.{none_in, here, there, which, in_taken, in_inserted, inserted_new, inserted_old, in_mapped, mapped_in, head_before, tail_rises, none_rises, taken_rises, inserted_rises, mapped_rises}
 
 -- k items of the property come before y
 pub record Ahead {A : Type 0} (R : A → A → Ordering) (C : A → Type 0) (k : ℕ) (y : A) : Type 0 where
@@ -97,10 +97,10 @@ module _ {A : Type 0} (R : A → A → Ordering) (total : IsTotalOrder R) (exact
         full = (let long = no_longer ahead.items xs ahead.rising first.rising all in let many = ahead.many in omega arith);
         before = λ x c.
             let late : (y ≡ x) ⊎ (R y x ≡ Less) → ⊥ = λ later.
-                let less = shorter ahead.items xs x ahead.rising first.rising all c (λ w d. no_later y x w (ahead.each w d).1 later) in
-                let few = first.few in
-                let many = ahead.many in
-                omega arith in
+            let less = shorter ahead.items xs x ahead.rising first.rising all c (λ w d. no_later y x w (ahead.each w d).1 later) in
+            let few = first.few in
+            let many = ahead.many in
+            omega arith in
             elim (compared x y) [ inl h ↦ h | inr later ↦ absurd (late (elim later [ inl e ↦ inl (sym e) | inr h ↦ inr h ])) ];
       }
     ]

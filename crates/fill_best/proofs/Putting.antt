@@ -8,7 +8,7 @@ use Rattle.std.specs.Ordering.{ordering_reverse}
 use Rattle.std.proofs.lemmas.List.{take_all, take_more}
 use Rattle.std.proofs.lemmas.List.Elements.{Contains-push_cases, Contains-append_left, Contains-append_right}
 use Rattle.std.proofs.lemmas.Map.Lookups.{CmpEqualImpliesEq}
-use Rattle.fill_best.specs.First.{Rises, IsPast, IsPlaceOf, AreFirst, IsMade}
+use Rattle.fill_best.specs.First.{Rises, IsPast, AreFirst, IsMade}
 use Rattle.fill_best.proofs.Firsts.{first_more, first_joined, first_same}
 use Rattle.fill_best.proofs.Items.{none_in, here, there, which, in_taken, head_before, tail_rises}
 
@@ -112,10 +112,13 @@ module _ {A B D : Type 0} (T : D → D → Ordering) (total : IsTotalOrder T) (e
               | inl c ↦ inl (inr (m.0, m.1, m.2, taken_upto i j ys m.1 upto c, m.4))
               | inr later ↦
                   let made : f x m.1 ≡ z = subst (λ a. f a m.1 ≡ z) m.2 m.4 in
-                  inr (record { full = past.full; before = λ w c. subst (λ v. T w v ≡ Less) made (elim later [
-                    | inl e ↦ subst (λ b. T w (f x b) ≡ Less) e (past.before w c)
-                    | inr h ↦ total.trans w (f x y) (f x m.1) (past.before w c) (right y m.1 h)
-                  ]) })
+                  inr (record {
+                    full = past.full;
+                    before = λ w c. subst (λ v. T w v ≡ Less) made (elim later [
+                      | inl e ↦ subst (λ b. T w (f x b) ≡ Less) e (past.before w c)
+                      | inr h ↦ total.trans w (f x y) (f x m.1) (past.before w c) (right y m.1 h)
+                    ]);
+                  })
             ]
           ])
         where

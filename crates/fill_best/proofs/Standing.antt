@@ -1,9 +1,9 @@
 -- What stands in items of sets: the single items, and the products of what stands in the sets that they name.
-use Rattle.std.proofs.Common.{◌≡◌, ◌⊎◌, ℕ, ◌+◌, ◌<◌, ◌≤◌, ◌^◌, inl, inr, List, [], ◌∷◌, length, Some, slice_get, refl, sym, ap, subst, ◌∙◌, arith}
+use Rattle.std.proofs.Common.{◌≡◌, ◌⊎◌, ℕ, ◌+◌, ◌<◌, ◌≤◌, ◌^◌, inl, inr, List, [], ◌∷◌, length, Some, slice_get, refl, ap, subst, arith}
 use Rattle.std.specs.Prelude.{Contains}
 use Rattle.fill_tokens.specs.Place.{place_cost, place_cmp}
 use Rattle.fill_tokens.specs.declared.place.Place.{Place}
-use Rattle.fill_tokens.proofs.PlaceLaws.{place_total, exact_places}
+use Rattle.fill_tokens.proofs.PlaceLaws.{place_total}
 use Rattle.fill_tree.specs.Cost.{source_cost, atom_cost, conditions_cost}
 use Rattle.fill_tree.specs.Grammar.{HasPart, IsPart}
 use Rattle.fill_tree.specs.Order.{source_cmp, atom_cmp, atoms_cmp}
@@ -21,7 +21,7 @@ use Rattle.fill_arena.specs.declared.entry.SourceItem.TheVariants.{Col, Select}
 use Rattle.fill_arena.proofs.Costs.{atom_item_present, place_in, source_item_present}
 use Rattle.fill_rank.specs.Sets.{ConstantFits, PartFits, PartStands}
 use Rattle.fill_rank.proofs.Stand.{atom_items, items_atom}
-use Rattle.fill_best.specs.Cheapest.{Priced, AreCheapest, TakesIn}
+use Rattle.fill_best.specs.Cheapest.{Priced, AreCheapest}
 use Rattle.fill_best.specs.Costs.{by_cost, linked}
 use Rattle.fill_best.specs.First.{AreFirst, IsMade}
 use Rattle.fill_best.specs.Parts.{BoundsStand, bounds_cmp, bounds_cost, bounds_total, exact_bounds, exact_targets, exact_whole, bounds_of, lookup_by_parts, lookup_of, piece_of, target_cmp, target_total, whole_by_parts, whole_cmp, whole_of, whole_total}

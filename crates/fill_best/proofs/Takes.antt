@@ -1,5 +1,5 @@
 -- What is taken in among the first of a property: more of it, one item, what two parts make, and the items of a list.
-use Rattle.std.proofs.Common.{◌≡◌, ◌⊎◌, ℕ, suc, ◌+◌, ◌<◌, ◌≤◌, ◌^◌, inl, inr, List, [], ◌∷◌, length, Some, slice_get, refl, sym, ap, subst, ◌∙◌, arith}
+use Rattle.std.proofs.Common.{◌≡◌, ◌⊎◌, ℕ, ◌+◌, ◌<◌, ◌≤◌, ◌^◌, inl, inr, List, [], ◌∷◌, length, Some, slice_get, refl, sym, ap, subst, ◌∙◌, arith}
 use Rattle.std.specs.Prelude.{Contains}
 use Rattle.std.specs.Cmp.{IsTotalOrder}
 use Rattle.std.specs.declared.cmp.Ordering.{Ordering}
@@ -7,7 +7,7 @@ use Rattle.std.specs.Ordering.{ordering_then}
 use Rattle.std.proofs.lemmas.Bool.{cases_lt}
 use Rattle.std.proofs.lemmas.Map.Lookups.{CmpEqualImpliesEq}
 use Rattle.std.proofs.lemmas.Option.{slice_get_within}
-use Rattle.fill_arena.specs.Contents.{In, SomeIn}
+use Rattle.fill_arena.specs.Contents.{SomeIn}
 use Rattle.fill_rank.specs.Sets.{SomeBelow}
 use Rattle.fill_best.specs.Cheapest.{Priced, AreCheapest, TakesIn}
 use Rattle.fill_best.specs.Costs.{by_cost, linked}

@@ -1,8 +1,6 @@
 -- The first rests of programs, one edge after the other from the back.
 use Rattle.std.proofs.Common.{◌≡◌, ◌≢◌, ◌⊎◌, ℕ, zero, suc, ◌+◌, ◌-◌, ◌<◌, ◌≤◌, ◌^◌, List, [], ◌∷◌, ◌++◌, length, map, Some, slice_get, Vec, Global, inl, inr, refl, ap, sym, subst, ◌∙◌, arith}
 use Rattle.std.specs.Prelude.{Contains}
-use Rattle.std.specs.declared.cmp.Ordering.{Ordering}
-use Rattle.std.specs.declared.cmp.Ordering.TheVariants.{Less}
 use Rattle.std.specs.Ordering.{nat_cmp, ordering_then}
 use Rattle.std.proofs.lemmas.Bool.{cases_eq}
 use Rattle.fill_tree.specs.Cost.{atom_cost, program_cost}
@@ -16,7 +14,7 @@ use Rattle.fill_arena.specs.declared.entry.Entry.{Entry}
 use Rattle.fill_arena.specs.declared.entry.Entry.TheVariants.{Graph}
 use Rattle.fill_arena.proofs.Lists.{get_pushed}
 use Rattle.fill_rank.specs.Sets.{IsFirstEdge, WalksAreCheap}
-use Rattle.fill_best.specs.Cheapest.{Priced, AreCheapest, TakesIn}
+use Rattle.fill_best.specs.Cheapest.{Priced, AreCheapest}
 use Rattle.fill_best.specs.Costs.{by_cost, linked}
 use Rattle.fill_best.specs.First.{AreFirst, IsMade}
 use Rattle.fill_best.specs.Rests.{AreFirstRests}

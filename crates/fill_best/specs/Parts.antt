@@ -95,4 +95,4 @@ then-grouped Greater p q = refl
 pub lookup_by_parts : (a b : Target) (c d : Atoms) → source_cmp (lookup_of a c) (lookup_of b d) ≡ ordering_then (target_cmp a b) (atoms_cmp c d)
 lookup_by_parts a b c d =
     ap (ordering_then (nat_cmp a.column b.column)) (then-grouped (nat_cmp a.table b.table) (nat_cmp a.key b.key) (atoms_cmp c d))
-        ∙ then-grouped (nat_cmp a.column b.column) (ordering_then (nat_cmp a.table b.table) (nat_cmp a.key b.key)) (atoms_cmp c d)
+    ∙ then-grouped (nat_cmp a.column b.column) (ordering_then (nat_cmp a.table b.table) (nat_cmp a.key b.key)) (atoms_cmp c d)

@@ -24,11 +24,7 @@ use std::alloc::Global;
 use std::rc::Rc;
 
 /// Puts a constant of a text.
-fn put_text(
-    limit: usize,
-    text: &Text,
-    kept: &mut Vec<Costed<PlainAtom>>,
-) -> Result<(), NoMemory>
+fn put_text(limit: usize, text: &Text, kept: &mut Vec<Costed<PlainAtom>>) -> Result<(), NoMemory>
     requires short { length text.now ≤ 100 }
     requires rising { Rises (by_cost atom_cmp) kept.old.items }
     requires few { length kept.old.items ≤ limit }

@@ -26,12 +26,7 @@ use std::mem;
 ///
 /// The edges into a node stand before those out of it. So going over the edges from the back, all that lead on from
 /// where an edge ends are done, and a table of each node's first rests of programs is enough.
-pub fn best(
-    alloc: Global,
-    arena: &Arena,
-    g: GraphId,
-    k: u32,
-) -> Result<List<Program>, NoMemory>
+pub fn best(alloc: Global, arena: &Arena, g: GraphId, k: u32) -> Result<List<Program>, NoMemory>
     requires live { IsGraph arena.now g }
     requires some { 1 ≤ k }
     requires few { k ≤ 20 }
@@ -91,7 +86,14 @@ fn take_edge(
 {
     let atoms = atoms_of(alloc, arena, limit, known, edge.atoms)?;
     let mut kept = mem::replace(&mut rests[edge.from], Vec::new(alloc));
-    put_products(alloc, &mut kept, limit, 5, atoms.as_slice(), rests[edge.to].as_slice())?;
+    put_products(
+        alloc,
+        &mut kept,
+        limit,
+        5,
+        atoms.as_slice(),
+        rests[edge.to].as_slice(),
+    )?;
     rests[edge.from] = kept;
     Ok(())
 }

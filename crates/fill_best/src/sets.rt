@@ -23,9 +23,7 @@ use crate::parts::{Target, WholeText};
 use crate::places::{bounds_of, places_of};
 use crate::plain::{PlainAtom, PlainSource};
 use crate::rows::{Rows, constants_of, no_conditions, put_in_front};
-use fill_arena::{
-    Arena, AtomItem, AtomSet, ConditionItem, SelectItem, SourceItem, SourceSet,
-};
+use fill_arena::{Arena, AtomItem, AtomSet, ConditionItem, SelectItem, SourceItem, SourceSet};
 use fill_text::NoMemory;
 use std::alloc::Global;
 use std::rc::Rc;

@@ -84,7 +84,8 @@ fn learns(alloc: Global, cell: &str, text: &str, k: u32, lines: &str) -> Result<
 /// All three programs cost the same.
 #[test]
 fn pieces_at_one_cost(rt: HostRuntime) -> Result<(), Fail> {
-    let lines = "Concat(Sub(Col(1),Pos([],[Upper],-1),CPos(-1)))\nConcat(Sub(Col(1),Pos([],[Alpha],-1),CPos(-1)))\nConcat(Sub(Col(1),Pos([],[Word],-1),CPos(-1)))\n";
+    let lines =
+        "Concat(Sub(Col(1),Pos([],[Upper],-1),CPos(-1)))\nConcat(Sub(Col(1),Pos([],[Alpha],-1),CPos(-1)))\nConcat(Sub(Col(1),Pos([],[Word],-1),CPos(-1)))\n";
     assert!(rt; learns(rt.alloc(), "John Smith", "Smith", 3, lines)?);
     Ok(())
 }

@@ -2,8 +2,8 @@
 ghost use Rattle.std.specs.Prelude.{◌≡◌, ◌≤◌, length};
 ghost use Rattle.fill_tree.specs.Grammar.{AreSettings};
 
-use fill_build::build;
 use fill_arena::Arena;
+use fill_build::build;
 use fill_edge::{Ledger, Steps};
 use fill_print::print_program;
 use fill_rank::least;

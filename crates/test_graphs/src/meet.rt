@@ -2,9 +2,9 @@
 ghost use Rattle.std.specs.Prelude.{◌≡◌, ◌≤◌, [], ◌∷◌, length, IfOk};
 ghost use Rattle.fill_arena.specs.Contents.{Extends, IsGraph};
 
-use fill_meet::meet::meet;
 use fill_arena::{Arena, AtomItem, AtomSet, Edge, GraphId, SourceItem, SourceSet};
 use fill_edge::{Ledger, Steps};
+use fill_meet::meet::meet;
 use fill_text::{List, NoMemory, Text};
 use fill_tree::{Atom, Program, Source};
 use std::alloc::Global;

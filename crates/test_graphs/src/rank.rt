@@ -2,9 +2,9 @@
 ghost use Rattle.std.specs.Prelude.{◌≡◌, ◌≤◌, [], ◌∷◌, length, IfOk};
 ghost use Rattle.fill_arena.specs.Contents.{IsGraph};
 
-use fill_rank::least;
 use fill_arena::{Arena, AtomItem, AtomSet, Edge, GraphId, PlaceSet, SourceItem, SourceSet};
 use fill_edge::{Ledger, Steps};
+use fill_rank::least;
 use fill_text::{List, NoMemory, Text};
 use fill_tokens::Place;
 use fill_tree::{Atom, Program, Source};

@@ -2,9 +2,9 @@
 ghost use Rattle.std.specs.Prelude.{◌≤◌, length, IfOk, IsTrue};
 ghost use Rattle.fill_trim.specs.Trim.{AreEdges};
 
-use fill_trim::trim::trim;
 use fill_arena::{Arena, AtomItem, AtomSet, Edge};
 use fill_text::{List, NoMemory, Text};
+use fill_trim::trim::trim;
 use std::alloc::Global;
 use std::test::Fail;
 

@@ -1,4 +1,4 @@
-use Rattle.std.proofs.Common.{◌≡◌, ◌<◌, ◌≤◌, ◌^◌, sym, ap, subst, ◌∙◌, arith}
+use Rattle.std.proofs.Common.{◌≡◌, ◌<◌, ◌≤◌, ◌^◌, sym, subst, ◌∙◌, arith}
 use Rattle.fill_tree.specs.Cost.{atom_cost}
 use Rattle.fill_tree.specs.Order.{atom_cmp}
 use Rattle.fill_tree.specs.Tree.{constant}

@@ -1,5 +1,4 @@
-use Rattle.std.proofs.Common.{◌≡◌, ◌-◌, ◌<◌, ◌≤◌, suc, length, refl, sym, ap, subst, arith, ◌∙◌}
-use Rattle.std.specs.declared.cmp.Ordering.TheVariants.{Less}
+use Rattle.std.proofs.Common.{◌≡◌, ◌-◌, ◌<◌, ◌≤◌, suc, length, ap, arith}
 use Rattle.std.specs.Bool.{IsTrue}
 use Rattle.std.proofs.Common.{nat_lt, ℕ}
 use Rattle.std.proofs.lemmas.Bool.Decides.{nat_tests}

@@ -1,4 +1,4 @@
-use Rattle.std.proofs.Common.{◌≡◌, length, sym, ap, subst, take, ◌∙◌}
+use Rattle.std.proofs.Common.{◌≡◌, sym, ap, subst, take, ◌∙◌}
 use Rattle.std.specs.List.{insert}
 use Rattle.fill_best.specs.Costs.{by_cost}
 use Rattle.fill_best.specs.First.{AreFirst, IsPlaceOf}

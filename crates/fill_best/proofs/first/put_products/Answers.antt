@@ -1,4 +1,4 @@
-use Rattle.std.proofs.Common.{sym, subst}
+use Rattle.std.proofs.Common.{sym}
 use Rattle.std.specs.Prelude.{Contains}
 use Rattle.fill_best.specs.Costs.{by_cost, linked}
 use Rattle.fill_best.proofs.Costs.{by_cost-total, by_cost-exact}

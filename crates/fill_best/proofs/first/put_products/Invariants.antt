@@ -1,4 +1,4 @@
-use Rattle.std.proofs.Common.{◌⊎◌, ◌≡◌, take}
+use Rattle.std.proofs.Common.{◌⊎◌, take}
 use Rattle.std.specs.Prelude.{Contains}
 use Rattle.fill_best.specs.Costs.{by_cost, linked}
 use Rattle.fill_best.specs.First.{AreFirst, IsMade}

@@ -1,4 +1,4 @@
-use Rattle.std.proofs.Common.{◌≡◌, ◌-◌, [], ◌∷◌, ◌++◌, length, refl, ap, sym, subst, ◌∙◌, arith}
+use Rattle.std.proofs.Common.{◌≡◌, ◌-◌, [], ◌∷◌, ◌++◌, length, ap, sym, subst, ◌∙◌, arith}
 use Rattle.fill_tree.specs.Tree.{end}
 use Rattle.fill_best.specs.Rests.{AreFirstRests}
 use Rattle.fill_best.proofs.Walking.{free, rests_start}

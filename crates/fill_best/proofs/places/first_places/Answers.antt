@@ -1,5 +1,4 @@
-use Rattle.std.proofs.Common.{◌≡◌, ◌⊎◌, ap, subst}
-use Rattle.std.specs.Prelude.{Contains}
+use Rattle.std.proofs.Common.{◌≡◌}
 use Rattle.fill_tokens.specs.Place.{place_cost, place_cmp}
 use Rattle.fill_tokens.proofs.PlaceLaws.{place_total, exact_places}
 use Rattle.fill_arena.specs.Contents.{In}

@@ -1,4 +1,4 @@
-use Rattle.std.proofs.Common.{◌≡◌, Vec, Global, sym, subst, ◌∙◌}
+use Rattle.std.proofs.Common.{Vec, Global, sym, subst, ◌∙◌}
 use Rattle.fill_tokens.specs.Place.{place_cost, place_cmp}
 use Rattle.fill_tokens.specs.declared.place.Place.{Place}
 use Rattle.fill_tokens.proofs.PlaceLaws.{place_total, exact_places}

@@ -1,4 +1,4 @@
-use Rattle.std.proofs.Common.{◌≡◌, [], ◌∷◌, ◌++◌, refl, sym, ap, subst, ◌∙◌}
+use Rattle.std.proofs.Common.{[], ◌∷◌, ◌++◌, refl, sym, ap, subst, ◌∙◌}
 use Rattle.fill_tree.specs.Cost.{conditions_cost}
 use Rattle.fill_tree.specs.Grammar.{HasPart}
 use Rattle.fill_tree.specs.Order.{atoms_cmp}

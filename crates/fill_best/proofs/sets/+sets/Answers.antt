@@ -1,4 +1,4 @@
-use Rattle.std.proofs.Common.{rules, ◌≡◌, ◌⊎◌, ◌≤◌, ◌-◌, ℕ, Vec, Global, List, ◌∷◌, length, length-drop, suc, drop, Some, sym, subst, ◌∙◌, ap, arith}
+use Rattle.std.proofs.Common.{rules, ◌≡◌, ◌⊎◌, ◌≤◌, ◌-◌, ℕ, Vec, Global, List, ◌∷◌, length, length-drop, suc, drop, sym, subst, ◌∙◌, ap, arith}
 use Rattle.std.specs.Prelude.{Contains}
 use Rattle.std.specs.Result.{OnOk}
 use Rattle.fill_tokens.specs.Place.{place_cost, place_cmp}
@@ -6,7 +6,7 @@ use Rattle.fill_tokens.specs.declared.place.Place.{Place}
 use Rattle.fill_tree.specs.Cost.{source_cost, atom_cost, conditions_cost}
 use Rattle.fill_tree.specs.Grammar.{HasPart, IsPart}
 use Rattle.fill_tree.specs.Order.{source_cmp, atom_cmp, atoms_cmp}
-use Rattle.fill_tree.specs.Tree.{SourceTree, AtomTree, Atoms, col, more}
+use Rattle.fill_tree.specs.Tree.{SourceTree, AtomTree, Atoms, more}
 use Rattle.fill_tree.proofs.TreeOrder.{source_total, exact_sources, atom_total, exact_atoms}
 use Rattle.fill_arena.specs.Contents.{EachIn}
 use Rattle.fill_arena.specs.Stands.{ConditionsFit, PlaceStands, SourceFits, SourceStands}
@@ -15,7 +15,6 @@ use Rattle.fill_arena.specs.declared.entry.AtomItem.TheVariants as atom
 use Rattle.fill_arena.specs.declared.entry.ConditionItem.{ConditionItem}
 use Rattle.fill_arena.specs.declared.entry.Entry.{Entry}
 use Rattle.fill_arena.specs.declared.entry.Entry.TheVariants as kind
-use Rattle.fill_arena.specs.declared.entry.SourceItem.TheVariants.{Col, Select}
 use Rattle.fill_arena.proofs.Scan.{here}
 use Rattle.fill_rank.specs.Sets.{PartFits, PartStands}
 use Rattle.fill_rank.proofs.Pieces.{each_dropped, drop_whole, drop_here, ok_on}
