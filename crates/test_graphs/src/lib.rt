@@ -4,6 +4,8 @@
 #[cfg(test)]
 mod arena;
 #[cfg(test)]
+mod best;
+#[cfg(test)]
 mod build;
 #[cfg(test)]
 mod meet;

@@ -65,7 +65,7 @@ fn edges(alloc: Global, first: AtomSet, second: AtomSet) -> Result<List<Edge>, N
     Ok(edges)
 }
 
-fn fill<L: Ledger>(
+pub(crate) fn fill<L: Ledger>(
     alloc: Global,
     arena: &mut Arena,
     text: Text,

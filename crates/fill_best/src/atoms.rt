@@ -1,0 +1,98 @@
+//! The first atoms of the edges of a graph.
+ghost use Rattle.std.specs.Prelude.{◌≡◌, ◌≤◌, ℕ, length, List as Items, IfOk, OnOk};
+ghost use Rattle.fill_tree.specs.Cost.{atom_cost};
+ghost use Rattle.fill_tree.specs.Order.{atom_cmp};
+ghost use Rattle.fill_tree.specs.Tree.{constant};
+ghost use Rattle.fill_arena.specs.Contents.{EachIn, IsAtomSet, SomeIn};
+ghost use Rattle.fill_arena.specs.Stands.{AtomStands};
+ghost use Rattle.fill_arena.specs.WellMade.{IsAtomItem};
+ghost use Rattle.fill_arena.specs.declared.entry.Entry.{Entry};
+ghost use Rattle.fill_rank.specs.Sets.{ConstantFits};
+ghost use Rattle.fill_best.specs.Cheapest.{AreCheapest, TakesIn};
+ghost use Rattle.fill_best.specs.Costs.{by_cost};
+ghost use Rattle.fill_best.specs.First.{Rises};
+ghost use Rattle.fill_best.specs.Known.{AreKnown};
+
+use crate::costed::Costed;
+use crate::first::put;
+use crate::known::{Found, Known};
+use crate::plain::PlainAtom;
+use crate::sets::scan_parts;
+use fill_arena::{Arena, AtomItem, AtomSet};
+use fill_text::{NoMemory, Text};
+use std::alloc::Global;
+use std::rc::Rc;
+
+/// Puts a constant of a text.
+fn put_text(limit: usize, text: &Text, kept: &mut Vec<Costed<PlainAtom>>) -> Result<(), NoMemory>
+    requires short { length text.now ≤ 100 }
+    requires rising { Rises (by_cost atom_cmp) kept.old.items }
+    requires few { length kept.old.items ≤ limit }
+    ensures { OnOk result (TakesIn atom_cost atom_cmp (λ a. constant text.now ≡ a) limit kept.old.items kept.new.items) }
+{
+    let item = PlainAtom::constant(text)?;
+    let Some(cost) = item.cost() else {
+        unreachable!()
+    };
+    put(kept, limit, Costed { cost, item })?;
+    Ok(())
+}
+
+/// Puts the constant that an item stands for, if it is one.
+fn put_constant(
+    limit: usize,
+    item: &AtomItem,
+    kept: &mut Vec<Costed<PlainAtom>>,
+) -> Result<(), NoMemory>
+    requires item { (c : Items Entry) × (n : ℕ) × IsAtomItem c n item.now }
+    requires rising { Rises (by_cost atom_cmp) kept.old.items }
+    requires few { length kept.old.items ≤ limit }
+    ensures { OnOk result ((c : Items Entry) → TakesIn atom_cost atom_cmp (ConstantFits c item.now) limit kept.old.items kept.new.items) }
+{
+    match item {
+        AtomItem::Const(text) => put_text(limit, text, kept),
+        _ => Ok(()),
+    }
+}
+
+/// Puts the constants among some items.
+fn put_constants(
+    limit: usize,
+    items: &[AtomItem],
+    kept: &mut Vec<Costed<PlainAtom>>,
+) -> Result<(), NoMemory>
+    requires items { (c : Items Entry) × (n : ℕ) × EachIn (IsAtomItem c n) items.now }
+    requires rising { Rises (by_cost atom_cmp) kept.old.items }
+    requires few { length kept.old.items ≤ limit }
+    ensures { OnOk result ((c : Items Entry) → TakesIn atom_cost atom_cmp (λ a. SomeIn (λ i. ConstantFits c i a) items.now) limit kept.old.items kept.new.items) }
+{
+    for item in items {
+        put_constant(limit, item, kept)?;
+    }
+    Ok(())
+}
+
+/// The first atoms of a set.
+pub(crate) fn atoms_of(
+    alloc: Global,
+    arena: &Arena,
+    limit: usize,
+    known: &mut Known,
+    s: AtomSet,
+) -> Result<Found<PlainAtom>, NoMemory>
+    requires set { IsAtomSet arena.now s }
+    requires some { 1 ≤ limit }
+    requires known { AreKnown arena.now limit known.old }
+    ensures known { OnOk result (AreKnown arena.now limit known.new) }
+    ensures first { IfOk result (λ found. AreCheapest atom_cost atom_cmp (AtomStands arena.now s) limit found.value.items) }
+{
+    if let Some(found) = known.atoms(s) {
+        return Ok(found.clone()?);
+    }
+    arena.keeps_made();
+    let mut kept = scan_parts(alloc, arena, limit, known, s)?;
+    put_constants(limit, arena.atoms(s), &mut kept)?;
+    let found = Rc::new(alloc, kept)?;
+    known.keep_atoms(s, found.clone()?)?;
+    Ok(found)
+}

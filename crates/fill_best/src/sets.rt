@@ -1,0 +1,302 @@
+//! The first of sets of sources, and of the atoms that are no constants.
+//!
+//! The first of a product of sets are made of their first, since costs add up and parts are compared one after the other.
+//! Lookups are no such product, for not all of their conditions may be constants: see [`Rows`].
+ghost use Rattle.std.specs.Prelude.{◌≡◌, ◌≤◌, ◌∷◌, length, List as Items, IfOk, OnOk};
+ghost use Rattle.fill_tree.specs.Cost.{atom_cost, source_cost};
+ghost use Rattle.fill_tree.specs.Order.{atom_cmp, source_cmp};
+ghost use Rattle.fill_arena.specs.Contents.{EachIn, IsAtomSet, IsSourceSet};
+ghost use Rattle.fill_arena.specs.Stands.{SourceFits, SourceStands};
+ghost use Rattle.fill_arena.specs.WellMade.{IsAtomItem, IsConditionItem, IsSelectItem, IsSourceItem};
+ghost use Rattle.fill_arena.specs.declared.entry.ConditionItem.{ConditionItem as Listed};
+ghost use Rattle.fill_rank.specs.Sets.{PartFits, PartStands};
+ghost use Rattle.fill_best.specs.Cheapest.{AreCheapest, TakesIn};
+ghost use Rattle.fill_best.specs.Costs.{by_cost};
+ghost use Rattle.fill_best.specs.First.{Rises};
+ghost use Rattle.fill_best.specs.Known.{AreKnown};
+ghost use Rattle.fill_best.specs.Rows.{AreFirstParts, AreFirstRows};
+
+use crate::costed::Costed;
+use crate::first::{put, put_products};
+use crate::known::{Found, Known};
+use crate::parts::{Target, WholeText};
+use crate::places::{bounds_of, places_of};
+use crate::plain::{PlainAtom, PlainSource};
+use crate::rows::{Rows, constants_of, no_conditions, put_in_front};
+use fill_arena::{Arena, AtomItem, AtomSet, ConditionItem, SelectItem, SourceItem, SourceSet};
+use fill_text::NoMemory;
+use std::alloc::Global;
+use std::rc::Rc;
+
+/// The first sources of a set.
+#[cycle(sets)]
+fn sources_of(
+    alloc: Global,
+    arena: &Arena,
+    limit: usize,
+    known: &mut Known,
+    s: SourceSet,
+) -> Result<Found<PlainSource>, NoMemory>
+    requires set { IsSourceSet arena.now s }
+    requires some { 1 ≤ limit }
+    requires known { AreKnown arena.now limit known.old }
+    ensures known { OnOk result (AreKnown arena.now limit known.new) }
+    ensures first { IfOk result (λ found. AreCheapest source_cost source_cmp (SourceStands arena.now s) limit found.value.items) }
+{
+    if let Some(found) = known.sources(s) {
+        return Ok(found.clone()?);
+    }
+    let found = Rc::new(alloc, scan_sources(alloc, arena, limit, known, s)?)?;
+    known.keep_sources(s, found.clone()?)?;
+    Ok(found)
+}
+
+#[cycle(sets)]
+fn scan_sources(
+    alloc: Global,
+    arena: &Arena,
+    limit: usize,
+    known: &mut Known,
+    s: SourceSet,
+) -> Result<Vec<Costed<PlainSource>>, NoMemory>
+    requires set { IsSourceSet arena.now s }
+    requires some { 1 ≤ limit }
+    requires known { AreKnown arena.now limit known.old }
+    ensures known { OnOk result (AreKnown arena.now limit known.new) }
+    ensures first { IfOk result (λ kept. AreCheapest source_cost source_cmp (SourceStands arena.now s) limit kept.items) }
+{
+    arena.keeps_made();
+    let items = arena.sources(s);
+    let mut kept = Vec::new(alloc);
+    for item in items {
+        put_source(alloc, arena, limit, known, s, item, &mut kept)?;
+    }
+    Ok(kept)
+}
+
+/// Puts the sources that an item of the set stands for.
+#[cycle(sets)]
+fn put_source(
+    alloc: Global,
+    arena: &Arena,
+    limit: usize,
+    known: &mut Known,
+    set: SourceSet,
+    item: &SourceItem,
+    kept: &mut Vec<Costed<PlainSource>>,
+) -> Result<(), NoMemory>
+    requires item { IsSourceItem arena.now set item.now }
+    requires some { 1 ≤ limit }
+    requires rising { Rises (by_cost source_cmp) kept.old.items }
+    requires few { length kept.old.items ≤ limit }
+    requires known { AreKnown arena.now limit known.old }
+    ensures known { OnOk result (AreKnown arena.now limit known.new) }
+    ensures first { OnOk result (TakesIn source_cost source_cmp (λ x. SourceFits x arena.now item.now) limit kept.old.items kept.new.items) }
+{
+    match item {
+        SourceItem::Col(number) => {
+            let next = Costed {
+                cost: 0,
+                item: PlainSource::column(*number),
+            };
+            put(kept, limit, next)?;
+            Ok(())
+        }
+        SourceItem::Select(listed) => put_lookups(alloc, arena, limit, known, set, listed, kept),
+    }
+}
+
+/// Puts the lookups that an item of the set stands for.
+#[cycle(sets)]
+fn put_lookups(
+    alloc: Global,
+    arena: &Arena,
+    limit: usize,
+    known: &mut Known,
+    set: SourceSet,
+    item: &SelectItem,
+    kept: &mut Vec<Costed<PlainSource>>,
+) -> Result<(), NoMemory>
+    requires item { IsSelectItem arena.now set item.now }
+    requires some { 1 ≤ limit }
+    requires rising { Rises (by_cost source_cmp) kept.old.items }
+    requires few { length kept.old.items ≤ limit }
+    requires known { AreKnown arena.now limit known.old }
+    ensures known { OnOk result (AreKnown arena.now limit known.new) }
+    ensures first { OnOk result (TakesIn source_cost source_cmp (λ x. SourceFits x arena.now (SourceItem.Select item.now)) limit kept.old.items kept.new.items) }
+{
+    let rows = rows_of(alloc, arena, limit, known, set, item.conditions.as_slice())?;
+    let target = Target {
+        column: item.column,
+        table: item.table,
+        key: item.key,
+    };
+    let targets = [Costed {
+        cost: 0,
+        item: target,
+    }];
+    arena.keeps_made();
+    put_products(alloc, kept, limit, 8, &targets, rows.mixed.as_slice())
+}
+
+/// The first rows of conditions, put together from the last condition on.
+#[cycle(sets)]
+fn rows_of(
+    alloc: Global,
+    arena: &Arena,
+    limit: usize,
+    known: &mut Known,
+    set: SourceSet,
+    items: &[ConditionItem],
+) -> Result<Rows, NoMemory>
+    requires items { EachIn (IsConditionItem arena.now set) items.now }
+    requires short { length items.now ≤ 3 }
+    requires some { 1 ≤ limit }
+    requires known { AreKnown arena.now limit known.old }
+    ensures known { OnOk result (AreKnown arena.now limit known.new) }
+    ensures first { IfOk result (λ rows. AreFirstRows arena.now items.now limit rows) }
+{
+    let mut rows = no_conditions(alloc, limit)?;
+    let mut left = items.len();
+    while left > 0 {
+        left -= 1;
+        rows = longer_rows(alloc, arena, limit, known, set, &items[left], rows)?;
+    }
+    Ok(rows)
+}
+
+#[cycle(sets)]
+fn longer_rows(
+    alloc: Global,
+    arena: &Arena,
+    limit: usize,
+    known: &mut Known,
+    set: SourceSet,
+    item: &ConditionItem,
+    rows: Rows,
+) -> Result<Rows, NoMemory>
+    requires item { IsConditionItem arena.now set item.now }
+    requires rows { (is : Items Listed) × EachIn (IsConditionItem arena.now set) (item.now ∷ is) × (length (item.now ∷ is) ≤ 3) × AreFirstRows arena.now is limit rows }
+    requires some { 1 ≤ limit }
+    requires known { AreKnown arena.now limit known.old }
+    ensures known { OnOk result (AreKnown arena.now limit known.new) }
+    ensures first { IfOk result (λ made. (is : Items Listed) → AreFirstRows arena.now is limit rows → AreFirstRows arena.now (item.now ∷ is) limit made) }
+{
+    let constants = constants_of(alloc, item)?;
+    let parts = conditions_of(alloc, arena, limit, known, set, item)?;
+    arena.keeps_made();
+    let fixed = constants.as_slice();
+    let others = parts.as_slice();
+    let any = rows.any.as_slice();
+    let longer = put_in_front(alloc, limit, fixed, any, others, any)?;
+    let mixed = put_in_front(alloc, limit, fixed, rows.mixed.as_slice(), others, any)?;
+    Ok(Rows { any: longer, mixed })
+}
+
+/// The first conditions of an item that are no constants.
+#[cycle(sets)]
+fn conditions_of(
+    alloc: Global,
+    arena: &Arena,
+    limit: usize,
+    known: &mut Known,
+    set: SourceSet,
+    item: &ConditionItem,
+) -> Result<Found<PlainAtom>, NoMemory>
+    requires item { IsConditionItem arena.now set item.now }
+    requires some { 1 ≤ limit }
+    requires known { AreKnown arena.now limit known.old }
+    ensures known { OnOk result (AreKnown arena.now limit known.new) }
+    ensures first { IfOk result (λ found. AreFirstParts arena.now item.now limit found.value.items) }
+{
+    match item.atoms {
+        Some(s) => parts_of(alloc, arena, limit, known, s),
+        None => Ok(Rc::new(alloc, Vec::new(alloc))?),
+    }
+}
+
+/// The first atoms of a set that are no constants.
+#[cycle(sets)]
+fn parts_of(
+    alloc: Global,
+    arena: &Arena,
+    limit: usize,
+    known: &mut Known,
+    s: AtomSet,
+) -> Result<Found<PlainAtom>, NoMemory>
+    requires set { IsAtomSet arena.now s }
+    requires some { 1 ≤ limit }
+    requires known { AreKnown arena.now limit known.old }
+    ensures known { OnOk result (AreKnown arena.now limit known.new) }
+    ensures first { IfOk result (λ found. AreCheapest atom_cost atom_cmp (PartStands arena.now s) limit found.value.items) }
+{
+    if let Some(found) = known.parts(s) {
+        return Ok(found.clone()?);
+    }
+    let found = Rc::new(alloc, scan_parts(alloc, arena, limit, known, s)?)?;
+    known.keep_parts(s, found.clone()?)?;
+    Ok(found)
+}
+
+#[cycle(sets)]
+pub(crate) fn scan_parts(
+    alloc: Global,
+    arena: &Arena,
+    limit: usize,
+    known: &mut Known,
+    s: AtomSet,
+) -> Result<Vec<Costed<PlainAtom>>, NoMemory>
+    requires set { IsAtomSet arena.now s }
+    requires some { 1 ≤ limit }
+    requires known { AreKnown arena.now limit known.old }
+    ensures known { OnOk result (AreKnown arena.now limit known.new) }
+    ensures first { IfOk result (λ kept. AreCheapest atom_cost atom_cmp (PartStands arena.now s) limit kept.items) }
+{
+    arena.keeps_made();
+    let items = arena.atoms(s);
+    let mut kept = Vec::new(alloc);
+    for item in items {
+        put_parts(alloc, arena, limit, known, s, item, &mut kept)?;
+    }
+    Ok(kept)
+}
+
+/// Puts the atoms that an item of the set stands for, if it is no constant.
+#[cycle(sets)]
+fn put_parts(
+    alloc: Global,
+    arena: &Arena,
+    limit: usize,
+    known: &mut Known,
+    set: AtomSet,
+    item: &AtomItem,
+    kept: &mut Vec<Costed<PlainAtom>>,
+) -> Result<(), NoMemory>
+    requires item { IsAtomItem arena.now set item.now }
+    requires some { 1 ≤ limit }
+    requires rising { Rises (by_cost atom_cmp) kept.old.items }
+    requires few { length kept.old.items ≤ limit }
+    requires known { AreKnown arena.now limit known.old }
+    ensures known { OnOk result (AreKnown arena.now limit known.new) }
+    ensures first { OnOk result (TakesIn atom_cost atom_cmp (PartFits arena.now item.now) limit kept.old.items kept.new.items) }
+{
+    arena.keeps_made();
+    match item {
+        AtomItem::Const(_) => Ok(()),
+        AtomItem::Whole(sources) => {
+            let found = sources_of(alloc, arena, limit, known, *sources)?;
+            let whole = [Costed {
+                cost: 0,
+                item: WholeText,
+            }];
+            put_products(alloc, kept, limit, 2, found.as_slice(), &whole)
+        }
+        AtomItem::Sub(sources, lefts, rights) => {
+            let found = sources_of(alloc, arena, limit, known, *sources)?;
+            let left = places_of(alloc, arena, limit, known, *lefts)?;
+            let right = places_of(alloc, arena, limit, known, *rights)?;
+            let bounds = bounds_of(alloc, limit, left.as_slice(), right.as_slice())?;
+            put_products(alloc, kept, limit, 6, found.as_slice(), bounds.as_slice())
+        }
+    }
+}
