@@ -1,3 +1,3 @@
 mod Trimmed
 mod Ranked
-mod Met
+mod Intersected

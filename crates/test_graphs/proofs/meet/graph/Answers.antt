@@ -1,7 +1,7 @@
 use Rattle.fill_arena.specs.Contents.{IsSourceSet, IsAtomSet}
 use Rattle.std.proofs.Common.{[]}
 use Rattle.fill_arena.proofs.Samples.{sample_graph, one_set}
-use Rattle.test_graphs.proofs.Met.{sample_atoms}
+use Rattle.test_graphs.proofs.Intersected.{sample_atoms}
 use Rattle.test_graphs.proofs.meet.graph.Goals as goal
 
 pub intern_atoms-requires : goal.intern_atoms-requires
