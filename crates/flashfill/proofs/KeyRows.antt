@@ -1,14 +1,12 @@
--- The records of first keys, and of one key more.
-use Rattle.std.proofs.Common.{◌≡◌, ℕ, ◌+◌, ◌<◌, ◌≤◌, List, [], ◌∷◌, ◌++◌, length, take, drop, map, get_or, Option, refl, sym, ap, ◌∙◌, subst, arith, take-append-drop, take_all, length-append, codes}
-use Rattle.std.specs.Fmt.{decimal}
+-- The records of first keys, and a part of one key more.
+use Rattle.std.proofs.Common.{◌≡◌, ℕ, ◌+◌, ◌<◌, ◌≤◌, List, [], ◌∷◌, ◌++◌, length, take, drop, map, get_or, Option, refl, sym, ap, ◌∙◌, subst, arith, take-append-drop, length-append}
 use Rattle.std.specs.Io.KnownBytes.{Appends}
-use Rattle.std.proofs.KnownBytes.{Appends-nil}
 use Rattle.std.proofs.lemmas.List.{take_more, take-append-le}
 use Rattle.fill_edge.specs.Outside.{AppendsPart}
 use Rattle.fill_sheet.specs.Report.{record_text}
 use Rattle.fill_report.specs.Output.{report_text}
 use Rattle.fill_report.specs.Records.{Fields}
-use Rattle.fill_report.proofs.Bytes.{appends_more, part_more, report-append}
+use Rattle.fill_report.proofs.Bytes.{part_more, report-append}
 use Rattle.flashfill.specs.Keys.{key_record, keys_text}
 
 records-append : (xs ys : List (List ℕ)) → map key_record (xs ++ ys) ≡ map key_record xs ++ map key_record ys
@@ -28,28 +26,8 @@ module _ (keys : List (List ℕ)) (i : ℕ) (key : List ℕ) (within : i < lengt
       let next : take (i + 1) keys ≡ take i keys ++ key ∷ [] = take_more keys i key within ∙ ap (λ (k : List ℕ). take i keys ++ k ∷ []) (sym is) in
       ap (map key_record) next ∙ records-append (take i keys) (key ∷ [])
 
-  pub key_next : (old mid new : Option (List ℕ)) → Appends old mid (keys_text (take i keys)) → Appends mid new (record_text (key_record key)) → Appends old new (keys_text (take (i + 1) keys))
-  key_next old mid new w h =
-      subst (λ (l : List Fields). Appends old new (report_text l)) (sym next_records) (appends_more old mid new (map key_record (take i keys)) (key_record key) w h)
-
   pub key_part : (old mid new : Option (List ℕ)) → Appends old mid (keys_text (take i keys)) → AppendsPart mid new (record_text (key_record key)) → AppendsPart old new (keys_text keys)
   key_part old mid new w h =
       let front = subst (λ (l : List Fields). AppendsPart old new (report_text l)) (sym next_records) (part_more old mid new (map key_record (take i keys)) (key_record key) w h) in
       let whole : keys_text keys ≡ keys_text (take (i + 1) keys) ++ keys_text (drop (i + 1) keys) = ap keys_text (sym (take-append-drop (i + 1) keys)) ∙ keys-append (take (i + 1) keys) (drop (i + 1) keys) in
       subst (λ (l : List ℕ). AppendsPart old new l) (sym whole) (part_of_front old new (keys_text (take (i + 1) keys)) (keys_text (drop (i + 1) keys)) front)
-
--- the records of no key, and those of all
-pub keys_none : (keys : List (List ℕ)) (old : Option (List ℕ)) → Appends old old (keys_text (take 0 keys))
-keys_none keys old = Appends-nil old
-
-pub keys_all : (keys : List (List ℕ)) (n : ℕ) (old new : Option (List ℕ)) → length keys ≤ n → Appends old new (keys_text (take n keys)) → Appends old new (keys_text keys)
-keys_all keys n old new le w = subst (λ (l : List (List ℕ)). Appends old new (keys_text l)) (take_all n keys le) w
-
--- the numbers of first columns, and of one column more
-decimals-append : (xs ys : List ℕ) → map decimal (xs ++ ys) ≡ map decimal xs ++ map decimal ys
-decimals-append [] ys = refl
-decimals-append (x ∷ xs) ys = ap (λ (l : List (List ℕ)). decimal x ∷ l) (decimals-append xs ys)
-
-pub column_next : (key : List ℕ) (i column : ℕ) → i < length key → key_record (take (i + 1) key) ≡ key_record (take i key) ++ decimal (get_or key i column) ∷ []
-column_next key i column within =
-    ap key_record (take_more key i column within) ∙ ap (λ (l : List (List ℕ)). codes "key" ∷ l) (decimals-append (take i key) (get_or key i column ∷ []))

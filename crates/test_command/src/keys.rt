@@ -75,7 +75,11 @@ fn files_without_keys(rt: HostRuntime) -> Result<(), Fail> {
         (PRICES, 2, "flashfill: t.csv: cannot be read\n"),
         (WIDE, 3, "flashfill: t.csv: more than 32 columns\n"),
         (b"a\n\xff\n", 3, "flashfill: t.csv: record 2 is not UTF-8\n"),
-        (many.as_slice(), 3, "flashfill: t.csv: more than 2000 records\n"),
+        (
+            many.as_slice(),
+            3,
+            "flashfill: t.csv: more than 2000 records\n",
+        ),
     ];
     for (bytes, failing, wanted) in table {
         assert_eq!(rt; line(alloc, bytes, failing)?.as_str(), wanted);

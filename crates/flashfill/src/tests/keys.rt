@@ -37,12 +37,7 @@ fn keys_are_listed(rt: HostRuntime) -> Result<(), Fail> {
             b"",
             b"flashfill: bad.csv: record 2 is not UTF-8\n",
         ),
-        (
-            "gone.csv",
-            3,
-            b"",
-            b"flashfill: gone.csv: cannot be read\n",
-        ),
+        ("gone.csv", 3, b"", b"flashfill: gone.csv: cannot be read\n"),
     ];
     for (file, wanted, report, line) in rows {
         let words = words(alloc, &["keys", file])?;
