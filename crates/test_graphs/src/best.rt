@@ -116,12 +116,20 @@ fn lists<L: Ledger>(alloc: Global, blank: Blank, k: u32, lines: &str) -> Result<
     Ok(printed(alloc, programs.as_slice())?.as_slice() == lines.as_bytes())
 }
 
+/// The same, with steps of its own.
+fn lists_edges(alloc: Global, k: u32, lines: &str) -> Result<bool, Fail>
+    requires some { 1 ≤ k }
+    requires few { k ≤ 20 }
+{
+    lists::<Brand>(alloc, Blank::new(1), k, lines)
+}
+
 /// As many as are asked for, or all that stand: a whole costs 7, a piece 13 and a text of two letters 39.
 #[test]
 fn all_of_two_edges(rt: HostRuntime) -> Result<(), Fail> {
     let all = "Concat(Whole(Col(1)))\nConcat(Sub(Col(1),CPos(0),CPos(-1)))\nConcat(Const('ab'))\n";
     let two = "Concat(Whole(Col(1)))\nConcat(Sub(Col(1),CPos(0),CPos(-1)))\n";
-    assert!(rt; lists::<Brand>(rt.alloc(), Blank::new(1), 20, all)?);
-    assert!(rt; lists::<Brand>(rt.alloc(), Blank::new(1), 2, two)?);
+    assert!(rt; lists_edges(rt.alloc(), 20, all)?);
+    assert!(rt; lists_edges(rt.alloc(), 2, two)?);
     Ok(())
 }
