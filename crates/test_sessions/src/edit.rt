@@ -1,5 +1,5 @@
 //! The reasons against edits, in their order, and the examples that edits leave.
-use crate::session::{make, usual};
+use crate::session::{Kind, Tried, accepted, edit_of, make, usual};
 use fill_session::{EditError, Part, Session};
 use fill_text::Text;
 use fill_tree::Edit;
@@ -43,83 +43,84 @@ fn correct(
     Ok(make(session, &Edit::Correct { row, text }))
 }
 
-/// A session over three rows, the last of which has 1,001 characters, with an example at row 1.
+/// A session over three rows, the last of which has 1,001 characters.
 fn three_rows(alloc: Global) -> Result<Session, Fail> {
-    let mut lines = String::new(alloc);
-    lines.push_str("ab\nd\n")?;
     let long = repeated(alloc, 'x', 1001)?;
-    lines.push_str(long.as_str())?;
+    let lines = format!(in alloc; "ab\nd\n{long}\n")?;
     usual(alloc, lines.as_str())
+}
+
+/// Whether each of some edits is refused for the first reason against it.
+fn are_refused(alloc: Global, session: &mut Session) -> Result<bool, Fail> {
+    let no_row = Some(EditError::NoSuchRow { rows: 3 });
+    Ok(
+        put(alloc, session, 1, 1)?.is_none()
+            && make(session, &Edit::Retract { row: 0 }) == no_row
+            && put(alloc, session, 4, 101)? == no_row
+            && put(alloc, session, 1, 101)? == Some(EditError::HasExample)
+            && correct(alloc, session, 2, 101)? == Some(EditError::NoExample),
+    )
 }
 
 #[test]
 fn the_first_of_several_reasons(rt: HostRuntime) -> Result<(), Fail> {
-    let alloc = rt.alloc();
-    let mut session = three_rows(alloc)?;
-    assert_eq!(rt; put(alloc, &mut session, 1, 1)?, None);
-    let no_row = Some(EditError::NoSuchRow { rows: 3 });
-    assert_eq!(rt; make(&mut session, &Edit::Retract { row: 0 }), no_row);
-    assert_eq!(rt; put(alloc, &mut session, 4, 101)?, no_row);
-    assert_eq!(rt;
-        put(alloc, &mut session, 1, 101)?,
-        Some(EditError::HasExample)
-    );
-    assert_eq!(rt;
-        correct(alloc, &mut session, 2, 101)?,
-        Some(EditError::NoExample)
-    );
+    let mut session = three_rows(rt.alloc())?;
+    assert!(rt; are_refused(rt.alloc(), &mut session)?);
     Ok(())
 }
 
-#[test]
-fn what_is_too_long(rt: HostRuntime) -> Result<(), Fail> {
-    let alloc = rt.alloc();
-    let mut session = three_rows(alloc)?;
-    assert_eq!(rt; put(alloc, &mut session, 1, 1)?, None);
+/// Whether a text and the cells of a row are too long.
+fn are_too_long(alloc: Global, session: &mut Session) -> Result<bool, Fail> {
     let text = EditError::TooLong {
         part: Part::Text,
         length: 101,
     };
-    assert_eq!(rt; correct(alloc, &mut session, 1, 101)?, Some(text));
     let inputs = EditError::TooLong {
         part: Part::Inputs,
         length: 1001,
     };
-    assert_eq!(rt; put(alloc, &mut session, 3, 100)?, Some(inputs));
+    Ok(
+        put(alloc, session, 1, 1)?.is_none()
+            && correct(alloc, session, 1, 101)? == Some(text)
+            && put(alloc, session, 3, 100)? == Some(inputs),
+    )
+}
+
+#[test]
+fn what_is_too_long(rt: HostRuntime) -> Result<(), Fail> {
+    let mut session = three_rows(rt.alloc())?;
+    assert!(rt; are_too_long(rt.alloc(), &mut session)?);
     Ok(())
 }
 
-/// The reason against a further example beside so many.
-fn beside(alloc: Global, count: u32) -> Result<Option<EditError>, Fail> {
+/// A session over 65 rows that are alike.
+fn many_rows(alloc: Global) -> Result<Session, Fail> {
     let mut lines = String::new(alloc);
-    for _ in 0..=count {
+    for _ in 0..65 {
         lines.push_str("x\n")?;
     }
-    let mut session = usual(alloc, lines.as_str())?;
-    for row in 0..count {
-        if let Some(reason) = put(alloc, &mut session, row + 1, 0)? {
-            return Ok(Some(reason));
+    usual(alloc, lines.as_str())
+}
+
+/// Whether 64 rows have examples then, and a further row may have none.
+fn are_full(alloc: Global, session: &mut Session) -> Result<bool, Fail> {
+    for row in 1..65 {
+        if put(alloc, session, row, 0)?.is_some() {
+            return Ok(false);
         }
     }
-    put(alloc, &mut session, count + 1, 0)
+    Ok(put(alloc, session, 65, 0)? == Some(EditError::TooMany))
 }
 
 #[test]
 fn the_sixty_fifth_example(rt: HostRuntime) -> Result<(), Fail> {
-    assert_eq!(rt; beside(rt.alloc(), 63)?, None);
-    assert_eq!(rt; beside(rt.alloc(), 64)?, Some(EditError::TooMany));
+    let mut session = many_rows(rt.alloc())?;
+    assert!(rt; are_full(rt.alloc(), &mut session)?);
     Ok(())
 }
 
-/// Two digits for each example after the edit, its row and how long its text is. The rows 2 and 3 had examples, of one
-/// character and of two.
-fn after(alloc: Global, edit: &Edit) -> Result<u64, Fail> {
-    let mut session = usual(alloc, "-\n.\n;\n")?;
-    let first = put(alloc, &mut session, 2, 1)?;
-    let second = put(alloc, &mut session, 3, 2)?;
-    if first.is_some() || second.is_some() || make(&mut session, edit).is_some() {
-        return Ok(0);
-    }
+/// Two digits for each example, its row and how long its text is, after a 9.
+fn digits(session: &Session) -> u64 {
     let mut digits = 9u64;
     for example in session.examples() {
         digits = digits.wrapping_mul(10).wrapping_add(u64::from(example.row));
@@ -127,17 +128,41 @@ fn after(alloc: Global, edit: &Edit) -> Result<u64, Fail> {
             .wrapping_mul(10)
             .wrapping_add(example.text.len() as u64);
     }
-    Ok(digits)
+    digits
+}
+
+/// The digits after the edit, where the rows 2 and 3 had examples, of one character and of two.
+fn digits_after(alloc: Global, session: &mut Session, edit: &Edit) -> Result<u64, Fail> {
+    let first = put(alloc, session, 2, 1)?;
+    let second = put(alloc, session, 3, 2)?;
+    if first.is_some() || second.is_some() || make(session, edit).is_some() {
+        return Ok(0);
+    }
+    Ok(digits(session))
+}
+
+/// The same in a session of its own.
+fn after(alloc: Global, edit: &Edit) -> Result<u64, Fail> {
+    let mut session = usual(alloc, "-\n.\n;\n")?;
+    digits_after(alloc, &mut session, edit)
+}
+
+/// Whether the edit leaves these digits.
+fn leaves(alloc: Global, tried: &Tried, digits: u64) -> Result<bool, Fail> {
+    let edit = edit_of(alloc, tried)?;
+    Ok(after(alloc, &edit)? == digits)
 }
 
 #[test]
 fn what_edits_make_of_examples(rt: HostRuntime) -> Result<(), Fail> {
-    let alloc = rt.alloc();
-    let text = text_of(alloc, 4)?;
-    assert_eq!(rt; after(alloc, &Edit::Add { row: 1, text })?, 9_142_132);
-    let text = text_of(alloc, 4)?;
-    assert_eq!(rt; after(alloc, &Edit::Correct { row: 3, text })?, 92_134);
-    assert_eq!(rt; after(alloc, &Edit::Retract { row: 2 })?, 932);
-    assert_eq!(rt; after(alloc, &Edit::Clear)?, 9);
+    let rows = [
+        (accepted(Kind::Add, 1, "xxxx"), 9_142_132),
+        (accepted(Kind::Correct, 3, "xxxx"), 92_134),
+        (accepted(Kind::Retract, 2, ""), 932),
+        (accepted(Kind::Clear, 0, ""), 9),
+    ];
+    for (tried, digits) in rows {
+        assert!(rt; leaves(rt.alloc(), &tried, digits)?);
+    }
     Ok(())
 }

@@ -54,7 +54,7 @@ pub(crate) fn make(session: &mut Session, edit: &Edit) -> Option<EditError> {
 
 /// What an edit does.
 #[derive(Clone, Copy)]
-enum Kind {
+pub(crate) enum Kind {
     Add,
     Correct,
     Retract,
@@ -63,14 +63,14 @@ enum Kind {
 
 /// An edit, and the reason where it is to be refused.
 #[derive(Clone, Copy)]
-struct Tried<'a> {
+pub(crate) struct Tried<'a> {
     kind: Kind,
     row: u32,
     text: &'a str,
     reason: Option<EditError>,
 }
 
-fn accepted(kind: Kind, row: u32, text: &str) -> Tried<'_> {
+pub(crate) fn accepted(kind: Kind, row: u32, text: &str) -> Tried<'_> {
     Tried {
         kind,
         row,
@@ -88,7 +88,7 @@ fn refused(kind: Kind, row: u32, text: &str, reason: EditError) -> Tried<'_> {
     }
 }
 
-fn edit_of(alloc: Global, tried: &Tried) -> Result<Edit, Fail> {
+pub(crate) fn edit_of(alloc: Global, tried: &Tried) -> Result<Edit, Fail> {
     let row = tried.row;
     let text = Text::from_utf8(alloc, tried.text.as_bytes())?;
     match tried.kind {
