@@ -2,7 +2,6 @@
 ghost use Rattle.std.specs.Prelude.{◌≡◌, ◌≤◌, length};
 ghost use Rattle.fill_tree.specs.Grammar.{AreSettings};
 
-use crate::rank::fill;
 use fill_arena::Arena;
 use fill_best::best;
 use fill_build::build;
@@ -86,50 +85,15 @@ fn learns(alloc: Global, cell: &str, text: &str, k: u32, lines: &str) -> Result<
 fn pieces_at_one_cost(rt: HostRuntime) -> Result<(), Fail> {
     let lines =
         "Concat(Sub(Col(1),Pos([],[Upper],-1),CPos(-1)))\nConcat(Sub(Col(1),Pos([],[Alpha],-1),CPos(-1)))\nConcat(Sub(Col(1),Pos([],[Word],-1),CPos(-1)))\n";
+    let two =
+        "Concat(Sub(Col(1),Pos([],[Upper],-1),CPos(-1)))\nConcat(Sub(Col(1),Pos([],[Alpha],-1),CPos(-1)))\n";
     assert!(rt; learns(rt.alloc(), "John Smith", "Smith", 3, lines)?);
+    assert!(rt; learns(rt.alloc(), "John Smith", "Smith", 2, two)?);
     Ok(())
 }
 
 #[test]
 fn one_program_of_no_atoms(rt: HostRuntime) -> Result<(), Fail> {
     assert!(rt; learns(rt.alloc(), "John Smith", "", 20, "Concat()\n")?);
-    Ok(())
-}
-
-/// Whether these are the first programs of the graph of two edges, of which the first has the text `ab`.
-fn lists<L: Ledger>(alloc: Global, blank: Blank, k: u32, lines: &str) -> Result<bool, Fail>
-    requires name { blank.name ≡ L.name }
-    requires parts { blank.parts ≡ L.parts }
-    requires one { blank.parts ≡ 1 }
-    requires some { 1 ≤ k }
-    requires few { k ≤ 20 }
-{
-    let (book, share) = blank.open::<L>();
-    let mut steps: Steps<L> = Steps::new(book, share);
-    let mut arena = Arena::new(alloc);
-    let text = Text::from_utf8(alloc, b"ab")?;
-    if text.len() > 100 {
-        return Ok(false);
-    }
-    let graph = fill(alloc, &mut arena, text, &mut steps)?;
-    let programs = best(alloc, &arena, graph, k)?;
-    Ok(printed(alloc, programs.as_slice())?.as_slice() == lines.as_bytes())
-}
-
-/// The same, with steps of its own.
-fn lists_edges(alloc: Global, k: u32, lines: &str) -> Result<bool, Fail>
-    requires some { 1 ≤ k }
-    requires few { k ≤ 20 }
-{
-    lists::<Brand>(alloc, Blank::new(1), k, lines)
-}
-
-/// As many as are asked for, or all that stand: a whole costs 7, a piece 13 and a text of two letters 39.
-#[test]
-fn all_of_two_edges(rt: HostRuntime) -> Result<(), Fail> {
-    let all = "Concat(Whole(Col(1)))\nConcat(Sub(Col(1),CPos(0),CPos(-1)))\nConcat(Const('ab'))\n";
-    let two = "Concat(Whole(Col(1)))\nConcat(Sub(Col(1),CPos(0),CPos(-1)))\n";
-    assert!(rt; lists_edges(rt.alloc(), 20, all)?);
-    assert!(rt; lists_edges(rt.alloc(), 2, two)?);
     Ok(())
 }
