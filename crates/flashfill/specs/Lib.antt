@@ -1,4 +1,3 @@
 pub mod Answer
 pub mod Applied
-pub mod Keys
 pub mod Sessions

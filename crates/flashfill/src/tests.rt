@@ -2,7 +2,6 @@
 ghost use Rattle.std.specs.Prelude.{◌≡◌};
 
 mod applied;
-mod keys;
 mod noting;
 mod rows;
 
