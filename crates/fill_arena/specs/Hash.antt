@@ -1,5 +1,5 @@
 -- The hash of an entry: some function of its contents to numbers below 2^64, of which nothing else is used.
-use Rattle.std.specs.Prelude.{ℕ, ◌+◌, ◌*◌, ◌^◌, ◌%◌, ℤ, List, length, fold, Option, Some, None}
+use Rattle.std.specs.Prelude.{ℕ, ◌+◌, ◌*◌, ◌^◌, ◌/◌, ◌%◌, ℤ, List, length, fold, Option, Some, None, zero, suc, slice_get}
 use Rattle.fill_tokens.specs.Place.{magnitude, sign_number}
 use Rattle.fill_tokens.specs.Token.{token_number}
 use Rattle.fill_tokens.specs.declared.token.Token.{Token}
@@ -64,8 +64,17 @@ atom_hash hash (Sub s p q) = mixed (mixed (mixed (mixed hash 3) s) p) q
 abbrev pub edge_hash : ℕ → Edge → ℕ
 edge_hash hash e = mixed (mixed (mixed hash e.from) e.to) e.atoms
 
+abbrev pub sample_hash : ℕ → Option Place → ℕ
+sample_hash hash None = hash
+sample_hash hash (Some p) = place_hash hash p
+
+-- of so many places of a set, which are spread over it
+unfoldable pub samples_hash : List Place → ℕ → ℕ
+samples_hash places zero = mixed 1 (length places)
+samples_hash places (suc i) = sample_hash (samples_hash places i) (slice_get places (i * (length places / 8 + 1)))
+
 abbrev pub entry_hash : Entry → ℕ
-entry_hash (Places places) = fold place_hash 1 places
+entry_hash (Places places) = samples_hash places 8
 entry_hash (Sources items) = fold source_hash 2 items
 entry_hash (Atoms items) = fold atom_hash 3 items
 entry_hash (Graph nodes edges) = fold edge_hash (mixed 4 nodes) edges

@@ -1,13 +1,16 @@
 //! Hashes of contents.
 //!
 //! Nothing rests on them but the speed with which equal contents are found.
-ghost use Rattle.std.specs.Prelude.{◌≡◌};
-ghost use Rattle.fill_arena.specs.Hash.{atom_hash, condition_hash, conditions_hash, constant_hash, edge_hash, entry_hash, mixed, number_hash, place_hash, select_hash, seq_hash, signed_hash, source_hash, text_hash};
+ghost use Rattle.std.specs.Prelude.{◌≡◌, slice_get};
+ghost use Rattle.fill_arena.specs.Hash.{atom_hash, condition_hash, conditions_hash, constant_hash, edge_hash, entry_hash, mixed, number_hash, place_hash, sample_hash, select_hash, seq_hash, signed_hash, source_hash, text_hash};
 
 use crate::entry::{AtomItem, ConditionItem, Edge, Entry, SelectItem, SourceItem};
 use crate::numbers::AtomSet;
 use fill_text::Text;
 use fill_tokens::{Place, Seq};
+
+/// How many places of a set its hash looks at. They and the length tell most sets apart.
+const SAMPLES: usize = 8;
 
 /// The hash of what came so far, and of one number more.
 #[tactic(auto, unfolding(crate::specs::Hash::mixed))]
@@ -33,11 +36,22 @@ pub(crate) fn hash_entry(entry: &Entry) -> u64
 fn hash_places(places: &[Place]) -> u64
     ensures { result ≡ entry_hash (Entry.Places places.now) }
 {
-    let mut hash = 1;
-    for i in 0..places.len() {
-        hash = hash_place(hash, &places[i]);
+    let step = places.len() / SAMPLES + 1;
+    let mut hash = mix(1, places.len() as u64);
+    for i in 0..SAMPLES {
+        hash = hash_sample(hash, places, i * step);
     }
     hash
+}
+
+/// The hash with the place at an index, where there is one.
+fn hash_sample(hash: u64, places: &[Place], index: usize) -> u64
+    ensures { result ≡ sample_hash hash (slice_get places.now index) }
+{
+    match places.get(index) {
+        Some(place) => hash_place(hash, place),
+        None => hash,
+    }
 }
 
 fn hash_sources(items: &[SourceItem]) -> u64
