@@ -15,7 +15,7 @@ use Rattle.fill_arena.specs.declared.entry.SourceItem.TheVariants.{Col, Select}
 use Rattle.fill_arena.specs.declared.entry.AtomItem.{AtomItem}
 use Rattle.fill_arena.proofs.Lists.{extends_on, extends_same}
 use Rattle.fill_meet.specs.Meet.{AreMet, AreApart}
-use Rattle.fill_meet.specs.Sets.{AtomIn, SourceIn, NamesOlder, PairsState, AreAtomsMet}
+use Rattle.fill_meet.specs.Sets.{AtomIn, SourceIn, NamesOlder, PairsState, AreAtomsMet, IsItemWithin}
 use Rattle.fill_meet.proofs.Lists.{in_empty, some_first, is_empty, positive}
 use Rattle.fill_meet.proofs.Merge.{Before}
 use Rattle.fill_meet.proofs.Pairs.{pairs_end}
@@ -136,3 +136,14 @@ module _ (c0 c : List Entry) (o : Extends c0 c) (n s t i : ℕ) (xs ys zs : List
 
   pub are_atoms : (length zs ≡ 0 → ⊥) → AreAtoms c (length c) zs
   are_atoms some = record { some = positive (length zs) some; each = p.made }
+
+-- where each item of the first set is within one of the second, the first set has what both have
+pub atoms_within_met : (c : List Entry) (s t : ℕ) (xs ys : List AtomItem) → slice_get c s ≡ Some (Atoms xs) → slice_get c t ≡ Some (Atoms ys) → AreAtomsMet c s s s
+    → EachIn (λ x. SomeIn (IsItemWithin c x) ys) xs → AreAtomsMet c s t s
+atoms_within_met c s t xs ys hs ht self all =
+    record {
+      met = set_met ListsAtom Atoms one_atoms c s t s xs ys xs hs ht hs
+          (λ d o a. (λ h. (h, let y = all h.1.0 h.0 h.1.1 in (y.0, y.1, ((y.2.both d o a).0 h.2).1)), λ h. h.0))
+          (λ d o. let f = self.met.some d o in (f.0, (stands_is ListsAtom Atoms one_atoms d s f.0 xs (o s (Atoms xs) hs)).0 f.1));
+      each = self.each;
+    }

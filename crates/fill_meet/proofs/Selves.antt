@@ -1,5 +1,5 @@
 -- A set has in common with itself what stands in it; and a pair has what its mirror has.
-use Rattle.std.proofs.Common.{rules, ◌≡◌, true, nat_eq, ℕ, List, Option, Some, None, slice_get, sym, ◌∙◌, subst, arith}
+use Rattle.std.proofs.Common.{rules, ◌≡◌, true, false, not, nat_eq, ℕ, List, Option, Some, None, slice_get, sym, ◌∙◌, subst, arith}
 use Rattle.std.proofs.lemmas.Option.{slice_get_within}
 use Rattle.std.specs.HashMap.{HashMap, get}
 use Rattle.fill_tree.specs.Tree.{AtomTree, Atoms}
@@ -19,6 +19,9 @@ use Rattle.fill_meet.specs.Sets.{AtomIn, AreAtomsMet, PlaceSetsMeet}
 -- numbers by their test
 pub number_same : (s t : ℕ) → nat_eq s t ≡ true → s ≡ t
 number_same s t h = search rules
+
+pub number_not_other : (s t : ℕ) → not (nat_eq s t) ≡ false → s ≡ t
+number_not_other s t h = search rules
 
 -- the same on both sides, where something is there
 with_itself : {A S : Type 0} (Has : List Entry → S → A → Type 0) (c : List Entry) (x : S) → ((d : List Entry) → Extends c d → (a : A) × Has d x a) → AreMet Has c x x x

@@ -93,6 +93,10 @@ pub record RowsMeet (c : List Entry) (xs ys zs : List ConditionItem) : Type 0 wh
 abbrev pub IsWithin : List Entry → ℕ → ℕ → Type 0
 IsWithin c s t = AreMet PlaceStands c s t s
 
+-- the second item has all that the first one has
+abbrev pub IsItemWithin : List Entry → AtomItem → AtomItem → Type 0
+IsItemWithin c x y = AreMet AtomIn c x y x
+
 -- an item that is no constant
 abbrev pub IsPartItem : AtomItem → Type 0
 IsPartItem (Const t) = ⊥

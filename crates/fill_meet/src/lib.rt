@@ -17,3 +17,4 @@ mod product;
 mod sets;
 mod ties;
 mod tried;
+mod within;

@@ -13,7 +13,7 @@ ghost use Rattle.fill_meet.specs.Sets.{IsWithin, PlaceSetsMeet};
 use crate::memo::{Memo, find_places, put_places};
 use fill_arena::{Arena, PlaceSet};
 use fill_text::{List, NoMemory};
-use fill_tokens::Place;
+use fill_tokens::{Place, Seq};
 use std::alloc::Global;
 use std::cmp::Ordering;
 
@@ -68,7 +68,7 @@ fn make_places(
 }
 
 /// Whether each place of the first set stands in the second one.
-fn is_within(arena: &Arena, s: PlaceSet, t: PlaceSet) -> bool
+pub(crate) fn is_within(arena: &Arena, s: PlaceSet, t: PlaceSet) -> bool
     requires first { IsPlaceSet arena.now s }
     requires second { IsPlaceSet arena.now t }
     ensures { IsTrue result → IsWithin arena.now s t }
@@ -94,18 +94,38 @@ fn lists_all(xs: &[Place], places: &[Place]) -> bool
     true
 }
 
-/// A place of the list where the given one stands, from an index on; none where a greater one comes first.
+/// A place of the list where the given one stands, from an index on.
 fn find_from(xs: &[Place], from: usize, place: &Place) -> Option<usize>
     ensures { IfSome result (λ k. slice_get xs.now k ≡ Some place.now) }
 {
     for k in from..xs.len() {
-        match xs[k].compare(place) {
-            Ordering::Less => continue,
-            Ordering::Equal => return Some(k),
-            Ordering::Greater => return None,
+        if is_same(&xs[k], place) {
+            return Some(k);
         }
     }
     None
+}
+
+/// Whether the two are one place. Their counts, which tell most places apart, are looked at first.
+fn is_same(x: &Place, y: &Place) -> bool
+    ensures { IsTrue result → x.now ≡ y.now }
+{
+    match (x, y) {
+        (Place::CPos(k), Place::CPos(m)) => *k == *m,
+        (Place::Pos(r, s, k), Place::Pos(u, v, m)) => {
+            if *k != *m {
+                return false;
+            }
+            is_same_seq(r, u) && is_same_seq(s, v)
+        }
+        _ => false,
+    }
+}
+
+fn is_same_seq(x: &Seq, y: &Seq) -> bool
+    ensures { IsTrue result → x.now ≡ y.now }
+{
+    x.compare(y) == Ordering::Equal
 }
 
 /// The set of the places that stand in both sets, made from their lists.

@@ -9,6 +9,7 @@ ghost use Rattle.fill_meet.specs.Sets.{AreConditions, AtomIn, AtomItemsMeet, Ato
 use crate::copy::{copy_atoms, copy_sources};
 use crate::memo::{Memo, find_atoms, find_sources, put_atoms, put_sources};
 use crate::places::meet_places;
+use crate::within::are_atoms_within;
 use fill_arena::{Arena, AtomItem, AtomSet, ConditionItem, SelectItem, SourceItem, SourceSet};
 use fill_text::{List, NoMemory, Text};
 
@@ -57,6 +58,9 @@ pub(crate) fn make_atoms(
     ensures memo { OnOk result (IsRight arena.new memo.new) }
     ensures met { IfOk result (AtomSetsMeet arena.new s t) }
 {
+    if are_atoms_within(arena, memo, s, t)? {
+        return Ok(Some(s));
+    }
     arena.keeps_made();
     let first = copy_atoms(memo.alloc, arena.atoms(s))?;
     let second = copy_atoms(memo.alloc, arena.atoms(t))?;

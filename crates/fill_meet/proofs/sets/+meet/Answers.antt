@@ -25,7 +25,7 @@ make_atoms-loop-i-init n c =
     let ht = c.atoms-2.ensures ∙ ap (λ l. Some (Atoms l)) (sym (c.as_slice-ys.ensures ∙ c.in_ok-second.ensures)) in
     record {
       kept = extends_same c.args.arena.now;
-      memo = c.requires.memo;
+      memo = c.in_ok-are_atoms_within.ensures.memo;
       pairs = state_start AtomIn IsAtomItem atom_item_stays c.args.arena.now c.args.s c.args.t _ _ _ c.in_ok-zs.ensures (c.keeps_made.ensures c.args.s (Atoms c.as_slice-xs.result.now) hs).each
           (c.keeps_made.ensures c.args.t (Atoms c.as_slice-ys.result.now) ht).each;
     }
