@@ -15,6 +15,9 @@ use fill_text::{List, NoMemory, Text};
 use fill_tokens::Place;
 use std::alloc::Global;
 
+/// How many places a list has room for from its start. Most positions of short texts have some sixty.
+const ROOM: usize = 128;
+
 /// Puts the number of the entry to the list, where it is marked at the position.
 fn push_number(
     numbers: &mut List<usize>,
@@ -166,7 +169,7 @@ pub fn list_places(
     ensures { IfOk result (Lists place_cmp (IsWanted profile t.now k)) }
 {
     let numbers = marked_at(alloc, rights, t, k, profile)?;
-    let mut out = List::new(alloc);
+    let mut out = List::with_capacity(alloc, ROOM)?;
     push_fixed(&mut out, t, k, profile)?;
     push_between(&mut out, lefts, rights, numbers.as_slice(), t, k, profile)?;
     Ok(out)
