@@ -7,6 +7,7 @@ ghost use Rattle.fill_meet.specs.Meet.{AreApart};
 ghost use Rattle.fill_meet.specs.Sets.{AtomIn};
 ghost use Rattle.fill_meet.specs.Tried.{AreAlike, AreTried, PlacesTried};
 
+use crate::places::order;
 use crate::sets::have_same_numbers;
 use crate::ties::Tie;
 use crate::tried::{
@@ -184,7 +185,7 @@ fn share_place(xs: &[Place], ys: &[Place]) -> bool
     let mut i = 0;
     let mut j = 0;
     while i < xs.len() && j < ys.len() {
-        match xs[i].compare(&ys[j]) {
+        match order(&xs[i], &ys[j]) {
             Ordering::Less => i += 1,
             Ordering::Greater => j += 1,
             Ordering::Equal => return true,

@@ -148,6 +148,24 @@ fn intern_common(
     Ok(Some(arena.intern_places(both.as_slice())?))
 }
 
+/// The order of places. It looks at no more parts of them than it takes.
+pub(crate) fn order(x: &Place, y: &Place) -> Ordering
+    ensures { result ≡ place_cmp x.now y.now }
+{
+    let (Place::Pos(r, s, _), Place::Pos(u, v, _)) = (x, y) else {
+        return x.compare(y);
+    };
+    let by_left = r.compare(u);
+    if by_left != Ordering::Equal {
+        return by_left;
+    }
+    let by_right = s.compare(v);
+    if by_right != Ordering::Equal {
+        return by_right;
+    }
+    x.compare(y)
+}
+
 /// The places of both lists, found by one merge.
 fn common_places(alloc: Global, xs: &[Place], ys: &[Place]) -> Result<List<Place>, NoMemory>
     requires first { ArePlaces xs.now }
@@ -160,7 +178,7 @@ fn common_places(alloc: Global, xs: &[Place], ys: &[Place]) -> Result<List<Place
     let mut i = 0;
     let mut j = 0;
     while i < xs.len() && j < ys.len() {
-        match xs[i].compare(&ys[j]) {
+        match order(&xs[i], &ys[j]) {
             Ordering::Less => i += 1,
             Ordering::Greater => j += 1,
             Ordering::Equal => {
