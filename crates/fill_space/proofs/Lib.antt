@@ -1,4 +1,5 @@
 pub mod Compacted
+pub mod Copies
 pub mod Growing
 pub mod Joined
 pub mod Marks

@@ -1,7 +1,8 @@
 -- What is known of pairs of graphs that were met.
-use Rattle.std.specs.Prelude.{ℕ, List, Option, MatchOption, OnSome}
+use Rattle.std.specs.Prelude.{◌↔◌, ℕ, List, Option, MatchOption, OnSome}
+use Rattle.std.specs.List.{AllZip}
 use Rattle.fill_tree.specs.Tree.{Atoms}
-use Rattle.fill_arena.specs.Contents.{IsGraph}
+use Rattle.fill_arena.specs.Contents.{EachIn, IsGraph}
 use Rattle.fill_arena.specs.Stands.{ProgramStands}
 use Rattle.fill_arena.specs.declared.entry.Entry.{Entry}
 use Rattle.fill_meet.specs.Meet.{IsMeet, NoneInBoth}
@@ -18,3 +19,9 @@ pub record IsTold (c : List Entry) (a b : ℕ) (made : Option ℕ) : Type 0 wher
 -- all that is kept is so in the arena
 abbrev pub AreTold : List Entry → Met → Type 0
 AreTold c met = AreRight (IsTold c) met.table
+
+-- for each graph of the first list one of the second arena, at the same place of the second list, in which the same
+-- programs stand
+pub record AreCopies (c d : List Entry) (old new : List ℕ) : Type 0 where
+  pub graphs : EachIn (IsGraph d) new
+  pub same : AllZip (λ k n. (p : Atoms) → ProgramStands d n p ↔ ProgramStands c k p) old new

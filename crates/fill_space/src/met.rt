@@ -33,7 +33,7 @@ impl Met {
     }
 
     /// Keeps what meeting the two graphs came to. Where there is no room for it, all is forgotten.
-    fn keep(&mut self, alloc: Global, a: GraphId, b: GraphId, made: &Option<GraphId>)
+    pub(crate) fn keep(&mut self, alloc: Global, a: GraphId, b: GraphId, made: &Option<GraphId>)
         ensures { (c : List Entry) → AreTold c self.old → IsTold c a b made.now → AreTold c self.new }
     {
         match put_met(&mut self.table, a, b, made) {
@@ -44,7 +44,7 @@ impl Met {
 }
 
 /// What meeting the two graphs came to, if they were met.
-fn find_met(
+pub(crate) fn find_met(
     table: &HashMap<(GraphId, GraphId), Option<GraphId>>,
     a: GraphId,
     b: GraphId,

@@ -11,6 +11,7 @@ ghost use Rattle.fill_space.specs.Doubt.{IsDoubtful};
 ghost use Rattle.fill_space.specs.Ground.{ChosenOn, ExplainsOn};
 ghost use Rattle.fill_space.specs.Spaces.{SpaceStands, Succeeds, no_spaces};
 
+use crate::carried::carry_over;
 use crate::ground::Ground;
 use crate::met::Met;
 use crate::space::{Space, graphs_of, put_graphs};
@@ -166,10 +167,12 @@ impl Spaces {
         ensures err { OnErr result (self.new ≡ self.old) }
         ensures live_err { OnErr result (live.new ≡ live.old) }
     {
+        let listed = graphs_of(alloc, live)?;
         let mut graphs = graphs_of(alloc, live)?;
         self.arena = self.arena.copy(alloc, graphs.as_mut_slice())?;
-        self.met = Met::new(self.alloc);
-        put_graphs(live, graphs.as_slice());
+        let copies = graphs.as_slice();
+        self.met = carry_over(self.alloc, &self.met, listed.as_slice(), copies);
+        put_graphs(live, copies);
         Ok(())
     }
 

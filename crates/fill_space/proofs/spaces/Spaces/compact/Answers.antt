@@ -1,9 +1,31 @@
-use Rattle.std.proofs.Common.{ℕ, List, sym, ◌∙◌, subst, arith}
+use Rattle.std.proofs.Common.{◌≡◌, ℕ, List, Some, slice_get, sym, ◌∙◌, subst, arith}
 use Rattle.std.specs.List.{AllZip}
+use Rattle.fill_arena.specs.Contents.{IsGraph}
 use Rattle.fill_arena.specs.Named.{IsNamed}
 use Rattle.fill_space.specs.Spaces.{SpacesData, Succeeds, spaces_over}
 use Rattle.fill_space.proofs.Compacted.{copies_stand, lent_back}
+use Rattle.fill_space.proofs.Copies.{are_copies}
 use Rattle.fill_space.proofs.spaces.Spaces.compact.Goals as goal
+
+pub copy-requires : goal.copy-requires
+copy-requires c =
+    let listed = c.as_mut_slice.ensures.value ∙ c.in_ok-graphs.ensures in
+    λ k x h.
+    let stands = c.requires k x (subst (λ (ks : List ℕ). slice_get ks k ≡ Some x) listed h) in
+    subst (λ (v : SpacesData). IsGraph v.arena x) (sym c.self.view_is) stands.1.graph
+
+pub invariant_of-self : goal.invariant_of-self
+invariant_of-self c =
+    let made = c.in_ok-self-inside.field-0 in
+    let graphs = c.in_ok-graphs.graphs in
+    let new = c.copy.new.live in
+    let lent = c.as_mut_slice.ensures.value ∙ c.in_ok-graphs.ensures in
+    let listed = c.as_slice.ensures.value ∙ c.in_ok-listed.ensures in
+    let put = c.as_slice-copies.ensures.value ∙ lent_back graphs.items c.as_mut_slice.result.now new graphs.len (let len = graphs.ok.0 in omega arith) c.as_mut_slice.ensures.value c.in_ok-self-inside.ensures.length in (
+      c.self.invariant.0,
+      c.carry_over.ensures c.self.inside.arena made c.self.invariant.1
+          (are_copies c.self.inside.arena made c.as_mut_slice.result.now new c.as_slice.result.now c.as_slice-copies.result.now (lent ∙ sym listed) (sym put) c.in_ok-self-inside.ensures.graphs c.in_ok-self-inside.ensures.same),
+    )
 
 pub returns-clause-stand : goal.returns-clause-stand
 returns-clause-stand c =
@@ -13,7 +35,7 @@ returns-clause-stand c =
     let first = c.as_mut_slice.result.now in
     let new = c.copy.new.live in
     let listed = c.as_mut_slice.ensures.value ∙ c.in_ok-graphs.ensures in
-    let put = c.put_graphs.ensures ∙ c.as_slice.ensures.value ∙ lent_back graphs.items c.as_mut_slice.result.now new graphs.len (let len = graphs.ok.0 in omega arith) c.as_mut_slice.ensures.value c.in_ok-self-inside.ensures.length in
+    let put = c.put_graphs.ensures ∙ c.as_slice-copies.ensures.value ∙ lent_back graphs.items c.as_mut_slice.result.now new graphs.len (let len = graphs.ok.0 in omega arith) c.as_mut_slice.ensures.value c.in_ok-self-inside.ensures.length in
     subst (λ (v : SpacesData). AllZip (Succeeds v (spaces_over over made)) c.args.live.now c.put_graphs.new.spaces) c.self.view_is
     (subst (λ (ns : List ℕ). AllZip (Succeeds (spaces_over over c.self.inside.arena) (spaces_over over made)) c.args.live.now ns) (sym put)
     (subst (λ (ks : List ℕ). AllZip (Succeeds (spaces_over over c.self.inside.arena) (spaces_over over made)) ks new) listed
@@ -24,5 +46,5 @@ returns-clause-named c =
     let made = c.in_ok-self-inside.field-0 in
     let graphs = c.in_ok-graphs.graphs in
     let new = c.copy.new.live in
-    let put = c.put_graphs.ensures ∙ c.as_slice.ensures.value ∙ lent_back graphs.items c.as_mut_slice.result.now new graphs.len (let len = graphs.ok.0 in omega arith) c.as_mut_slice.ensures.value c.in_ok-self-inside.ensures.length in
+    let put = c.put_graphs.ensures ∙ c.as_slice-copies.ensures.value ∙ lent_back graphs.items c.as_mut_slice.result.now new graphs.len (let len = graphs.ok.0 in omega arith) c.as_mut_slice.ensures.value c.in_ok-self-inside.ensures.length in
     λ n lt. subst (λ (ns : List ℕ). IsNamed made ns n) (sym put) (c.in_ok-self-inside.ensures.named n lt)
