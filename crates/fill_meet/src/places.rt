@@ -102,8 +102,16 @@ fn find_from(xs: &[Place], from: usize, place: &Place) -> Option<usize>
         if is_same(&xs[k], place) {
             return Some(k);
         }
+        if is_past(&xs[k], place) {
+            return None;
+        }
     }
     None
+}
+
+/// Whether the first place comes after all fixed ones, of which the second one is.
+fn is_past(x: &Place, place: &Place) -> bool {
+    matches!((x, place), (Place::Pos(_, _, _), Place::CPos(_)))
 }
 
 /// Whether the two are one place. Their counts, which tell most places apart, are looked at first.
