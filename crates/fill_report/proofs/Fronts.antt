@@ -1,13 +1,15 @@
 -- Why a beginning of a report is the front of it.
-use Rattle.std.proofs.Common.{◌≡◌, ℕ, zero, suc, ◌+◌, ◌≤◌, List, [], ◌∷◌, ◌++◌, length, take, inl, inr, sym, ap, ◌∙◌, refl, subst, arith}
+use Rattle.std.proofs.Common.{◌≡◌, ℕ, zero, suc, ◌+◌, ◌≤◌, List, [], ◌∷◌, ◌++◌, length, take, Option, None, Some, inl, inr, sym, ap, ◌∙◌, refl, subst, arith}
 use Rattle.std.proofs.Math.Seq.{take-append-add}
 use Rattle.std.specs.List.{AllZip, range_with_len}
+use Rattle.fill_text.specs.Data.{nth}
 use Rattle.fill_tree.specs.declared.user.Edit.{Edit}
 use Rattle.fill_tree.specs.declared.user.Example.{Example}
 use Rattle.fill_script.specs.declared.script.Entry.{Entry}
 use Rattle.fill_script.specs.declared.script.Entry.TheVariants as entry
 use Rattle.fill_space.specs.declared.ground.Ground.{Ground}
-use Rattle.fill_report.specs.Entries.{AnswerWrites, EditWrites, EntryBegins, EntryWrites, FillBegins, WritesFirst, entry_term, told}
+use Rattle.fill_session.specs.Branches.{BranchData}
+use Rattle.fill_report.specs.Entries.{AnswerWrites, BestOf, EditWrites, EntryBegins, EntryWrites, FillBegins, WritesFirst, entry_term, told}
 use Rattle.fill_report.specs.Laws.{IsFrontOf}
 use Rattle.fill_report.specs.Report.{BeginsReport, IsReport, all_entries}
 use Rattle.fill_report.specs.Rows.{IsRowRecord}
@@ -68,6 +70,10 @@ module _ (g : Ground) where
   answer_steps examples row w (inl h) = ap (λ (x : Written). x.term) h.1.2
   answer_steps examples row w (inr h) = ap (λ (x : Written). x.term) h.1
 
+  best_of_steps : (examples : List Example) (branch k : ℕ) (o : Option BranchData) (w : Written) → BestOf g examples branch k o w → w.term ≡ 0
+  best_of_steps examples branch k None w h = ap (λ (x : Written). x.term) h
+  best_of_steps examples branch k (Some b) w h = ap (λ (x : Written). x.term) h.2
+
   entry_steps : (examples : List Example) (e : Entry) (w : Written) (next : List Example) → EntryWrites g examples e w next → w.term ≡ entry_term g.sheet examples e
   entry_steps examples (entry.Edit e) w next h = edit_steps examples e w next h
   entry_steps examples entry.Programs w next h = ap (λ (x : Written). x.term) h.0.2
@@ -75,6 +81,7 @@ module _ (g : Ground) where
   entry_steps examples entry.Fill w next h = ap (λ (x : Written). x.term) h.0.2
   entry_steps examples entry.Count w next h = ap (λ (x : Written). x.term) h.0.2
   entry_steps examples (entry.Answer row) w next h = answer_steps examples row w h.0
+  entry_steps examples (entry.Best branch k) w next h = best_of_steps examples branch k (nth h.0.0 branch) w h.0.2
 
   first_is_front : (examples : List Example) (e : Entry) (w v : Written) (next : List Example) → WritesFirst g examples e w → EntryWrites g examples e v next → IsFrontOf v w
   first_is_front examples e w v next (inl h) k =
@@ -101,6 +108,7 @@ module _ (g : Ground) where
   begun_is_front examples entry.Fill w v next h k = fill_is_front examples w v next h k
   begun_is_front examples entry.Count w v next h k = first_is_front examples entry.Count w v next h k
   begun_is_front examples (entry.Answer row) w v next h k = first_is_front examples (entry.Answer row) w v next h k
+  begun_is_front examples (entry.Best branch n) w v next h k = first_is_front examples (entry.Best branch n) w v next h k
 
   beginning_opens : (entries : List Entry) (w : Written) → BeginsReport g entries w → Begins (EntryWrites g) (EntryBegins g) [] (all_entries g.sheet entries) w
   unfolding BeginsReport

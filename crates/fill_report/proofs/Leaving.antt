@@ -77,6 +77,7 @@ none_begun g examples entry.Switch = inl refl
 none_begun g examples entry.Fill = (0, [], omega arith, tt, refl)
 none_begun g examples entry.Count = inl refl
 none_begun g examples (entry.Answer row) = inl refl
+none_begun g examples (entry.Best branch k) = inl refl
 
 pub made_so : {E : Type 0} (made : Result Fields E) (P : Fields → Type 0) → IfOk made P → (fields : Fields) → made ≡ Ok fields → P fields
 made_so {E} made P h fields e = subst (λ (r : Result Fields E). IfOk r P) e h

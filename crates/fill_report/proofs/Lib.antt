@@ -1,5 +1,6 @@
 pub mod Bytes
 pub mod Edited
+pub mod Firsts
 pub mod Fronts
 pub mod Leaving
 pub mod Numbered

@@ -67,6 +67,7 @@ query_writes g examples entry.Switch h w q = (q, refl)
 query_writes g examples entry.Fill h w q = (q, refl)
 query_writes g examples entry.Count h w q = (q, refl)
 query_writes g examples (entry.Answer row) h w q = (q, refl)
+query_writes g examples (entry.Best branch k) h w q = (q, refl)
 
 -- a question as an entry
 pub query_left : (g : Ground) (examples : List Example) (e : Entry) (r : Result Bool Halt) (old new : Option (List ℕ)) → IsQuery e

@@ -1,13 +1,16 @@
 -- Why the entries of a script have at most one report.
-use Rattle.std.proofs.Common.{◌≡◌, ℕ, List, [], ◌∷◌, length, None, Some, inl, inr, sym, ap, ◌∙◌, refl, subst}
+use Rattle.std.proofs.Common.{◌≡◌, ℕ, List, [], ◌∷◌, length, Option, None, Some, inl, inr, sym, ap, ◌∙◌, refl, subst}
 use Rattle.std.proofs.lemmas.Bool.{false≢true}
 use Rattle.std.proofs.lemmas.Option.{none-some, same_Some}
 use Rattle.std.specs.List.{AllZip, range_with_len}
+use Rattle.fill_text.specs.Data.{nth}
+use Rattle.fill_tree.specs.Tree.{Atoms}
 use Rattle.fill_tree.specs.declared.user.Edit.{Edit}
 use Rattle.fill_tree.specs.declared.user.Example.{Example}
 use Rattle.fill_script.specs.declared.script.Entry.{Entry}
 use Rattle.fill_script.specs.declared.script.Entry.TheVariants as entry
 use Rattle.fill_space.specs.declared.ground.Ground.{Ground}
+use Rattle.fill_space.proofs.Best.{best_are_one}
 use Rattle.fill_session.specs.Answers.{switch_of}
 use Rattle.fill_session.specs.Branches.{BranchData}
 use Rattle.fill_session.specs.declared.answer.Answer.{Answer}
@@ -15,8 +18,8 @@ use Rattle.fill_session.specs.declared.error.EditError.{EditError}
 use Rattle.fill_session.proofs.OneAnswer.{answer_is_one}
 use Rattle.fill_session.proofs.OneFate.{branches_are_one}
 use Rattle.fill_session.proofs.OneOutcome.{outcome_is_one}
-use Rattle.fill_report.specs.Entries.{AnswerWrites, EditWrites, EntryWrites, QueryWrites, refused, told}
-use Rattle.fill_report.specs.Records.{Fields, branch_records, refused_record, switch_record}
+use Rattle.fill_report.specs.Entries.{AnswerWrites, BestOf, BestWrites, EditWrites, EntryWrites, QueryWrites, refused, told}
+use Rattle.fill_report.specs.Records.{Fields, best_records, branch_records, refused_record, switch_record}
 use Rattle.fill_report.specs.Report.{IsReport, all_entries}
 use Rattle.fill_report.specs.Rows.{IsRowRecord, IsRowState, count_record, row_record, row_state}
 use Rattle.fill_report.specs.Runs.{Runs, Written, followed}
@@ -64,6 +67,16 @@ module _ (g : Ground) where
   row_is_one examples row w v (inr h) (inl k) = absurd (false≢true (sym h.0 ∙ k.0))
   row_is_one examples row w v (inr h) (inr k) = h.1 ∙ sym k.1
 
+  best_of_is_one : (examples : List Example) (branch k : ℕ) (o : Option BranchData) (w v : Written) → BestOf g examples branch k o w → BestOf g examples branch k o v → w ≡ v
+  best_of_is_one examples branch k None w v h x = h ∙ sym x
+  best_of_is_one examples branch k (Some b) w v h x =
+      h.2 ∙ ap (λ (ps : List Atoms). told g.sheet examples (entry.Best branch k) (best_records branch 1 ps)) (best_are_one g b.examples k h.0 x.0 h.1 x.1) ∙ sym x.2
+
+  best_is_one : (examples : List Example) (branch k : ℕ) (w v : Written) → BestWrites g examples branch k w → BestWrites g examples branch k v → w ≡ v
+  best_is_one examples branch k w v h x =
+      let same : h.0 ≡ x.0 = branches_are_one g examples h.0 x.0 h.1 x.1 in
+      best_of_is_one examples branch k (nth x.0 branch) w v (subst (λ (bs : List BranchData). BestOf g examples branch k (nth bs branch) w) same h.2) x.2
+
   query_is_one : (examples : List Example) (e : Entry) (w v : Written) → QueryWrites g examples e w → QueryWrites g examples e v → w ≡ v
   query_is_one examples (entry.Edit e) w v h k = absurd h
   query_is_one examples entry.Programs w v h k =
@@ -78,6 +91,7 @@ module _ (g : Ground) where
       let same : h.1.0 ≡ k.1.0 = zip_is_one (IsRowState g examples) (row_state_is_one examples) (range_with_len 1 (length g.sheet.rows)) h.1.0 k.1.0 h.1.1 k.1.1 in
       h.2 ∙ ap (λ (x : Fields). told g.sheet examples entry.Count (x ∷ [])) (h.1.2 ∙ ap count_record same ∙ sym k.1.2) ∙ sym k.2
   query_is_one examples (entry.Answer row) w v h k = row_is_one examples row w v h k
+  query_is_one examples (entry.Best branch k) w v h x = best_is_one examples branch k w v h x
 
   pub entry_is_one : (examples : List Example) (e : Entry) (w v : Written) (s t : List Example) → EntryWrites g examples e w s → EntryWrites g examples e v t → (w ≡ v) × (s ≡ t)
   entry_is_one examples (entry.Edit e) w v s t h k = edit_is_one examples e w v s t h k
@@ -86,6 +100,7 @@ module _ (g : Ground) where
   entry_is_one examples entry.Fill w v s t h k = (query_is_one examples entry.Fill w v h.0 k.0, h.1 ∙ sym k.1)
   entry_is_one examples entry.Count w v s t h k = (query_is_one examples entry.Count w v h.0 k.0, h.1 ∙ sym k.1)
   entry_is_one examples (entry.Answer row) w v s t h k = (query_is_one examples (entry.Answer row) w v h.0 k.0, h.1 ∙ sym k.1)
+  entry_is_one examples (entry.Best branch k) w v s t h x = (query_is_one examples (entry.Best branch k) w v h.0 x.0, h.1 ∙ sym x.1)
 
   pub report_is_one : (entries : List Entry) (w v : Written) → IsReport g entries w → IsReport g entries v → w ≡ v
   report_is_one entries w v h k =

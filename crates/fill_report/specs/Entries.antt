@@ -1,17 +1,19 @@
 -- What one entry writes, and which examples it leaves.
-use Rattle.std.specs.Prelude.{◌≡◌, ◌⊎◌, ℕ, ◌≤◌, List, [], ◌∷◌, length, true, false, None, Some, ⊤}
-use Rattle.fill_text.specs.Data.{SheetData}
+use Rattle.std.specs.Prelude.{◌≡◌, ◌⊎◌, ℕ, ◌≤◌, List, [], ◌∷◌, length, true, false, Option, None, Some, ⊤}
+use Rattle.fill_text.specs.Data.{SheetData, nth}
+use Rattle.fill_tree.specs.Tree.{Atoms}
 use Rattle.fill_tree.specs.declared.user.Edit.{Edit}
 use Rattle.fill_tree.specs.declared.user.Example.{Example}
 use Rattle.fill_script.specs.declared.script.Entry.{Entry}
 use Rattle.fill_script.specs.declared.script.Entry.TheVariants as entry
+use Rattle.fill_space.specs.Best.{AreBestOn}
 use Rattle.fill_space.specs.declared.ground.Ground.{Ground}
 use Rattle.fill_session.specs.Answers.{switch_of}
 use Rattle.fill_session.specs.Branches.{AreBranches, BranchData}
 use Rattle.fill_session.specs.Edits.{changed}
 use Rattle.fill_session.specs.Outcome.{OutcomeIs, is_row, term}
 use Rattle.fill_session.specs.declared.error.EditError.{EditError}
-use Rattle.fill_report.specs.Records.{Fields, branch_records, no_row_record, ok_record, refused_record, switch_record}
+use Rattle.fill_report.specs.Records.{Fields, best_records, branch_records, no_branch_record, no_row_record, ok_record, refused_record, switch_record}
 use Rattle.fill_report.specs.Rows.{AreRowRecords, AreRowStates, IsRowRecord, count_record}
 use Rattle.fill_report.specs.Runs.{Written, first_of}
 use Rattle.fill_report.specs.declared.rows.RowState.{RowState}
@@ -24,6 +26,7 @@ entry_term sheet examples entry.Switch = 0
 entry_term sheet examples entry.Fill = 0
 entry_term sheet examples entry.Count = 0
 entry_term sheet examples (entry.Answer row) = 0
+entry_term sheet examples (entry.Best branch k) = 0
 
 -- the entry is a question: it is no edit
 abbrev pub IsQuery : Entry → Type 0
@@ -33,6 +36,7 @@ IsQuery entry.Switch = ⊤
 IsQuery entry.Fill = ⊤
 IsQuery entry.Count = ⊤
 IsQuery (entry.Answer row) = ⊤
+IsQuery (entry.Best branch k) = ⊤
 
 -- what an entry that was made writes
 abbrev pub told : SheetData → List Example → Entry → List Fields → Written
@@ -66,6 +70,16 @@ AnswerWrites g examples row w =
     ((is_row g.sheet row ≡ true) × ((fields : Fields) × IsRowRecord g examples row fields × (w ≡ told g.sheet examples (entry.Answer row) (fields ∷ []))))
     ⊎ ((is_row g.sheet row ≡ false) × (w ≡ refused g.sheet examples (entry.Answer row) (no_row_record row)))
 
+-- the best programs of this branch, and a refusal where there is none
+abbrev pub BestOf : Ground → List Example → ℕ → ℕ → Option BranchData → Written → Type 0
+BestOf g examples branch k None w = w ≡ refused g.sheet examples (entry.Best branch k) (no_branch_record branch)
+BestOf g examples branch k (Some b) w =
+    (programs : List Atoms) × AreBestOn g b.examples k programs × (w ≡ told g.sheet examples (entry.Best branch k) (best_records branch 1 programs))
+
+-- the best programs of the branch of this number, from 1
+abbrev pub BestWrites : Ground → List Example → ℕ → ℕ → Written → Type 0
+BestWrites g examples branch k w = (branches : List BranchData) × AreBranches g examples branches × BestOf g examples branch k (nth branches branch) w
+
 -- what a question writes
 abbrev pub QueryWrites : Ground → List Example → Entry → Written → Type 0
 QueryWrites g examples (entry.Edit e) w = ⊥
@@ -75,6 +89,7 @@ QueryWrites g examples entry.Fill w =
     (records : List Fields) × AreRowRecords g examples (length g.sheet.rows) records × (w ≡ told g.sheet examples entry.Fill records)
 QueryWrites g examples entry.Count w = (fields : Fields) × IsCountRecord g examples fields × (w ≡ told g.sheet examples entry.Count (fields ∷ []))
 QueryWrites g examples (entry.Answer row) w = AnswerWrites g examples row w
+QueryWrites g examples (entry.Best branch k) w = BestWrites g examples branch k w
 
 -- where these examples are present, the entry writes this, and then the next examples are: a question leaves them
 abbrev pub EntryWrites : Ground → List Example → Entry → Written → List Example → Type 0
@@ -84,6 +99,7 @@ EntryWrites g examples entry.Switch w next = QueryWrites g examples entry.Switch
 EntryWrites g examples entry.Fill w next = QueryWrites g examples entry.Fill w × (next ≡ examples)
 EntryWrites g examples entry.Count w next = QueryWrites g examples entry.Count w × (next ≡ examples)
 EntryWrites g examples (entry.Answer row) w next = QueryWrites g examples (entry.Answer row) w × (next ≡ examples)
+EntryWrites g examples (entry.Best branch k) w next = QueryWrites g examples (entry.Best branch k) w × (next ≡ examples)
 
 -- the records of so many first rows
 abbrev pub FillBegins : Ground → List Example → Written → Type 0
@@ -103,3 +119,4 @@ EntryBegins g examples entry.Switch w = WritesFirst g examples entry.Switch w
 EntryBegins g examples entry.Fill w = FillBegins g examples w
 EntryBegins g examples entry.Count w = WritesFirst g examples entry.Count w
 EntryBegins g examples (entry.Answer row) w = WritesFirst g examples (entry.Answer row) w
+EntryBegins g examples (entry.Best branch k) w = WritesFirst g examples (entry.Best branch k) w

@@ -93,3 +93,16 @@ switch_record s = codes "switch" ∷ switch_field s ∷ []
 -- the record of an answer that was asked for on a row that the sheet has not
 abbrev pub no_row_record : ℕ → Fields
 no_row_record row = codes "refused" ∷ codes "answer" ∷ decimal row ∷ codes "no such row" ∷ []
+
+-- the record of the best program of a number, of a branch
+abbrev pub best_record : ℕ → ℕ → Atoms → Fields
+best_record branch n program = codes "best" ∷ decimal branch ∷ decimal n ∷ program_text program ∷ []
+
+-- the records of best programs of a branch, numbered from n on
+abbrev pub best_records : ℕ → ℕ → List Atoms → List Fields
+best_records branch n [] = []
+best_records branch n (p ∷ ps) = best_record branch n p ∷ best_records branch (n + 1) ps
+
+-- the record of best programs that were asked for of a branch that there is not
+abbrev pub no_branch_record : ℕ → Fields
+no_branch_record branch = codes "refused" ∷ codes "best" ∷ decimal branch ∷ codes "no such branch" ∷ []

@@ -1,12 +1,14 @@
 //! What one entry writes.
 ghost use Rattle.std.specs.Prelude.{◌≡◌, ◌↔◌, ◌≤◌, IsErrOf, IsTrue};
 ghost use Rattle.fill_edge.specs.Outside.{Rose};
+ghost use Rattle.fill_script.specs.Entries.{IsEntry};
 ghost use Rattle.fill_script.specs.declared.script.Entry.TheVariants as entry;
 ghost use Rattle.fill_report.specs.Counts.{AreKnown};
 ghost use Rattle.fill_report.specs.Entries.{EntryBegins, EntryWrites, IsQuery, QueryWrites};
 ghost use Rattle.fill_report.specs.Output.{Leaves};
 
 use crate::Halt;
+use crate::best::write_best;
 use crate::edits::{ok_record, refused_record};
 use crate::queries::{switch_record, write_answer, write_branches, write_made, write_rows};
 use crate::rows::{Counts, count_record};
@@ -60,6 +62,7 @@ fn write_query<O: Sink>(
     out: &mut O,
 ) -> Result<bool, Halt>
     requires query { IsQuery entry.now }
+    requires proper { IsEntry entry.now }
     requires known { AreKnown session.now.spaces.ground session.now.examples known.old }
     ensures known { AreKnown session.now.spaces.ground session.now.examples known.new }
     ensures leaves { Leaves (QueryWrites session.now.spaces.ground session.now.examples entry.now)
@@ -74,6 +77,7 @@ fn write_query<O: Sink>(
         Entry::Fill => write_rows(alloc, session, known, out),
         Entry::Count => write_made(count_record(alloc, session, known), false, out),
         Entry::Answer { row } => write_answer(alloc, session, *row, out),
+        Entry::Best { branch, k } => write_best(alloc, session, *branch, *k, out),
     }
 }
 
@@ -88,7 +92,8 @@ pub(crate) fn write_entry<O: Sink, L: Ledger>(
     out: &mut O,
     steps: &mut Steps<L>,
 ) -> Result<bool, Halt>
-    requires { AreKnown session.old.spaces.ground session.old.examples known.old }
+    requires proper { IsEntry entry.now }
+    requires known { AreKnown session.old.spaces.ground session.old.examples known.old }
     ensures known { AreKnown session.new.spaces.ground session.new.examples known.new }
     ensures ground { session.new.spaces.ground ≡ session.old.spaces.ground }
     ensures leaves { Leaves (λ w. EntryWrites session.old.spaces.ground session.old.examples entry.now w session.new.examples)

@@ -4,6 +4,7 @@
 //! a script. What a question writes follows from the examples that the edits before it leave.
 #![tactic(auto)]
 
+mod best;
 mod edits;
 mod entries;
 mod halt;

@@ -1,6 +1,7 @@
 //! The walk over all entries.
-ghost use Rattle.std.specs.Prelude.{◌≡◌, ◌≤◌, [], length, IfOk, IsErrOf};
+ghost use Rattle.std.specs.Prelude.{◌≡◌, ◌≤◌, [], length, All, IfOk, IsErrOf};
 ghost use Rattle.fill_edge.specs.Outside.{Rose};
+ghost use Rattle.fill_script.specs.Entries.{IsEntry};
 ghost use Rattle.fill_report.specs.Output.{Leaves};
 ghost use Rattle.fill_report.specs.Report.{EntriesBegin, EntriesWrite, Reports, ReportsPart, ReportsRecords, addition_at, additions};
 
@@ -76,6 +77,7 @@ fn write_entries<O: Sink, L: Ledger>(
     out: &mut O,
     steps: &mut Steps<L>,
 ) -> Result<bool, Halt>
+    requires { All IsEntry entries.now }
     ensures ground { session.new.spaces.ground ≡ session.old.spaces.ground }
     ensures leaves { let g = session.old.spaces.ground in
         Leaves (λ w. EntriesWrite g session.old.examples entries.now w session.new.examples) (EntriesBegin g session.old.examples entries.now)
@@ -105,7 +107,8 @@ pub fn write_report<O: Sink, L: Ledger>(
     out: &mut O,
     steps: &mut Steps<L>,
 ) -> Result<bool, Halt>
-    requires { session.old.examples ≡ [] }
+    requires empty { session.old.examples ≡ [] }
+    requires proper { All IsEntry entries.now }
     ensures whole { IfOk result (λ refused. Reports session.old.spaces.ground entries.now refused (O.written out.old) (O.written out.new) steps.old steps.new) }
     ensures part { IsErrOf result Halt.Fault → ReportsPart session.old.spaces.ground entries.now (O.written out.old) (O.written out.new) steps.old steps.new }
     ensures fault { IsErrOf result Halt.Fault → Rose (O.faults out.old) (O.faults out.new) }

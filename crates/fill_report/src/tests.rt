@@ -1,4 +1,5 @@
 //! What no clause says: the words of the format, and records as a sink gets them.
+use crate::best::no_branch_record;
 use crate::edits::{ok_record, reason_text, refused_record};
 use crate::queries::no_row_record;
 use crate::records::Record;
@@ -75,6 +76,8 @@ fn records_are_those_of_csv(rt: HostRuntime) -> Result<(), Fail> {
     let alloc = rt.alloc();
     let missing = no_row_record(alloc, 0)?;
     assert!(rt; is_written(alloc, &missing, b"refused,answer,0,no such row\n")?);
+    let absent = no_branch_record(alloc, 2)?;
+    assert!(rt; is_written(alloc, &absent, b"refused,best,2,no such branch\n")?);
     let row = Record::of(alloc, b"row")?
         .with_number(7)?
         .with(b"a,b")?

@@ -1,3 +1,4 @@
+pub mod Asked
 pub mod Later
 pub mod Lines
 pub mod Numbers

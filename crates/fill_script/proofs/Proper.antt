@@ -12,8 +12,8 @@ use Rattle.fill_tables.specs.Keys.{AreKeyColumns}
 use Rattle.fill_tree.specs.declared.user.Constants.{Constants}
 use Rattle.fill_tree.specs.declared.user.Constants.TheVariants.{Any}
 use Rattle.fill_script.specs.Line.{columns_in, constants_in, constants_of, depth_in, header_in, inputs_in, is_begin, is_text, key_from, key_in, name_in, number_between, output_in, profile_in, sheet_in, statement_in, table_from, table_in}
-use Rattle.fill_script.specs.Opening.{after_line, after_lines, after_statement, clashes, is_said, is_understood, is_wide, onward, unset, with_statement}
-use Rattle.fill_script.specs.Entries.{entries_from}
+use Rattle.fill_script.specs.Opening.{after_line, after_lines, after_statement, clashes, is_said, is_understood, is_wide, unset, with_statement}
+use Rattle.fill_script.specs.Entries.{IsEntry, entries_from}
 use Rattle.fill_tree.specs.Grammar.{AreSettings}
 use Rattle.fill_script.specs.Script.{IsScript, IsTableLine, assembled, read_script, script_from, script_with, unless_more}
 use Rattle.fill_script.specs.declared.error.ScriptError.{ScriptError}
@@ -24,6 +24,7 @@ use Rattle.fill_script.specs.declared.script.Script.{Script}
 use Rattle.fill_script.specs.declared.script.TableLine.TheVariants.{Table, Key}
 use Rattle.fill_script.specs.declared.statement.Statement.{Statement}
 use Rattle.fill_script.specs.declared.statement.Statement.TheVariants as says
+use Rattle.fill_script.proofs.Asked.{entries-proper, ok_same, onward_ok}
 use Rattle.fill_script.proofs.Lines.{columns-within, if_some, map_some, not_true, number-within}
 
 -- what is true of what a line says
@@ -175,9 +176,6 @@ statement-kept o (says.Profile profile) is says understood said = record { input
 refused : (e : ScriptError) (p : Opening) → (let r : Result Opening ScriptError = Err e in r ≡ Ok p) → IsOpening p
 refused e p is = cc
 
-ok_same : {A : Type 0} (x y : A) → (let r : Result A ScriptError = Ok x in r ≡ Ok y) → x ≡ y
-ok_same x y is = cc
-
 after_statement-kept : (o : Opening) (number : ℕ) (found : Option Statement) (p : Opening) → IsOpening o → ((s : Statement) → found ≡ Some s → IsStatement s) → after_statement o number found ≡ Ok p → IsOpening p
 after_statement-kept o number None p is proper made = refused (error.BadRecord number) p made
 after_statement-kept o number (Some s) p is proper made =
@@ -196,11 +194,6 @@ after_line-kept o number line p is made =
       | true ↦ λ found. after_statement-kept o number (statement_in number line) p is (statement-proper number line) found
       | false ↦ λ no. refused (error.NotUtf8 number) p no
     ] made
-
--- what a further step was made from
-onward_ok : {A B : Type 0} (f : A → Result B ScriptError) (r : Result A ScriptError) (y : B) → onward f r ≡ Ok y → (x : A) × (r ≡ Ok x) × (f x ≡ Ok y)
-onward_ok f (Ok x) y is = (x, refl, is)
-onward_ok f (Err e) y is = cc
 
 after_lines-kept : (o : Opening) (number : ℕ) (lines : List (List (List ℕ))) (p : Opening) → IsOpening o → after_lines o number lines ≡ Ok p → IsOpening p
 after_lines-kept o number [] p is made = subst IsOpening (ok_same o p made) is
@@ -245,17 +238,24 @@ output-apart inputs (Some output) column apart = (column output refl, not_among 
 not_read : (e : ScriptError) (script : Script) → (let r : Result Script ScriptError = Err e in r ≡ Ok script) → IsScript script
 not_read e script is = cc
 
-script_with-proper : (o : Opening) (sheet inputs : Option (List ℕ)) (entries : Result (List Entry) ScriptError) (script : Script) → IsOpening o → inputs ≡ o.inputs → script_with o sheet inputs entries ≡ Ok script → IsScript script
-script_with-proper o None inputs entries script is same made = not_read error.MissingSheet script made
-script_with-proper o (Some sheet) None entries script is same made = not_read error.MissingInputs script made
-script_with-proper o (Some sheet) (Some inputs) entries script is same made =
+script_with-proper : (o : Opening) (sheet inputs : Option (List ℕ)) (entries : Result (List Entry) ScriptError) (script : Script) → IsOpening o → inputs ≡ o.inputs
+    → ((es : List Entry) → entries ≡ Ok es → All IsEntry es) → script_with o sheet inputs entries ≡ Ok script → IsScript script
+script_with-proper o None inputs entries script is same asked made = not_read error.MissingSheet script made
+script_with-proper o (Some sheet) None entries script is same asked made = not_read error.MissingInputs script made
+script_with-proper o (Some sheet) (Some inputs) entries script is same asked made =
     let found = onward_ok (λ es. Ok (assembled o sheet inputs es)) entries script made in
     subst IsScript (ok_same (assembled o sheet inputs found.0) script found.2) (record {
       inputs = is.inputs inputs (sym same);
       output = output-apart inputs o.output is.output (rw same is.apart);
       tables = is.tables;
       settings = settings-proper o.depth o.profile o.constants is.depth is.profile;
+      entries = asked found.0 found.1;
     })
+
+unless_more-proper : (more : Bool) (r : Result (List Entry) ScriptError) → ((es : List Entry) → r ≡ Ok es → All IsEntry es) → (es : List Entry) → unless_more more r ≡ Ok es → All IsEntry es
+unless_more-proper false r asked es is = asked es is
+unless_more-proper true (Ok all) asked es is = cc
+unless_more-proper true (Err e) asked es is = cc
 
 script_from-proper : (lines : List (List (List ℕ))) (more : Bool) (place : Option ℕ) (script : Script) → script_from lines more place ≡ Ok script → IsScript script
 script_from-proper lines more None script made =
@@ -265,7 +265,8 @@ script_from-proper lines more None script made =
 script_from-proper lines more (Some place) script made =
     let entries = unless_more more (entries_from (place + 2) (drop (place + 1) lines)) in
     let found = onward_ok (λ (o : Opening). script_with o o.sheet o.inputs entries) (after_lines unset 1 (take place lines)) script made in
-    script_with-proper found.0 found.0.sheet found.0.inputs entries script (after_lines-kept unset 1 (take place lines) found.0 unset-proper found.1) refl found.2
+    script_with-proper found.0 found.0.sheet found.0.inputs entries script (after_lines-kept unset 1 (take place lines) found.0 unset-proper found.1) refl
+    (unless_more-proper more (entries_from (place + 2) (drop (place + 1) lines)) (entries-proper (place + 2) (drop (place + 1) lines))) found.2
 
 pub IfOk-map : {T E : Type 0} (r : Result T E) (P Q : T → Type 0) → ((x : T) → P x → Q x) → IfOk r P → IfOk r Q
 IfOk-map (Ok x) P Q f p = f x p

@@ -1,9 +1,9 @@
 -- The lines after `begin`.
-use Rattle.std.specs.Prelude.{ℕ, ◌+◌, ◌==◌, List, [], ◌∷◌, length, Option, Some, None, Result, Ok, Err, if◌then◌else◌, codes, option_map}
+use Rattle.std.specs.Prelude.{ℕ, ◌+◌, ◌==◌, ◌≤◌, ⊤, List, [], ◌∷◌, length, Option, Some, None, Result, Ok, Err, if◌then◌else◌, codes, option_map}
 use Rattle.std.specs.Str.{chars}
 use Rattle.fill_records.specs.Records.{field_of}
 use Rattle.fill_tree.specs.declared.user.Edit.TheVariants.{Add, Correct, Retract, Clear}
-use Rattle.fill_script.specs.Line.{is_text, is_word}
+use Rattle.fill_script.specs.Line.{is_text, is_word, number_between}
 use Rattle.fill_script.specs.Number.{number_in}
 use Rattle.fill_script.specs.Opening.{onward}
 use Rattle.fill_script.specs.declared.error.ScriptError.{ScriptError}
@@ -23,6 +23,27 @@ row_in line = if length line == 2 then number_in (field_of 2 line) else None
 abbrev pub row_text_in : List (List ℕ) → Option (ℕ × List ℕ)
 row_text_in line = if length line == 3 then option_map (λ row. (row, chars (field_of 3 line))) (number_in (field_of 2 line)) else None
 
+-- the branch and how many programs of it are asked for
+abbrev pub best_of : Option ℕ → Option ℕ → Option Entry
+best_of (Some branch) (Some k) = Some (entry.Best branch k)
+best_of (Some branch) None = None
+best_of None k = None
+
+-- the branch and the number from 1 to 20 of a line of three fields
+abbrev pub best_in : List (List ℕ) → Option Entry
+best_in line = if length line == 3 then best_of (number_in (field_of 2 line)) (number_between 1 20 (field_of 3 line)) else None
+
+-- what a line that is no edit asks for
+abbrev pub question_in : List (List ℕ) → Option Entry
+question_in line =
+    if is_word (codes "programs") line then alone entry.Programs line
+    else if is_word (codes "switch") line then alone entry.Switch line
+    else if is_word (codes "fill") line then alone entry.Fill line
+    else if is_word (codes "count") line then alone entry.Count line
+    else if is_word (codes "answer") line then option_map entry.Answer (row_in line)
+    else if is_word (codes "best") line then best_in line
+    else None
+
 -- what a line after `begin` asks for
 abbrev pub entry_in : List (List ℕ) → Option Entry
 entry_in line =
@@ -30,12 +51,7 @@ entry_in line =
     else if is_word (codes "correct") line then option_map (λ given. entry.Edit (Correct given.0 given.1)) (row_text_in line)
     else if is_word (codes "retract") line then option_map (λ row. entry.Edit (Retract row)) (row_in line)
     else if is_word (codes "clear") line then alone (entry.Edit Clear) line
-    else if is_word (codes "programs") line then alone entry.Programs line
-    else if is_word (codes "switch") line then alone entry.Switch line
-    else if is_word (codes "fill") line then alone entry.Fill line
-    else if is_word (codes "count") line then alone entry.Count line
-    else if is_word (codes "answer") line then option_map entry.Answer (row_in line)
-    else None
+    else question_in line
 
 abbrev pub understood : ℕ → Option Entry → Result Entry ScriptError
 understood number None = Err (error.BadRecord number)
@@ -53,3 +69,13 @@ before e es = Ok (e ∷ es)
 abbrev pub entries_from : ℕ → List (List (List ℕ)) → Result (List Entry) ScriptError
 entries_from number [] = Ok []
 entries_from number (line ∷ more) = onward (λ e. onward (before e) (entries_from (number + 1) more)) (entry_at number line)
+
+-- one to twenty programs are asked for where some are
+abbrev pub IsEntry : Entry → Type 0
+IsEntry (entry.Edit e) = ⊤
+IsEntry entry.Programs = ⊤
+IsEntry entry.Switch = ⊤
+IsEntry entry.Fill = ⊤
+IsEntry entry.Count = ⊤
+IsEntry (entry.Answer row) = ⊤
+IsEntry (entry.Best branch k) = (1 ≤ k) × (k ≤ 20)

@@ -1,5 +1,5 @@
 -- The session file: the script that its records spell, or the one refusal.
-use Rattle.std.specs.Prelude.{◌≡◌, ◌==◌, ℕ, ◌+◌, ◌≤◌, ◌⊎◌, List, length, take, drop, position, All, Option, Some, None, Result, Ok, Err, Bool, true, false, if◌then◌else◌, nat_lt, cond, unwrap_or, ⊤}
+use Rattle.std.specs.Prelude.{ℕ, ◌+◌, List, length, take, drop, position, All, Option, Some, None, Result, Ok, Err, Bool, true, false, if◌then◌else◌, nat_lt, unwrap_or, ⊤}
 use Rattle.fill_records.specs.Records.{records_of}
 use Rattle.fill_sheet.specs.Columns.{AreInputs, IsOutput}
 use Rattle.fill_tables.specs.Keys.{AreKeyColumns}
@@ -8,7 +8,7 @@ use Rattle.fill_tree.specs.declared.user.Constants.TheVariants.{Any}
 use Rattle.fill_tree.specs.declared.user.Settings.{Settings}
 use Rattle.fill_script.specs.Line.{is_begin}
 use Rattle.fill_script.specs.Opening.{unset, onward, after_lines}
-use Rattle.fill_script.specs.Entries.{entries_from}
+use Rattle.fill_script.specs.Entries.{IsEntry, entries_from}
 use Rattle.fill_script.specs.declared.error.ScriptError.{ScriptError}
 use Rattle.fill_script.specs.declared.error.ScriptError.TheVariants as error
 use Rattle.fill_script.specs.declared.opening.Opening.{Opening}
@@ -66,3 +66,4 @@ pub record IsScript (script : Script) : Type 0 where
   pub output : IsOutput script.inputs script.output
   pub tables : All IsTableLine script.tables
   pub settings : AreSettings script.settings
+  pub entries : All IsEntry script.entries

@@ -1,9 +1,9 @@
 //! The lines after `begin`.
 ghost use Rattle.std.specs.Prelude.{◌≡◌, ◌≢◌, ◌+◌, ◌<◌, ◌^◌, length, Ok, Err, IfOk, IfErr, IsTrue};
-ghost use Rattle.fill_script.specs.Entries.{alone, entries_from, entry_at, entry_in, row_in, row_text_in};
+ghost use Rattle.fill_script.specs.Entries.{alone, best_in, entries_from, entry_at, entry_in, question_in, row_in, row_text_in};
 ghost use Rattle.fill_script.specs.Line.{is_text};
 
-use crate::line::is_word;
+use crate::line::{is_word, number_between};
 use crate::number::number_in;
 use crate::{Entry, ScriptError};
 use fill_records::Record;
@@ -68,22 +68,32 @@ fn entry_in(alloc: Global, line: &Record) -> Result<Option<Entry>, NoMemory>
     if is_word(line, b"clear") {
         return Ok(alone(line, Entry::Edit(Edit::Clear)));
     }
+    Ok(question_in(line))
+}
+
+/// What a line that is no edit asks for.
+fn question_in(line: &Record) -> Option<Entry>
+    ensures { result ≡ question_in line.now }
+{
     if is_word(line, b"programs") {
-        return Ok(alone(line, Entry::Programs));
+        return alone(line, Entry::Programs);
     }
     if is_word(line, b"switch") {
-        return Ok(alone(line, Entry::Switch));
+        return alone(line, Entry::Switch);
     }
     if is_word(line, b"fill") {
-        return Ok(alone(line, Entry::Fill));
+        return alone(line, Entry::Fill);
     }
     if is_word(line, b"count") {
-        return Ok(alone(line, Entry::Count));
+        return alone(line, Entry::Count);
     }
     if is_word(line, b"answer") {
-        return Ok(row_in(line).map(|row| Entry::Answer { row }));
+        return row_in(line).map(|row| Entry::Answer { row });
     }
-    Ok(None)
+    if is_word(line, b"best") {
+        return best_in(line);
+    }
+    None
 }
 
 /// An entry, where the line is a word alone.
@@ -101,6 +111,18 @@ fn row_in(line: &Record) -> Option<u32>
         return None;
     }
     number_in(line.field(2))
+}
+
+/// The branch and the number of programs of a line of three fields.
+fn best_in(line: &Record) -> Option<Entry>
+    ensures { result ≡ best_in line.now }
+{
+    if line.len() != 3 {
+        return None;
+    }
+    let branch = number_in(line.field(2))?;
+    let k = number_between(1, 20, line.field(3))?;
+    Some(Entry::Best { branch, k })
 }
 
 /// The row and the text of a line of three fields.

@@ -62,6 +62,8 @@ pub enum Entry {
     Count,
     /// Print a row's answer.
     Answer { row: u32 },
+    /// Print the first `k` programs of a branch, 1 to 20 of them; all of them where they are fewer. Branches count from 1.
+    Best { branch: u32, k: u32 },
 }
 
 /// How many lines a session file may have.

@@ -1,6 +1,7 @@
 pub mod AllAnswered
 pub mod Answering
 pub mod Applied
+pub mod BestOfBranch
 pub mod CellCounts
 pub mod Compacting
 pub mod Fates

@@ -1,10 +1,11 @@
 //! Sessions.
-ghost use Rattle.std.specs.Prelude.{◌≡◌, ◌↔◌, ◌+◌, ◌≤◌, ⊤, List as Listed, length, [], Some, Ok, Err, Result, IfOk, OnErr, IsTrue, All, option_map};
+ghost use Rattle.std.specs.Prelude.{◌≡◌, ◌↔◌, ◌+◌, ◌≤◌, ⊤, List as Listed, length, map, [], Some, Ok, Err, Result, IfOk, OnErr, IsTrue, All, option_map};
 ghost use Rattle.fill_tree.specs.Grammar.{AreSettings};
 ghost use Rattle.fill_tree.specs.Meaning.{program_tree};
 ghost use Rattle.fill_tree.specs.Switch.{switch_tree};
 ghost use Rattle.fill_tree.specs.declared.user.Example.{Example};
 ghost use Rattle.fill_doubt.specs.Shapes.{ShapesStand};
+ghost use Rattle.fill_space.specs.Best.{AreBestOn, BeginsWithChosen};
 ghost use Rattle.fill_space.specs.Ground.{ExplainsOn, MayStand};
 ghost use Rattle.fill_space.specs.Spaces.{SpaceStands};
 ghost use Rattle.fill_session.specs.Answers.{AnswerIs, switch_of};
@@ -155,6 +156,21 @@ impl Session {
             IsTrue result ↔ ExplainsOn self.now.spaces.ground list (program_tree p.now) }
     {
         self.spaces.holds(self.space(branch), p)
+    }
+
+    /// The first `k` programs that explain the examples of a branch, by the order of programs; all of them where they are
+    /// fewer. The first one is the branch's own. Branches count from 1.
+    pub fn best(&self, alloc: Global, branch: u32, k: u32) -> Result<List<Program>, NoMemory>
+        requires first { 1 ≤ branch }
+        requires last { branch ≤ length self.now.branches }
+        requires some { 1 ≤ k }
+        requires few { k ≤ 20 }
+        ensures best { IfOk result (λ made. (list : Listed Example) → IsBranch self.now.spaces.ground self.now.examples branch list →
+            AreBestOn self.now.spaces.ground list k (map program_tree made)) }
+        ensures chosen { IfOk result (λ made. (list : Listed Example) → IsBranch self.now.spaces.ground self.now.examples branch list →
+            BeginsWithChosen self.now.spaces.ground list (map program_tree made)) }
+    {
+        self.spaces.best(alloc, self.space(branch), k)
     }
 
     /// The answer on a row of the sheet. Rows count from 1.

@@ -1,3 +1,4 @@
+pub mod Best
 pub mod Compacted
 pub mod Copies
 pub mod Growing

@@ -1,3 +1,4 @@
+pub mod Best
 pub mod Doubt
 pub mod Ground
 pub mod Met

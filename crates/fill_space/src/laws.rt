@@ -1,11 +1,12 @@
 //! Laws of the definitions that the contracts of this crate cite.
 //!
 //! Each function does nothing: what it tells is its clauses, which hold for all arenas, numbers and lists of examples.
-ghost use Rattle.std.specs.Prelude.{◌≡◌, ◌↔◌, ℕ, List};
+ghost use Rattle.std.specs.Prelude.{◌≡◌, ◌↔◌, ◌≤◌, ℕ, List};
 ghost use Rattle.fill_tree.specs.Tree.{Atoms};
 ghost use Rattle.fill_tree.specs.declared.user.Example.{Example};
 ghost use Rattle.fill_arena.specs.Contents.{Extends, IsGraph};
 ghost use Rattle.fill_arena.specs.WellMade.{IsWellMade};
+ghost use Rattle.fill_space.specs.Best.{AreBestOn, BeginsWithChosen};
 ghost use Rattle.fill_space.specs.Ground.{Ground, ExplainsOn, FitsOn, WeighsOn};
 ghost use Rattle.fill_space.specs.Spaces.{SpacesData, SpaceStands};
 
@@ -27,4 +28,10 @@ pub fn spaces_stand_for_the_same()
 /// Examples have at most one weight.
 pub fn one_weight()
     ensures { (g : Ground) (l : List Example) (v w : ℕ) → WeighsOn g l v → WeighsOn g l w → v ≡ w }
+{}
+
+/// Examples have at most one list of so many best programs. Where some program explains them, it begins with the chosen one.
+pub fn best_programs_are_one()
+    ensures one { (g : Ground) (l : List Example) (k : ℕ) (ps qs : List Atoms) → AreBestOn g l k ps → AreBestOn g l k qs → ps ≡ qs }
+    ensures chosen { (g : Ground) (l : List Example) (k : ℕ) (ps : List Atoms) → 1 ≤ k → FitsOn g l → AreBestOn g l k ps → BeginsWithChosen g l ps }
 {}

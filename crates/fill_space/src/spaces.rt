@@ -1,5 +1,5 @@
 //! Spaces, and what is asked of each.
-ghost use Rattle.std.specs.Prelude.{◌≡◌, ◌↔◌, ◌<◌, ◌≤◌, ℕ, List, length, IfOk, IsTrue, OnErr, OnOk};
+ghost use Rattle.std.specs.Prelude.{◌≡◌, ◌↔◌, ◌<◌, ◌≤◌, ℕ, List as Listed, length, map, IfOk, IsTrue, OnErr, OnOk};
 ghost use Rattle.std.specs.List.{AllZip};
 ghost use Rattle.fill_arena.specs.Contents.{EachIn};
 ghost use Rattle.fill_arena.specs.Named.{IsNamed};
@@ -7,6 +7,7 @@ ghost use Rattle.fill_tree.specs.Grammar.{AreSettings};
 ghost use Rattle.fill_tree.specs.Meaning.{program_tree};
 ghost use Rattle.fill_tree.specs.declared.user.Example.{Example};
 ghost use Rattle.fill_doubt.specs.Shapes.{ShapesStand};
+ghost use Rattle.fill_space.specs.Best.{AreBestOn};
 ghost use Rattle.fill_space.specs.Doubt.{IsDoubtful};
 ghost use Rattle.fill_space.specs.Ground.{ChosenOn, ExplainsOn};
 ghost use Rattle.fill_space.specs.Spaces.{SpaceStands, Succeeds, no_spaces};
@@ -19,7 +20,7 @@ use fill_arena::{Arena, GraphId};
 use fill_doubt::Shapes;
 use fill_sheet::Sheet;
 use fill_tables::Tables;
-use fill_text::NoMemory;
+use fill_text::{List, NoMemory};
 use fill_tree::{Program, Settings};
 use std::alloc::Global;
 use std::marker::Model;
@@ -102,26 +103,37 @@ impl Spaces {
 
     /// The chosen program of the examples that the space stands for.
     pub fn least(&self, alloc: Global, s: Space) -> Result<Program, NoMemory>
-        requires { (l : List Example) × SpaceStands self.now s l }
-        ensures { IfOk result (λ p. (l : List Example) → SpaceStands self.now s l → ChosenOn self.now.ground l (program_tree p)) }
+        requires { (l : Listed Example) × SpaceStands self.now s l }
+        ensures { IfOk result (λ p. (l : Listed Example) → SpaceStands self.now s l → ChosenOn self.now.ground l (program_tree p)) }
     {
         fill_rank::least(alloc, &self.arena, s.graph())
     }
 
+    /// The first `k` programs that explain the examples that the space stands for, by the order of programs; all of them
+    /// where they are fewer.
+    pub fn best(&self, alloc: Global, s: Space, k: u32) -> Result<List<Program>, NoMemory>
+        requires stands { (l : Listed Example) × SpaceStands self.now s l }
+        requires some { 1 ≤ k }
+        requires few { k ≤ 20 }
+        ensures { IfOk result (λ made. (l : Listed Example) → SpaceStands self.now s l → AreBestOn self.now.ground l k (map program_tree made)) }
+    {
+        fill_best::best(alloc, &self.arena, s.graph(), k)
+    }
+
     /// Whether the program explains the examples that the space stands for.
     pub fn holds(&self, s: Space, p: &Program) -> bool
-        requires { (l : List Example) × SpaceStands self.now s l }
-        ensures { (l : List Example) → SpaceStands self.now s l → IsTrue result ↔ ExplainsOn self.now.ground l (program_tree p.now) }
+        requires { (l : Listed Example) × SpaceStands self.now s l }
+        ensures { (l : Listed Example) → SpaceStands self.now s l → IsTrue result ↔ ExplainsOn self.now.ground l (program_tree p.now) }
     {
         self.arena.holds(s.graph(), p)
     }
 
     /// Whether two programs that explain the examples of the space answer differently on a row. Rows count from 1.
     pub fn doubt(&self, alloc: Global, s: Space, row: u32) -> Result<bool, NoMemory>
-        requires stands { (l : List Example) × SpaceStands self.now s l }
+        requires stands { (l : Listed Example) × SpaceStands self.now s l }
         requires first { 1 ≤ row }
         requires last { row ≤ length self.now.ground.sheet.rows }
-        ensures { IfOk result (λ b. (l : List Example) → SpaceStands self.now s l → IsTrue b ↔ IsDoubtful self.now.ground l row) }
+        ensures { IfOk result (λ b. (l : Listed Example) → SpaceStands self.now s l → IsTrue b ↔ IsDoubtful self.now.ground l row) }
     {
         let mut shapes = Shapes::new(alloc);
         self.doubt_with(alloc, &mut shapes, s, row)
@@ -135,12 +147,12 @@ impl Spaces {
         s: Space,
         row: u32,
     ) -> Result<bool, NoMemory>
-        requires stands { (l : List Example) × SpaceStands self.now s l }
+        requires stands { (l : Listed Example) × SpaceStands self.now s l }
         requires first { 1 ≤ row }
         requires last { row ≤ length self.now.ground.sheet.rows }
         requires shapes { ShapesStand self.now.arena shapes.old }
         ensures shapes { ShapesStand self.now.arena shapes.new }
-        ensures flag { IfOk result (λ b. (l : List Example) → SpaceStands self.now s l → IsTrue b ↔ IsDoubtful self.now.ground l row) }
+        ensures flag { IfOk result (λ b. (l : Listed Example) → SpaceStands self.now s l → IsTrue b ↔ IsDoubtful self.now.ground l row) }
     {
         let ground = &self.ground;
         fill_doubt::doubt_with(
@@ -159,7 +171,7 @@ impl Spaces {
     /// Each listed space is replaced by one that stands for the same examples. Other spaces, and marks that were taken
     /// before, are void. It takes no step, and time that is linear in the sets and graphs so far.
     pub fn compact(&mut self, alloc: Global, live: &mut [Space]) -> Result<(), NoMemory>
-        requires { EachIn (λ k. (l : List Example) × SpaceStands self.old k l) live.old }
+        requires { EachIn (λ k. (l : Listed Example) × SpaceStands self.old k l) live.old }
         ensures length { length live.new ≡ length live.old }
         ensures ground { self.new.ground ≡ self.old.ground }
         ensures stand { OnOk result (AllZip (Succeeds self.old self.new) live.old live.new) }

@@ -1,3 +1,5 @@
+use Rattle.std.proofs.Common.{subst}
+use Rattle.fill_script.specs.Entries.{IsEntry}
 use Rattle.fill_script.specs.declared.script.Entry.TheVariants as entry
 use Rattle.fill_report.proofs.Questions.{as_this, branches_left, count_left, few_shown, switch_left}
 use Rattle.fill_report.proofs.entries.write_query.Goals as goal
@@ -22,3 +24,9 @@ returns-in-Count-clause-leaves g c =
     let s = c.args.session.now in
     as_this s.spaces.ground s.examples c.args.entry.now entry.Count c.write_made-in-Count.result _ _ c.in-Count.is
     (count_left s.spaces.ground s.examples c.count_record.result c.write_made-in-Count.result _ _ c.count_record.ensures.made c.write_made-in-Count.ensures.leaves)
+
+pub write_best-requires-clause-some : goal.write_best-requires-clause-some
+write_best-requires-clause-some g c = (subst IsEntry c.in-Best.is c.requires.proper).0
+
+pub write_best-requires-clause-few : goal.write_best-requires-clause-few
+write_best-requires-clause-few g c = (subst IsEntry c.in-Best.is c.requires.proper).1

@@ -8,7 +8,7 @@ returns-in-Err-clause-part g c = λ h.
     let s = c.args.session.now in
     let entries = c.args.entries.now in
     leaves_part (IsReport s.spaces.ground entries) (BeginsReport s.spaces.ground entries) (Err c.in-Err.halt) _ _ _ _
-    (report_opening s.spaces.ground s.examples entries (g.O.Sink.written c.args.out.now) c.args.steps.now c.requires c.write_additions.new.session.examples c.in-Err.halt
+    (report_opening s.spaces.ground s.examples entries (g.O.Sink.written c.args.out.now) c.args.steps.now c.requires.empty c.write_additions.new.session.examples c.in-Err.halt
     (g.O.Sink.written c.write_additions.new.out) c.write_additions.new.steps c.in-Err.ensures.leaves) h
 
 pub returns-in-Err-clause-memory : goal.returns-in-Err-clause-memory
@@ -16,13 +16,13 @@ returns-in-Err-clause-memory g c = λ h.
     let s = c.args.session.now in
     let entries = c.args.entries.now in
     leaves_records (IsReport s.spaces.ground entries) (BeginsReport s.spaces.ground entries) (Err c.in-Err.halt) _ _ _ _
-    (report_opening s.spaces.ground s.examples entries (g.O.Sink.written c.args.out.now) c.args.steps.now c.requires c.write_additions.new.session.examples c.in-Err.halt
+    (report_opening s.spaces.ground s.examples entries (g.O.Sink.written c.args.out.now) c.args.steps.now c.requires.empty c.write_additions.new.session.examples c.in-Err.halt
     (g.O.Sink.written c.write_additions.new.out) c.write_additions.new.steps c.in-Err.ensures.leaves) h
 
 pub returns-then-opening-clause-whole : goal.returns-then-opening-clause-whole
 returns-then-opening-clause-whole g c =
     let s = c.args.session.now in
-    report_whole s.spaces.ground s.examples c.args.entries.now (g.O.Sink.written c.args.out.now) c.args.steps.now c.requires
+    report_whole s.spaces.ground s.examples c.args.entries.now (g.O.Sink.written c.args.out.now) c.args.steps.now c.requires.empty
     c.write_additions.new.session.spaces.ground c.write_additions.new.session.examples c.write_entries.new.session.examples c.in-Ok.refused
     (g.O.Sink.written c.write_additions.new.out) (g.O.Sink.written c.write_entries.new.out) c.write_additions.new.steps c.write_entries.new.steps c.in-Ok.ensures.ground
     c.in-Ok.ensures.leaves c.in-Ok-write_entries.refused c.in-Ok.refused (flag_then c.in-Ok.refused c.in-Ok-write_entries.refused c.in-Ok.refused c.if-opening.true c.if-opening.true)
@@ -32,7 +32,7 @@ pub returns-else-opening-clause-whole : goal.returns-else-opening-clause-whole
 returns-else-opening-clause-whole g c =
     let s = c.args.session.now in
     let flag = c.in-Ok-write_entries.refused in
-    report_whole s.spaces.ground s.examples c.args.entries.now (g.O.Sink.written c.args.out.now) c.args.steps.now c.requires
+    report_whole s.spaces.ground s.examples c.args.entries.now (g.O.Sink.written c.args.out.now) c.args.steps.now c.requires.empty
     c.write_additions.new.session.spaces.ground c.write_additions.new.session.examples c.write_entries.new.session.examples c.in-Ok.refused
     (g.O.Sink.written c.write_additions.new.out) (g.O.Sink.written c.write_entries.new.out) c.write_additions.new.steps c.write_entries.new.steps c.in-Ok.ensures.ground
     c.in-Ok.ensures.leaves flag flag (flag_else c.in-Ok.refused flag flag c.if-opening.false refl)
@@ -43,7 +43,7 @@ returns-in-Err-write_entries-clause-part g c = λ h.
     let s = c.args.session.now in
     let entries = c.args.entries.now in
     leaves_part (IsReport s.spaces.ground entries) (BeginsReport s.spaces.ground entries) (Err c.in-Err-write_entries.halt) _ _ _ _
-    (report_entries s.spaces.ground s.examples entries (g.O.Sink.written c.args.out.now) c.args.steps.now c.requires
+    (report_entries s.spaces.ground s.examples entries (g.O.Sink.written c.args.out.now) c.args.steps.now c.requires.empty
     c.write_additions.new.session.spaces.ground c.write_additions.new.session.examples c.write_entries.new.session.examples c.in-Ok.refused
     (g.O.Sink.written c.write_additions.new.out) (g.O.Sink.written c.write_entries.new.out) c.write_additions.new.steps c.write_entries.new.steps c.in-Ok.ensures.ground
     c.in-Ok.ensures.leaves c.in-Err-write_entries.halt c.in-Err-write_entries.ensures.leaves) h
@@ -53,7 +53,7 @@ returns-in-Err-write_entries-clause-memory g c = λ h.
     let s = c.args.session.now in
     let entries = c.args.entries.now in
     leaves_records (IsReport s.spaces.ground entries) (BeginsReport s.spaces.ground entries) (Err c.in-Err-write_entries.halt) _ _ _ _
-    (report_entries s.spaces.ground s.examples entries (g.O.Sink.written c.args.out.now) c.args.steps.now c.requires
+    (report_entries s.spaces.ground s.examples entries (g.O.Sink.written c.args.out.now) c.args.steps.now c.requires.empty
     c.write_additions.new.session.spaces.ground c.write_additions.new.session.examples c.write_entries.new.session.examples c.in-Ok.refused
     (g.O.Sink.written c.write_additions.new.out) (g.O.Sink.written c.write_entries.new.out) c.write_additions.new.steps c.write_entries.new.steps c.in-Ok.ensures.ground
     c.in-Ok.ensures.leaves c.in-Err-write_entries.halt c.in-Err-write_entries.ensures.leaves) h
