@@ -179,6 +179,12 @@ fn lines_after_begin(rt: HostRuntime) -> Result<(), Fail> {
         (b"answer,0", None),
         (b"answer,007", BAD_ENTRY),
         (b"answer", BAD_ENTRY),
+        (b"best,0,1", None),
+        (b"best,1,20", None),
+        (b"best,1,0", BAD_ENTRY),
+        (b"best,1,21", BAD_ENTRY),
+        (b"best,1", BAD_ENTRY),
+        (b"best,1,2,3", BAD_ENTRY),
         (b"begin", BAD_ENTRY),
         (b"header", BAD_ENTRY),
         (b"object,1,x", BAD_ENTRY),
@@ -258,7 +264,8 @@ fn is_entry(place: usize, entry: &Entry) -> bool {
         5 => matches!(entry, Entry::Switch),
         6 => matches!(entry, Entry::Fill),
         7 => matches!(entry, Entry::Count),
-        _ => matches!(entry, Entry::Answer { row: 7 }),
+        8 => matches!(entry, Entry::Answer { row: 7 }),
+        _ => matches!(entry, Entry::Best { branch: 8, k: 20 }),
     }
 }
 
@@ -268,7 +275,7 @@ fn are_entries(entries: &[Entry]) -> bool {
             return false;
         }
     }
-    entries.len() == 9
+    entries.len() == 10
 }
 
 /// Whether the script has the sheet, the columns and the settings of the whole script.
@@ -292,7 +299,7 @@ fn are_tables(tables: &[TableLine]) -> bool {
 #[test]
 fn a_whole_script(rt: HostRuntime) -> Result<(), Fail> {
     let bytes =
-        b"table,t,t.csv\nprofile,2\nkey,t,2,1\nheader\noutput,3\ndepth,3\ninputs,2,1\nconstants,separators\nsheet,s.csv\nbegin\nadd,2,x\ncorrect,2,\nretract,2\nclear\nprograms\nswitch\nfill\ncount\nanswer,7\n";
+        b"table,t,t.csv\nprofile,2\nkey,t,2,1\nheader\noutput,3\ndepth,3\ninputs,2,1\nconstants,separators\nsheet,s.csv\nbegin\nadd,2,x\ncorrect,2,\nretract,2\nclear\nprograms\nswitch\nfill\ncount\nanswer,7\nbest,8,20\n";
     let script = Script::read(rt.alloc(), bytes)?;
     assert!(rt; has_settings(&script));
     assert!(rt; are_tables(script.tables.as_slice()));

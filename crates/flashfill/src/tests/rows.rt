@@ -44,7 +44,14 @@ fn check(rt: &impl Abort, alloc: Global, row: Row, most: usize) -> Result<(), Fa
 
 #[test]
 fn one_branch_fills_the_sheet(rt: HostRuntime) -> Result<(), Fail> {
-    let rows: [Row; 6] = [
+    let rows: [Row; 7] = [
+        // The best programs, in order.
+        (
+            b"John Smith\n",
+            b"sheet,sheet.csv\ninputs,1\nbegin\nadd,1,Smith\nbest,1,3\n",
+            0,
+            b"ok,add,1\nbest,1,1,\"Concat(Sub(Col(1),Pos([],[Upper],-1),CPos(-1)))\"\nbest,1,2,\"Concat(Sub(Col(1),Pos([],[Alpha],-1),CPos(-1)))\"\nbest,1,3,\"Concat(Sub(Col(1),Pos([],[Word],-1),CPos(-1)))\"\n",
+        ),
         // A pattern that no constant follows.
         (
             b"Ab Cd\nEfgh Ijk\nMn Op\nXy\nBc De Fg\n\"\"\n",
@@ -96,7 +103,14 @@ fn one_branch_fills_the_sheet(rt: HostRuntime) -> Result<(), Fail> {
 
 #[test]
 fn refused_edits_are_told(rt: HostRuntime) -> Result<(), Fail> {
-    let rows: [Row; 5] = [
+    let rows: [Row; 6] = [
+        // No such branch.
+        (
+            b"John Smith\n",
+            b"sheet,sheet.csv\ninputs,1\nbegin\nadd,1,\nbest,1,20\nbest,2,1\nbest,0,1\n",
+            1,
+            b"ok,add,1\nbest,1,1,Concat()\nrefused,best,2,no such branch\nrefused,best,0,no such branch\n",
+        ),
         // No row.
         (
             b"",
