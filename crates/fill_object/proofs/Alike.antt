@@ -1,17 +1,16 @@
 -- Trees of the same value: what is made of them has the same value too.
-use Rattle.std.proofs.Common.{◌≡◌, ◌↔◌, ℕ, List, [], ◌∷◌, Option, Some, refl, sym, ap, subst, ◌∙◌}
+use Rattle.std.proofs.Common.{◌≡◌, ◌↔◌, ℕ, List, [], ◌∷◌, Option, Some, sym, ap, subst}
 use Rattle.fill_text.specs.Data.{SheetData, TableData}
 use Rattle.fill_text.specs.Orders.{AtMost}
 use Rattle.fill_tokens.specs.Value.{HasValue}
 use Rattle.fill_tokens.specs.declared.place.Place.{Place}
 use Rattle.fill_tree.specs.Grammar.{IsPart}
-use Rattle.fill_tree.specs.Tree.{SourceTree, AtomTree, Atoms, constant, whole, sub, more}
-use Rattle.fill_tree.specs.Value.{IsValue, IsFilled, IsPieceBetween, IsJoined, IsHeadAndTail, LooksUp, SourceIs, AtomIs, ConditionIs, ConditionsAre, ProgramIs}
+use Rattle.fill_tree.specs.Tree.{SourceTree, AtomTree, constant, whole, sub}
+use Rattle.fill_tree.specs.Value.{IsValue, IsFilled, IsPieceBetween, IsJoined, IsHeadAndTail, LooksUp, SourceIs, AtomIs, ConditionIs}
 use Rattle.fill_eval.proofs.Values.{alike}
 use Rattle.fill_rank.specs.Rank.{source_rank, atom_rank}
 use Rattle.fill_rank.proofs.Best.{at_most-trans, source_rank-total, source_rank-exact, atom_rank-total, atom_rank-exact}
 use Rattle.fill_object.specs.Kinds.{sources_on, atoms_on}
-use Rattle.fill_object.specs.Leasts.{Kind}
 use Rattle.fill_object.specs.Pieces.{text_or_empty}
 use Rattle.fill_object.specs.declared.row.OnRow.{OnRow}
 use Rattle.fill_object.specs.declared.valued.ValuedSource.{ValuedSource}
@@ -34,9 +33,6 @@ piece_alike P Q same p q v = (piece_on P Q (λ u. (same u).0) p q v, piece_on Q 
 
 -- places that have the same values in the one text
 module _ (P : List ℕ → Type 0) (o : Option (List ℕ)) (is : IsValue P o) where
-  abbrev Text : List ℕ
-  Text = text_or_empty o
-
   moved : (p q r s : Place) → ((k : ℕ) → HasValue p (text_or_empty o) k → HasValue r (text_or_empty o) k) →
       ((k : ℕ) → HasValue q (text_or_empty o) k → HasValue s (text_or_empty o) k) → (v : List ℕ) → IsPieceBetween P p q v → IsPieceBetween P r s v
   moved p q r s f g v h =

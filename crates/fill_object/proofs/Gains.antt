@@ -1,14 +1,13 @@
 -- Lists that serve for what has a property, as more is put to them.
-use Rattle.std.proofs.Common.{◌≡◌, ◌⊎◌, ℕ, zero, suc, ◌+◌, ◌<◌, ◌≤◌, List, [], ◌∷◌, ◌++◌, length, Option, Some, None, slice_get, inl, inr, refl, sym, ap, subst, ◌∙◌, arith}
+use Rattle.std.proofs.Common.{◌≡◌, ◌⊎◌, ℕ, ◌+◌, ◌≤◌, List, [], ◌∷◌, ◌++◌, length, Option, Some, slice_get, inl, inr, refl, sym, subst, ◌∙◌, arith}
 use Rattle.std.specs.declared.cmp.Ordering.{Ordering}
 use Rattle.std.specs.Cmp.{IsTotalOrder}
 use Rattle.std.proofs.Math.ListN.{set}
 use Rattle.std.proofs.lemmas.Bool.{cases_lt, cases_eq}
 use Rattle.std.proofs.lemmas.Option.{slice_get_within}
 use Rattle.std.proofs.lemmas.Map.Lookups.{CmpEqualImpliesEq}
-use Rattle.fill_text.specs.Orders.{AtMost}
 use Rattle.fill_tree.specs.Value.{IsValue}
-use Rattle.fill_arena.specs.Contents.{In, EachIn, SomeIn}
+use Rattle.fill_arena.specs.Contents.{SomeIn}
 use Rattle.fill_arena.proofs.Lists.{get_left, get_last, get_pushed}
 use Rattle.fill_rank.specs.Sets.{SomeBelow}
 use Rattle.fill_rank.proofs.Best.{at_most-itself, at_most-trans}

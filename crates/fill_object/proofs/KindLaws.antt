@@ -1,7 +1,6 @@
 -- Serving keeps to its laws for places, sources and atoms; one more of them with its value.
 use Rattle.std.proofs.Common.{◌≡◌, ℕ, List, Option, None, Some, slice_get, refl, sym, subst}
 use Rattle.std.specs.Option.{MatchOption}
-use Rattle.fill_text.specs.Orders.{AtMost}
 use Rattle.fill_tokens.specs.Value.{HasValue}
 use Rattle.fill_tokens.specs.declared.place.Place.{Place}
 use Rattle.fill_tokens.proofs.ValueLaws.{one_value}
@@ -15,7 +14,7 @@ use Rattle.fill_arena.specs.declared.entry.Entry.TheVariants.{Places}
 use Rattle.fill_rank.specs.Rank.{place_rank, source_rank, atom_rank}
 use Rattle.fill_rank.proofs.Best.{at_most-itself, source_rank-total, source_rank-exact, atom_rank-total, atom_rank-exact}
 use Rattle.fill_object.specs.Kinds.{atoms_on, sources_on, spots_in}
-use Rattle.fill_object.specs.Leasts.{AreLeasts, Gains, Kind, Takes}
+use Rattle.fill_object.specs.Leasts.{AreLeasts, Gains, Takes}
 use Rattle.fill_object.specs.declared.row.OnRow.{OnRow}
 use Rattle.fill_object.specs.declared.valued.Spot.{Spot}
 use Rattle.fill_object.specs.declared.valued.ValuedSource.{ValuedSource}

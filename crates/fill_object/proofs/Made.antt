@@ -1,11 +1,10 @@
 -- What is made of trees that serve for a set serves for what is made of all of the set.
-use Rattle.std.proofs.Common.{◌≡◌, ◌≢◌, ◌⊎◌, ◌↔◌, inl, inr, ℕ, List, Option, Some, slice_get, refl, sym, ap, subst, ◌∙◌}
+use Rattle.std.proofs.Common.{◌≡◌, ◌≢◌, ◌⊎◌, inl, inr, ℕ, List, Option, Some, slice_get, refl, sym, ap, subst}
 use Rattle.fill_text.specs.Orders.{AtMost}
 use Rattle.fill_tokens.specs.Value.{HasValue}
 use Rattle.fill_tokens.specs.declared.place.Place.{Place}
-use Rattle.fill_tree.specs.Grammar.{HasPart}
 use Rattle.fill_tree.specs.Meaning.{program_tree, source_tree}
-use Rattle.fill_tree.specs.Tree.{SourceTree, AtomTree, Atoms, col, select, constant, whole, sub}
+use Rattle.fill_tree.specs.Tree.{SourceTree, AtomTree, col, select, constant, whole, sub}
 use Rattle.fill_tree.specs.Value.{IsValue, SourceIs, ConditionsAre}
 use Rattle.fill_tree.specs.declared.tree.Program.{Program}
 use Rattle.fill_arena.specs.Contents.{SomeIn}
@@ -16,12 +15,12 @@ use Rattle.fill_arena.specs.declared.entry.Entry.{Entry}
 use Rattle.fill_arena.specs.declared.entry.Entry.TheVariants.{Atoms as Listed}
 use Rattle.fill_arena.specs.declared.entry.SelectItem.{SelectItem}
 use Rattle.fill_arena.specs.declared.entry.SourceItem.TheVariants.{Col, Select}
-use Rattle.fill_rank.specs.Rank.{place_rank, source_rank, atom_rank}
+use Rattle.fill_rank.specs.Rank.{place_rank, source_rank}
 use Rattle.fill_rank.specs.Sets.{ConstantFits, PartFits, PartStands}
 use Rattle.fill_rank.proofs.Best.{at_most-itself, source_rank-total, source_rank-exact}
-use Rattle.fill_object.specs.Kinds.{atoms_on, rows_on, sources_on, spots_in}
-use Rattle.fill_object.specs.Leasts.{AreLeasts, Kind}
-use Rattle.fill_object.specs.Pieces.{IsPieceBetweenSpots, IsPieceOf, IsPieceTo, text_or_empty}
+use Rattle.fill_object.specs.Kinds.{atoms_on, sources_on, spots_in}
+use Rattle.fill_object.specs.Leasts.{AreLeasts}
+use Rattle.fill_object.specs.Pieces.{IsPieceBetweenSpots, IsPieceOf, text_or_empty}
 use Rattle.fill_object.specs.Rows.{AreRows, IsSelectBy}
 use Rattle.fill_object.specs.declared.row.OnRow.{OnRow}
 use Rattle.fill_object.specs.declared.valued.Spot.{Spot}
@@ -42,9 +41,6 @@ module _ (on : OnRow) where
 
   -- wholes of sources
   module _ (s : ℕ) (sources : List ValuedSource) (are : AreLeasts (sources_on on) (SourceStands on.arena.now s) sources) where
-    abbrev IsWhole : AtomTree → Type 0
-    IsWhole a = SomeIn (λ x. a ≡ whole (source_tree x.source)) sources
-
     pub whole_fits : (a : AtomTree) → SomeIn (λ x. a ≡ whole (source_tree x.source)) sources → PartFits on.arena.now (Whole s) a
     whole_fits a h = subst (PartFits on.arena.now (Whole s)) (sym h.2) (tt, (are.each h.1.0 h.0 h.1.1).0)
 

@@ -1,5 +1,5 @@
 -- What the search for the least rest from the first node on tells of a graph's programs.
-use Rattle.std.proofs.Common.{◌≡◌, inl, inr, ℕ, ◌-◌, List, Option, None, Some, slice_get, sym, subst}
+use Rattle.std.proofs.Common.{◌≡◌, inl, inr, ℕ, ◌-◌, List, Option, Some, slice_get, sym, subst}
 use Rattle.std.specs.declared.cmp.Ordering.{Ordering}
 use Rattle.std.specs.declared.cmp.Ordering.TheVariants.{Less}
 use Rattle.std.specs.Ordering.{ordering_reverse}
@@ -13,7 +13,7 @@ use Rattle.fill_arena.specs.Stands.{ProgramStands, Walks}
 use Rattle.fill_arena.specs.declared.entry.Edge.{Edge}
 use Rattle.fill_arena.specs.declared.entry.Entry.TheVariants.{Graph}
 use Rattle.fill_rank.specs.Rank.{IsBest}
-use Rattle.fill_object.specs.Objector.{Answers, IsObjection, Objects}
+use Rattle.fill_object.specs.Objector.{Answers, IsObjection}
 use Rattle.fill_object.specs.Pieces.{text_or_empty}
 use Rattle.fill_object.specs.Wants.{Agrees, RestAgrees, wanted_first}
 use Rattle.fill_object.specs.declared.graph.Objection.{Objection}

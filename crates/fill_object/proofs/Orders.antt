@@ -1,7 +1,6 @@
 -- The orders of what is made of parts.
-use Rattle.std.proofs.Common.{◌≡◌, ◌⊎◌, ℕ, ◌+◌, inl, inr, refl, ap, sym, subst, ◌∙◌, arith}
+use Rattle.std.proofs.Common.{◌≡◌, ℕ, ◌+◌, refl, ap, sym, subst, ◌∙◌, arith}
 use Rattle.std.specs.declared.cmp.Ordering.{Ordering}
-use Rattle.std.specs.declared.cmp.Ordering.TheVariants.{Less, Equal, Greater}
 use Rattle.std.specs.Ordering.{nat_cmp, ordering_then}
 use Rattle.std.specs.Cmp.{IsTotalOrder}
 use Rattle.std.proofs.lemmas.Map.Lookups.{CmpEqualImpliesEq}
@@ -35,12 +34,6 @@ program-total = rank_total program_cost atoms_cmp atoms_total
 
 pub program-exact : CmpEqualImpliesEq program_cmp
 program-exact = rank_exact program_cost atoms_cmp exact_atom_lists
-
--- what is not greater is at most
-pub not_greater : (o : Ordering) → ¬ (o ≡ Greater) → AtMost o
-not_greater Less h = inl refl
-not_greater Equal h = inr refl
-not_greater Greater h = absurd (h refl)
 
 pub whole-at_most : (x y : SourceTree) → AtMost (source_rank x y) → AtMost (atom_rank (whole x) (whole y))
 whole-at_most x y h = subst (λ o. AtMost (ordering_then o (source_cmp x y))) (sym (nat_cmp-add 2 (source_cost x) (source_cost y))) h

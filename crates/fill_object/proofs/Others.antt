@@ -1,9 +1,8 @@
 -- The least of what does not answer as said.
-use Rattle.std.proofs.Common.{Vec, Global, ◌≡◌, ◌≢◌, ◌⊎◌, ◌↔◌, ℕ, suc, ◌+◌, ◌-◌, ◌<◌, ◌≤◌, ◌^◌, List, [], ◌∷◌, ◌++◌, get_or, length, Option, None, Some, option_map, slice_get, inl, inr, refl, sym, ap, subst, ◌∙◌, arith}
+use Rattle.std.proofs.Common.{Vec, Global, ◌≡◌, ◌⊎◌, ◌↔◌, ℕ, ◌+◌, ◌<◌, ◌≤◌, ◌^◌, List, get_or, length, Option, None, Some, slice_get, inl, inr, refl, sym, ap, subst, ◌∙◌, arith}
 use Rattle.std.specs.Option.{IfSome}
 use Rattle.std.proofs.lemmas.Option.{slice_get_within}
 use Rattle.std.proofs.lemmas.Bool.{cases_lt}
-use Rattle.std.specs.declared.cmp.Ordering.TheVariants.{Less}
 use Rattle.fill_text.specs.Orders.{AtMost}
 use Rattle.fill_tree.specs.Cost.{program_cost}
 use Rattle.fill_tree.specs.Meaning.{atom_tree, program_tree}
@@ -11,18 +10,16 @@ use Rattle.fill_tree.specs.Order.{program_cmp}
 use Rattle.fill_tree.specs.Tree.{AtomTree, Atoms, end, more}
 use Rattle.fill_tree.specs.Value.{AtomIs, ProgramIs}
 use Rattle.fill_tree.specs.declared.tree.Program.{Program}
-use Rattle.fill_arena.specs.Contents.{EachIn, SomeIn}
-use Rattle.fill_arena.proofs.Lists.{get_pushed}
+use Rattle.fill_arena.specs.Contents.{SomeIn}
 use Rattle.fill_arena.proofs.Scan.{here}
-use Rattle.fill_arena.specs.Stands.{AtomStands, Walks}
+use Rattle.fill_arena.specs.Stands.{AtomStands}
 use Rattle.fill_arena.specs.declared.entry.Edge.{Edge}
 use Rattle.fill_rank.specs.Rank.{IsBest, IsLesser}
 use Rattle.fill_rank.specs.Sets.{SomeBelow}
 use Rattle.fill_rank.proofs.Best.{at_most-itself, at_most-trans, at_most-not_less, best_first, best_second, best_same}
 use Rattle.fill_object.specs.Kinds.{atoms_on}
-use Rattle.fill_object.specs.Leasts.{AreLeasts, Kind}
-use Rattle.fill_object.specs.Rests.{AreAtoms, AreRests, IsAlong, IsEnd, IsFound, IsLeastOther, IsRestAt, IsThen, RestStands, IsSearch}
-use Rattle.fill_object.specs.declared.rests.Rest.{Rest}
+use Rattle.fill_object.specs.Leasts.{AreLeasts}
+use Rattle.fill_object.specs.Rests.{AreAtoms, IsAlong, IsEnd, IsLeastOther, IsThen, RestStands}
 use Rattle.fill_object.specs.Wants.{RestAgrees}
 use Rattle.fill_object.specs.declared.rests.Search.{Search}
 use Rattle.fill_object.specs.declared.valued.ValuedAtom.{ValuedAtom}
@@ -47,12 +44,6 @@ program-itself p = at_most-itself program_cmp program-total program-exact p
 
 pub others_same : (U S A : Atoms → Type 0) → ((p : Atoms) → U p → S p) → ((p : Atoms) → S p → U p) → (o : Option Program) → IsLeastOther U A o → IsLeastOther S A o
 others_same U S A from to o h = others_through U S A from (λ p s. (p, to p s, program-itself p, λ a. a)) o h
-
-pub others_copied : (W A : Atoms → Type 0) (o copied : Option Program) → option_map program_tree copied ≡ option_map program_tree o → IsLeastOther W A o → IsLeastOther W A copied
-others_copied W A None None e h = h
-others_copied W A None (Some y) e h = cc
-others_copied W A (Some x) None e h = cc
-others_copied W A (Some x) (Some y) e h = let same : program_tree x ≡ program_tree y = cc in subst (IsBest program_cmp (λ p. W p × ¬ (A p))) same h
 
 module _ (P Q S A : Atoms → Type 0) (split : (p : Atoms) → S p → P p ⊎ Q p) (left : (p : Atoms) → P p → S p) (right : (p : Atoms) → Q p → S p) where
   abbrev Apart : (Atoms → Type 0) → Atoms → Type 0
@@ -92,12 +83,6 @@ module _ {X : Type 0} (F : X → Atoms → Type 0) (A : Atoms → Type 0) (W : A
   abbrev pub Upto : ℕ → Atoms → Type 0
   Upto i p = W p ⊎ SomeBelow i xs (λ x. F x p)
 
-  nothing_below : (p : Atoms) → ¬ (SomeBelow 0 xs (λ x. F x p))
-  nothing_below p h = let lt = h.2 in absurd (omega arith)
-
-  pub upto_start : (o : Option Program) → IsLeastOther W A o → IsLeastOther (Upto 0) A o
-  upto_start o h = others_same W (Upto 0) A (λ p w. inl w) (λ p u. elim u [ inl w ↦ w | inr s ↦ absurd (nothing_below p s) ]) o h
-
   split_upto : (i : ℕ) (x : X) → slice_get xs i ≡ Some x → (p : Atoms) → Upto (i + 1) p → Upto i p ⊎ F x p
   split_upto i x at p (inl w) = inl (inl w)
   split_upto i x at p (inr h) = elim (cases_lt h.0 i) [
@@ -129,21 +114,7 @@ module _ (a : AtomTree) (T B A : Atoms → Type 0) where
   abbrev One : AtomTree → Type 0
   One b = b ≡ a
 
-  pub then_never : ((q : Atoms) → A (more a q)) → IsLeastOther (IsThen (λ b. b ≡ a) T) A None
-  then_never all = go
-    where
-      go : (p : Atoms) → IsThen One T p → A p
-      go end h = absurd h
-      go (more b q) h = subst (λ c. A (more c q)) (sym h.0) (all q)
-
   module _ (same : (q : Atoms) → B q ↔ A (more a q)) where
-    pub then_none : IsLeastOther T B None → IsLeastOther (IsThen (λ b. b ≡ a) T) A None
-    then_none all = go
-      where
-        go : (p : Atoms) → IsThen One T p → A p
-        go end h = absurd h
-        go (more b q) h = subst (λ c. A (more c q)) (sym h.0) ((same q).0 (all q h.1))
-
     pub then_some : (x made : Program) → program_tree made ≡ more a (program_tree x) → IsLeastOther T B (Some x) → IsLeastOther (IsThen (λ b. b ≡ a) T) A (Some made)
     then_some x made is best = subst (IsBest program_cmp (λ p. IsThen One T p × ¬ (A p))) (sym is)
         (record { has = ((refl, best.has.0), λ h. best.has.1 ((same (program_tree x)).1 h)); least = least })
@@ -201,32 +172,6 @@ pub cheap_of : (W A : Atoms → Type 0) → ((p : Atoms) → W p → program_cos
 cheap_of W A cheap None h = tt
 cheap_of W A cheap (Some x) h = cheap (program_tree x) h.has.0
 
--- what was found already
-pub found_at : (s : Search) (rests : List Rest) (n : ℕ) (w : Wanted) (i : ℕ) (x : Rest) → AreRests s rests → IsRestAt rests n w i → x ≡ get_or rests i x →
-    IsLeastOther (RestStands s n) (RestAgrees s.on s.said.now w) x.program
-found_at s rests n w i x are h is =
-    let at = here rests i x (slice_get_within rests i h.0 h.1) is in
-    let first = h.1 in
-    let one : h.0 ≡ x = cc in
-    let node : x.node ≡ n = ap (λ (r : Rest). r.node) (sym one) ∙ h.2 in
-    let wanted : x.wanted ≡ w = ap (λ (r : Rest). r.wanted) (sym one) ∙ h.3 in
-    subst (λ m. IsLeastOther (RestStands s m) (RestAgrees s.on s.said.now w) x.program) node
-    (subst (λ v. IsLeastOther (RestStands s x.node) (RestAgrees s.on s.said.now v) x.program) wanted (are.each i x at))
-
-pub found_more : (s : Search) (old new : List Rest) (x : Rest) → new ≡ old ++ x ∷ [] → AreRests s old → IsFound s x → AreRests s new
-found_more s old new x e are is = record {
-  each = λ k y h. elim (get_pushed old x k y (subst (λ l. slice_get l k ≡ Some y) e h)) [
-    | inl a ↦ are.each k y a.1
-    | inr b ↦ subst (IsFound s) b.1 is
-  ];
-}
-
-pub none_found : (s : Search) (xs : List Rest) → xs ≡ [] → AreRests s xs
-none_found s xs e = record { each = λ k y h. absurd (nothing k y (subst (λ l. slice_get l k ≡ Some y) e h)) }
-  where
-    nothing : (k : ℕ) (y : Rest) → ¬ (slice_get {X = Rest} [] k ≡ Some y)
-    nothing k y h = cc
-
 -- along one edge
 module _ (s : Search) (n i : ℕ) (e : Edge) (at : slice_get s.edges.now i ≡ Some e) where
   pub along_rest : (p : Atoms) → IsAlong s n e p → RestStands s n p
@@ -250,9 +195,6 @@ module _ (s : Search) (n i : ℕ) (e : Edge) (at : slice_get s.edges.now i ≡ S
         others_same (IsThen (AtomStands s.on.arena.now e.atoms) (RestStands s e.to)) (IsAlong s n e) (RestAgrees s.on s.said.now w) (λ p t. (from, t)) (λ p t. t.1) o
         (along_all s w (RestStands s e.to) e.atoms xs are o all)
 
-pub not_along : (s : Search) (n : ℕ) (e : Edge) (A : Atoms → Type 0) → e.from ≢ n → IsLeastOther (IsAlong s n e) A None
-not_along s n e A apart p h = absurd (apart h.0)
-
 -- along the first edges, or at once
 module _ (s : Search) (n : ℕ) where
   pub edges_rest : (A : Atoms → Type 0) (j : ℕ) (p : Atoms) → Upto (λ e q. IsAlong s n e q) A (IsEnd s n) s.edges.now j p → RestStands s n p
@@ -261,14 +203,6 @@ module _ (s : Search) (n : ℕ) where
 
   pub edges_done : (A : Atoms → Type 0) (o : Option Program) → IsLeastOther (λ p. IsEnd s n p ⊎ SomeIn (λ e. IsAlong s n e p) s.edges.now) A o → IsLeastOther (RestStands s n) A o
   edges_done A o h = others_same (λ p. IsEnd s n p ⊎ SomeIn (λ e. IsAlong s n e p) s.edges.now) (RestStands s n) A (end_rest s n) (rest_splits s n) o h
-
--- a rest without atoms
-pub not_end : (s : Search) (n : ℕ) (A : Atoms → Type 0) → n ≢ s.last → IsLeastOther (IsEnd s n) A None
-not_end s n A apart = go
-  where
-    go : (p : Atoms) → IsEnd s n p → A p
-    go end h = absurd (apart h)
-    go (more a q) h = absurd h
 
 pub end_agrees : (s : Search) (n : ℕ) (w : Wanted) → RestAgrees s.on s.said.now w end → IsLeastOther (IsEnd s n) (RestAgrees s.on s.said.now w) None
 end_agrees s n w agrees = go

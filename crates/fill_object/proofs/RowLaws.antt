@@ -1,6 +1,5 @@
 -- Rows of conditions that serve for others.
-use Rattle.std.proofs.Common.{◌≡◌, ◌⊎◌, ◌↔◌, ℕ, zero, suc, slice_get, List, [], ◌∷◌, ◌++◌, Option, None, Some, inl, inr, refl, sym, ap, subst, ◌∙◌}
-use Rattle.fill_text.specs.Orders.{AtMost}
+use Rattle.std.proofs.Common.{◌≡◌, ◌↔◌, ℕ, zero, suc, slice_get, List, [], ◌∷◌, ◌++◌, Option, None, Some, inl, inr, refl, sym, ap, subst, ◌∙◌}
 use Rattle.fill_tree.specs.Grammar.{HasPart, IsPart}
 use Rattle.fill_tree.specs.Meaning.{atom_tree, program_tree}
 use Rattle.fill_tree.specs.Tree.{AtomTree, Atoms, constant, whole, sub, end, more}
@@ -13,7 +12,7 @@ use Rattle.fill_rank.specs.Rank.{row_rank}
 use Rattle.fill_rank.specs.Sets.{PartStands}
 use Rattle.fill_rank.proofs.Best.{at_most-itself, at_most-trans}
 use Rattle.fill_object.specs.Kinds.{IsRowFor, atoms_on, rows_on}
-use Rattle.fill_object.specs.Leasts.{AreLeasts, Gains, Kind}
+use Rattle.fill_object.specs.Leasts.{AreLeasts, Gains}
 use Rattle.fill_object.specs.Rows.{AreParts, AreRows, IsFixed, IsFront, IsLonger}
 use Rattle.fill_object.specs.declared.row.OnRow.{OnRow}
 use Rattle.fill_object.specs.declared.valued.ValuedAtom.{ValuedAtom}

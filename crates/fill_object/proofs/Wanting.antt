@@ -1,6 +1,5 @@
 -- What is wanted of the rest of a program, after one more atom.
-use Rattle.std.proofs.Common.{◌≡◌, ◌≢◌, ◌⊎◌, inl, inr, ◌↔◌, ℕ, zero, suc, ◌+◌, ◌≤◌, ◌<◌, List, [], ◌∷◌, ◌++◌, length, drop, Option, None, Some, length-drop, refl, sym, ap, subst, ◌∙◌, arith}
-use Rattle.std.proofs.lemmas.List.{append-nil}
+use Rattle.std.proofs.Common.{◌≡◌, ◌≢◌, ◌⊎◌, inl, inr, ◌↔◌, ℕ, zero, suc, ◌+◌, ◌<◌, List, [], ◌∷◌, ◌++◌, length, drop, Option, None, Some, length-drop, refl, sym, ap, subst, ◌∙◌, arith}
 use Rattle.fill_tree.specs.Tree.{AtomTree, Atoms, end, more}
 use Rattle.fill_tree.specs.Value.{IsValue, IsJoined, AtomIs, ProgramIs}
 use Rattle.fill_eval.proofs.Values.{none_is, some_is, has, only, never, alike}
@@ -71,12 +70,6 @@ module _ (on : OnRow) (said : List ℕ) (a : AtomTree) (q : Atoms) where
   abbrev Rest : List ℕ → Type 0
   Rest = ProgramIs on.sheet.now on.tables.now on.row q
 
-  pub any_after : RestAgrees on said Any q ↔ RestAgrees on said Any (more a q)
-  any_after = ((λ h. h), (λ h. h))
-
-  pub value_none : IsValue (AtomIs on.sheet.now on.tables.now on.row a) None → RestAgrees on said Value (more a q)
-  value_none is = joined_none First Rest is
-
   pub value_some : (t : List ℕ) → IsValue (AtomIs on.sheet.now on.tables.now on.row a) (Some t) → RestAgrees on said Value q ↔ RestAgrees on said Value (more a q)
   value_some t is = (none_joined First Rest t is, none_rest First Rest t is)
 
@@ -97,20 +90,11 @@ module _ (on : OnRow) (said : List ℕ) (a : AtomTree) (q : Atoms) where
       ((λ r. absurd r), (λ r. absurd (no_front First Rest t is (drop from said) h.0 r)))
 
 -- the end of a program
-past_end : {A : Type 0} (n : ℕ) (xs : List A) → length xs ≤ n → drop n xs ≡ []
-past_end zero [] h = refl
-past_end zero (x ∷ xs) h = absurd (omega arith)
-past_end (suc n) [] h = refl
-past_end (suc n) (x ∷ xs) h = past_end n xs (omega arith)
-
 pub end_other : (on : OnRow) (said : List ℕ) (from : ℕ) → from < length said → ¬ (RestAgrees on said (Other from) end)
 end_other on said from lt h =
     let nil : drop from said ≡ [] = has (λ v. v ≡ []) (drop from said) h in
     let none : length (drop from said) ≡ 0 = ap length nil in
     absurd (omega (arith, length-drop from said))
-
-pub end_past : (on : OnRow) (said : List ℕ) (from : ℕ) → length said ≤ from → RestAgrees on said (Other from) end
-end_past on said from past = some_is (λ v. v ≡ []) (drop from said) (past_end from said past) (λ v e. past_end from said past ∙ sym e)
 
 pub end_value : (on : OnRow) (said : List ℕ) → ¬ (RestAgrees on said Value end)
 end_value on said h = never (λ v. v ≡ []) [] h refl

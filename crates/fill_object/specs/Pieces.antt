@@ -1,7 +1,6 @@
 -- What is made of a source: its whole, and its pieces between places.
 use Rattle.std.specs.Prelude.{◌≡◌, ℕ, List, Option, None, Some, []}
 use Rattle.fill_tokens.specs.declared.place.Place.{Place}
-use Rattle.fill_tree.specs.Meaning.{source_tree}
 use Rattle.fill_tree.specs.Tree.{SourceTree, AtomTree, constant, whole, sub}
 use Rattle.fill_arena.specs.Contents.{SomeIn}
 use Rattle.fill_arena.specs.Stands.{PlaceStands}

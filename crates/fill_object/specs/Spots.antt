@@ -1,5 +1,5 @@
 -- What was found of places in texts.
-use Rattle.std.specs.Prelude.{ℕ, List}
+use Rattle.std.specs.Prelude.{List}
 use Rattle.fill_arena.specs.Contents.{EachIn}
 use Rattle.fill_arena.specs.Stands.{PlaceStands}
 use Rattle.fill_arena.specs.declared.entry.Entry.{Entry}

@@ -1,4 +1,3 @@
-use Rattle.std.proofs.Common.{◌≡◌}
 use Rattle.fill_tree.specs.Meaning.{source_tree}
 use Rattle.fill_arena.specs.Contents.{SomeIn}
 use Rattle.fill_arena.specs.declared.entry.AtomItem.TheVariants.{Sub}

@@ -1,4 +1,4 @@
-use Rattle.std.proofs.Common.{◌≡◌, ◌⊎◌, inl, inr, ℕ, ◌+◌, Vec, Global, get_or, length, length-append, [], ◌∷◌, ◌++◌, Some, slice_get, sym, ap, subst, ◌∙◌, arith}
+use Rattle.std.proofs.Common.{◌≡◌, inl, inr, ℕ, ◌+◌, Vec, Global, get_or, length, length-append, [], ◌∷◌, Some, slice_get, ap, subst, ◌∙◌, arith}
 use Rattle.fill_arena.specs.Stands.{AtomStands}
 use Rattle.fill_arena.specs.declared.entry.Edge.{Edge}
 use Rattle.fill_arena.proofs.Lists.{get_pushed}

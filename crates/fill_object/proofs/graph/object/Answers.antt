@@ -1,4 +1,4 @@
-use Rattle.std.proofs.Common.{◌≡◌, ◌≤◌, ◌-◌, Some, slice_get, sym, subst, arith}
+use Rattle.std.proofs.Common.{◌-◌, sym, subst, arith}
 use Rattle.std.specs.Option.{option_copied}
 use Rattle.fill_arena.specs.declared.entry.Entry.TheVariants.{Graph}
 use Rattle.fill_arena.specs.Stands.{Walks}

@@ -1,4 +1,4 @@
-use Rattle.std.proofs.Common.{◌≡◌, get_or, length, Some, slice_get, ap, subst, ◌∙◌}
+use Rattle.std.proofs.Common.{◌≡◌, get_or, Some, ap, subst, ◌∙◌}
 use Rattle.fill_tree.specs.Meaning.{atom_tree}
 use Rattle.fill_arena.proofs.Lists.{get_there}
 use Rattle.fill_arena.specs.declared.entry.Edge.{Edge}

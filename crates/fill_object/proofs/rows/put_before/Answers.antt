@@ -1,9 +1,8 @@
-use Rattle.std.proofs.Common.{◌≡◌, sym, subst}
+use Rattle.std.proofs.Common.{◌≡◌}
 use Rattle.fill_tree.specs.Meaning.{atom_tree, program_tree}
 use Rattle.fill_tree.specs.Tree.{more}
 use Rattle.fill_arena.proofs.Scan.{here}
 use Rattle.fill_object.specs.Kinds.{rows_on}
-use Rattle.fill_object.specs.Leasts.{Gains}
 use Rattle.fill_object.proofs.Gains.{scan_none, scan_more, scan_done}
 use Rattle.fill_object.proofs.RowLaws.{row_laws, gains_row}
 use Rattle.fill_object.proofs.rows.put_before.Goals as goal

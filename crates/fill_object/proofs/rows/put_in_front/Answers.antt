@@ -1,11 +1,8 @@
-use Rattle.std.proofs.Common.{[], subst}
-use Rattle.fill_tree.specs.Meaning.{atom_tree}
-use Rattle.fill_arena.specs.Contents.{SomeIn}
+use Rattle.std.proofs.Common.{subst}
 use Rattle.fill_object.specs.Kinds.{rows_on}
 use Rattle.fill_object.specs.Leasts.{Gains}
-use Rattle.fill_object.specs.Rows.{IsFixed, IsFront, IsLonger}
-use Rattle.fill_object.proofs.Gains.{gains_then}
-use Rattle.fill_object.proofs.RowLaws.{row_laws, fixed_or_part}
+use Rattle.fill_object.specs.Rows.{IsLonger}
+use Rattle.fill_object.proofs.RowLaws.{fixed_or_part}
 use Rattle.fill_object.proofs.rows.put_in_front.Goals as goal
 
 pub returns : goal.returns

@@ -1,15 +1,14 @@
-use Rattle.std.proofs.Common.{rules, ◌≡◌, ◌≤◌, ◌-◌, ℕ, Vec, Global, List, ◌∷◌, length, suc, drop, sym, subst, ◌∙◌, ap, arith}
+use Rattle.std.proofs.Common.{rules, ◌≡◌, ◌-◌, ℕ, Vec, Global, List, ◌∷◌, suc, drop, sym, subst, ◌∙◌, ap, arith}
 use Rattle.std.specs.Result.{OnOk}
 use Rattle.fill_tree.specs.Grammar.{IsPart}
 use Rattle.fill_arena.specs.Contents.{EachIn}
 use Rattle.fill_arena.specs.Stands.{SourceFits, SourceStands}
-use Rattle.fill_arena.specs.WellMade.{IsAtomItem, IsConditionItem}
+use Rattle.fill_arena.specs.WellMade.{IsConditionItem}
 use Rattle.fill_arena.specs.declared.entry.AtomItem.TheVariants as atom
-use Rattle.fill_arena.specs.declared.entry.ConditionItem.{ConditionItem}
 use Rattle.fill_arena.specs.declared.entry.Entry.TheVariants as kind
 use Rattle.fill_arena.proofs.Scan.{here}
 use Rattle.fill_rank.specs.Sets.{PartFits, PartStands}
-use Rattle.fill_rank.proofs.Pieces.{each_dropped, drop_whole, drop_here, ok_on}
+use Rattle.fill_rank.proofs.Pieces.{drop_whole, drop_here, ok_on}
 use Rattle.fill_rank.proofs.Stand.{atom_items, items_atom, source_items, items_source}
 use Rattle.fill_object.specs.Kinds.{atoms_on, sources_on}
 use Rattle.fill_object.specs.Leasts.{AreLeasts, Gains}

@@ -1,4 +1,4 @@
-use Rattle.std.proofs.Common.{◌≡◌, ◌⊎◌, inl, inr, length, drop, refl, sym, ◌∙◌}
+use Rattle.std.proofs.Common.{inl, inr, length, drop, refl, sym, ◌∙◌}
 use Rattle.std.proofs.lemmas.Bool.Decides.{Decides-eqb}
 use Rattle.std.proofs.lemmas.Slice.Eq.{starts_is}
 use Rattle.fill_object.proofs.wanted.after_text.Goals as goal

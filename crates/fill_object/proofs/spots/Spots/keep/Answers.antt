@@ -1,4 +1,4 @@
-use Rattle.std.proofs.Common.{◌≡◌, ◌⊎◌, inl, inr, Some, slice_get, sym, subst}
+use Rattle.std.proofs.Common.{◌≡◌, inl, inr, Some, slice_get, sym, subst}
 use Rattle.fill_arena.specs.Stands.{PlaceStands}
 use Rattle.fill_arena.proofs.Lists.{get_pushed}
 use Rattle.fill_object.specs.Kinds.{spots_in}
