@@ -1,0 +1,9 @@
+pub mod Alike
+pub mod Gains
+pub mod KindLaws
+pub mod Made
+pub mod Objections
+pub mod Orders
+pub mod Others
+pub mod RowLaws
+pub mod Wanting

@@ -1,0 +1,7 @@
+use Rattle.fill_rank.specs.Sets.{ConstantFits, SomeBelow}
+use Rattle.fill_object.specs.Kinds.{atoms_on}
+use Rattle.fill_object.specs.Leasts.{Gains}
+use Rattle.fill_object.proofs.edges.put_constants.Given as goal
+
+abbrev pub invariant-loop-item : goal.invariant-loop-item
+invariant-loop-item l = Gains (atoms_on l.on) (λ a. SomeBelow l.item-index l.items (λ i. ConstantFits l.on.arena.now i a)) l.initial.kept.items l.kept.items

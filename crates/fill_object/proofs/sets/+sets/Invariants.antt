@@ -1,0 +1,60 @@
+use Rattle.std.proofs.Common.{◌+◌, ◌*◌, ◌≤◌, length, drop}
+use Rattle.fill_arena.specs.Stands.{SourceFits}
+use Rattle.fill_rank.specs.Sets.{PartFits, SomeBelow}
+use Rattle.fill_object.specs.Kinds.{atoms_on, sources_on}
+use Rattle.fill_object.specs.Known.{AreKnown}
+use Rattle.fill_object.specs.Leasts.{Gains}
+use Rattle.fill_object.specs.Rows.{AreRows}
+use Rattle.fill_object.proofs.sets.+sets.Given as goal
+
+abbrev pub decreases-sources_of : goal.decreases-sources_of
+decreases-sources_of l = 16 * l.s + 12
+
+abbrev pub decreases-scan_sources : goal.decreases-scan_sources
+decreases-scan_sources l = 16 * l.s + 11
+
+abbrev pub decreases-put_source : goal.decreases-put_source
+decreases-put_source l = 16 * l.set + 10
+
+abbrev pub decreases-put_lookups : goal.decreases-put_lookups
+decreases-put_lookups l = 16 * l.set + 9
+
+abbrev pub decreases-rows_of : goal.decreases-rows_of
+decreases-rows_of l = 16 * l.set + 8
+
+abbrev pub decreases-longer_rows : goal.decreases-longer_rows
+decreases-longer_rows l = 16 * l.set + 7
+
+abbrev pub decreases-conditions_of : goal.decreases-conditions_of
+decreases-conditions_of l = 16 * l.set + 6
+
+abbrev pub decreases-parts_of : goal.decreases-parts_of
+decreases-parts_of l = 16 * l.s + 5
+
+abbrev pub decreases-scan_parts : goal.decreases-scan_parts
+decreases-scan_parts l = 16 * l.s + 4
+
+abbrev pub decreases-put_part : goal.decreases-put_part
+decreases-put_part l = 16 * l.set + 3
+
+abbrev pub invariant-scan_sources-loop-item : goal.invariant-scan_sources-loop-item
+invariant-scan_sources-loop-item l = record {
+  known : AreKnown l.on l.known;
+  gains : Gains (sources_on l.on) (λ x. SomeBelow l.item-index l.items (λ y. SourceFits x l.on.arena.now y)) l.initial.kept.items l.kept.items;
+}
+
+abbrev pub invariant-scan_parts-loop-item : goal.invariant-scan_parts-loop-item
+invariant-scan_parts-loop-item l = record {
+  known : AreKnown l.on l.known;
+  gains : Gains (atoms_on l.on) (λ a. SomeBelow l.item-index l.items (λ y. PartFits l.on.arena.now y a)) l.initial.kept.items l.kept.items;
+}
+
+abbrev pub invariant-rows_of-loop-left : goal.invariant-rows_of-loop-left
+invariant-rows_of-loop-left l = record {
+  within : l.left ≤ length l.items;
+  known : AreKnown l.on l.known;
+  least : AreRows l.on (drop l.left l.items) l.rows.items;
+}
+
+abbrev pub decreases-rows_of-loop-left : goal.decreases-rows_of-loop-left
+decreases-rows_of-loop-left l = l.left

@@ -1,0 +1,9 @@
+pub mod Kinds
+pub mod Known
+pub mod Leasts
+pub mod Objector
+pub mod Pieces
+pub mod Rests
+pub mod Rows
+pub mod Spots
+pub mod Wants

@@ -1,0 +1,24 @@
+-- The programs of a graph that answer otherwise on a row than was said, and the least of them.
+use Rattle.std.specs.Prelude.{ℕ, List, Option}
+use Rattle.fill_text.specs.Data.{SheetData, TableData}
+use Rattle.fill_tree.specs.Chosen.{IsLeast}
+use Rattle.fill_tree.specs.Meaning.{program_tree}
+use Rattle.fill_tree.specs.Tree.{Atoms}
+use Rattle.fill_tree.specs.Value.{IsValue, ProgramIs}
+use Rattle.fill_arena.specs.Stands.{ProgramStands}
+use Rattle.fill_arena.specs.declared.entry.Entry.{Entry}
+use Rattle.fill_object.specs.declared.graph.Objection.{Objection}
+
+-- the program's value on the row is what was said: a text, or none
+abbrev pub Answers : SheetData → List TableData → ℕ → Option (List ℕ) → Atoms → Type 0
+Answers sheet tables row said p = IsValue (ProgramIs sheet tables row p) said
+
+-- the program stands in the graph, and its value on the row is not what was said
+pub record Objects (c : List Entry) (g : ℕ) (sheet : SheetData) (tables : List TableData) (row : ℕ) (said : Option (List ℕ)) (p : Atoms) : Type 0 where
+  pub stands : ProgramStands c g p
+  pub otherwise : ¬ (Answers sheet tables row said p)
+
+-- the program objects, and no program that does is before it; with its value on the row
+pub record IsObjection (c : List Entry) (g : ℕ) (sheet : SheetData) (tables : List TableData) (row : ℕ) (said : Option (List ℕ)) (o : Objection) : Type 0 where
+  pub least : IsLeast (Objects c g sheet tables row said) (program_tree o.program)
+  pub value : IsValue (ProgramIs sheet tables row (program_tree o.program)) o.text

@@ -1,0 +1,71 @@
+//! The least atoms of edges, by their texts on the row.
+ghost use Rattle.std.specs.Prelude.{◌≡◌, List as Items, IfOk, OnOk};
+ghost use Rattle.fill_arena.specs.Contents.{EachIn, IsAtomSet, SomeIn};
+ghost use Rattle.fill_arena.specs.Stands.{AtomStands};
+ghost use Rattle.fill_rank.specs.Sets.{ConstantFits};
+ghost use Rattle.fill_object.specs.Kinds.{atoms_on};
+ghost use Rattle.fill_object.specs.Known.{AreKnown, IsOnRow};
+ghost use Rattle.fill_object.specs.Leasts.{AreLeasts, Gains};
+ghost use Rattle.fill_object.specs.Rests.{AreAtoms};
+
+use crate::atoms::put_atom;
+use crate::known::Known;
+use crate::row::OnRow;
+use crate::sets::scan_parts;
+use crate::valued::ValuedAtom;
+use fill_arena::{AtomItem, AtomSet, Edge};
+use fill_text::NoMemory;
+use fill_tree::Atom;
+
+/// Puts the constant that an item stands for, if it is one.
+fn put_constant(on: &OnRow<'_>, item: &AtomItem, kept: &mut Vec<ValuedAtom>) -> Result<(), NoMemory>
+    requires { IsOnRow on.now }
+    ensures { OnOk result (Gains (atoms_on on.now) (ConstantFits on.now.arena.now item.now) kept.old.items kept.new.items) }
+{
+    match item {
+        AtomItem::Const(text) => put_atom(on, Atom::Const(text.copy()?), kept),
+        _ => Ok(()),
+    }
+}
+
+/// Puts the constants among some items.
+fn put_constants(
+    on: &OnRow<'_>,
+    items: &[AtomItem],
+    kept: &mut Vec<ValuedAtom>,
+) -> Result<(), NoMemory>
+    requires { IsOnRow on.now }
+    ensures { OnOk result (Gains (atoms_on on.now) (λ a. SomeIn (λ i. ConstantFits on.now.arena.now i a) items.now) kept.old.items kept.new.items) }
+{
+    for item in items {
+        put_constant(on, item, kept)?;
+    }
+    Ok(())
+}
+
+/// The least atoms of a set, by their texts.
+fn atoms_of(on: &OnRow<'_>, known: &mut Known, s: AtomSet) -> Result<Vec<ValuedAtom>, NoMemory>
+    requires set { IsAtomSet on.now.arena.now s }
+    requires row { IsOnRow on.now }
+    requires known { AreKnown on.now known.old }
+    ensures known { OnOk result (AreKnown on.now known.new) }
+    ensures least { IfOk result (λ kept. AreLeasts (atoms_on on.now) (AtomStands on.now.arena.now s) kept.items) }
+{
+    let mut kept = scan_parts(on, known, s)?;
+    put_constants(on, on.arena.atoms(s), &mut kept)?;
+    Ok(kept)
+}
+
+/// The least atoms of each edge.
+pub(crate) fn edge_atoms(on: &OnRow<'_>, edges: &[Edge]) -> Result<Vec<Vec<ValuedAtom>>, NoMemory>
+    requires row { IsOnRow on.now }
+    requires edges { EachIn (λ e. IsAtomSet on.now.arena.now e.atoms) edges.now }
+    ensures { IfOk result (λ atoms. AreAtoms on.now edges.now atoms.items) }
+{
+    let mut known = Known::new(on.alloc);
+    let mut atoms = Vec::new(on.alloc);
+    for i in 0..edges.len() {
+        atoms.push(atoms_of(on, &mut known, edges[i].atoms)?)?;
+    }
+    Ok(atoms)
+}

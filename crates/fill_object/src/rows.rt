@@ -1,0 +1,106 @@
+//! Rows of conditions of a lookup.
+ghost use Rattle.std.specs.Prelude.{◌≡◌, [], IfOk, OnOk};
+ghost use Rattle.fill_tree.specs.Meaning.{atom_tree, program_tree};
+ghost use Rattle.fill_tree.specs.Tree.{end, more};
+ghost use Rattle.fill_arena.specs.Contents.{SomeIn};
+ghost use Rattle.fill_object.specs.Kinds.{rows_on};
+ghost use Rattle.fill_object.specs.Leasts.{Gains};
+ghost use Rattle.fill_object.specs.Rows.{AreRows, IsFixed, IsFront, IsLonger};
+ghost use Rattle.fill_object.specs.declared.row.OnRow.{OnRow as Row};
+
+use crate::valued::ValuedAtom;
+use fill_text::{List, NoMemory, Text};
+use fill_tree::{Atom, Program};
+use std::alloc::Global;
+
+/// The atom and then the atoms of the rest.
+pub(crate) fn followed_by(alloc: Global, atom: &Atom, rest: &Program) -> Result<Program, NoMemory>
+    ensures { IfOk result (λ made. program_tree made ≡ more (atom_tree atom.now) (program_tree rest.now)) }
+{
+    let mut atoms = List::new(alloc);
+    atoms.push(atom.copy(alloc)?)?;
+    for next in rest.atoms.as_slice() {
+        atoms.push(next.copy(alloc)?)?;
+    }
+    Ok(Program { atoms })
+}
+
+/// The program without atoms.
+pub(crate) fn no_atoms(alloc: Global) -> Program
+    ensures { program_tree result ≡ end }
+{
+    let atoms = List::new(alloc);
+    Program { atoms }
+}
+
+/// The row without conditions.
+pub(crate) fn no_conditions(alloc: Global) -> Result<Vec<Program>, NoMemory>
+    ensures { IfOk result (λ rows. (on : Row) → AreRows on [] rows.items) }
+{
+    let mut rows = Vec::new(alloc);
+    rows.push(no_atoms(alloc))?;
+    Ok(rows)
+}
+
+/// Puts the condition before each of the rows.
+fn put_before(
+    alloc: Global,
+    condition: &Atom,
+    rests: &[Program],
+    made: &mut Vec<Program>,
+) -> Result<(), NoMemory>
+    ensures { OnOk result ((on : Row) → Gains (rows_on on) (IsFront (atom_tree condition.now) rests.now) made.old.items made.new.items) }
+{
+    for rest in rests {
+        made.push(followed_by(alloc, condition, rest)?)?;
+    }
+    Ok(())
+}
+
+/// Puts the constant, if there is one, before each of the rows.
+fn put_constant(
+    alloc: Global,
+    constant: &Option<Text>,
+    rests: &[Program],
+    made: &mut Vec<Program>,
+) -> Result<(), NoMemory>
+    ensures { OnOk result ((on : Row) → Gains (rows_on on) (IsFixed constant.now rests.now) made.old.items made.new.items) }
+{
+    match constant {
+        Some(text) => {
+            let condition = Atom::Const(text.copy()?);
+            put_before(alloc, &condition, rests, made)
+        }
+        None => Ok(()),
+    }
+}
+
+/// Puts each of the parts before each of the rows.
+fn put_parts(
+    alloc: Global,
+    parts: &[ValuedAtom],
+    rests: &[Program],
+    made: &mut Vec<Program>,
+) -> Result<(), NoMemory>
+    ensures { OnOk result ((on : Row) → Gains (rows_on on) (λ y. SomeIn (λ x. IsFront (atom_tree x.atom) rests.now y) parts.now) made.old.items made.new.items) }
+{
+    for part in parts {
+        put_before(alloc, &part.atom, rests, made)?;
+    }
+    Ok(())
+}
+
+/// The rows with one condition more at the front: the constant, or one of the parts.
+pub(crate) fn put_in_front(
+    alloc: Global,
+    constant: &Option<Text>,
+    parts: &[ValuedAtom],
+    rests: &[Program],
+) -> Result<Vec<Program>, NoMemory>
+    ensures { IfOk result (λ made. (on : Row) → Gains (rows_on on) (IsLonger constant.now parts.now rests.now) [] made.items) }
+{
+    let mut made = Vec::new(alloc);
+    put_constant(alloc, constant, rests, &mut made)?;
+    put_parts(alloc, parts, rests, &mut made)?;
+    Ok(made)
+}

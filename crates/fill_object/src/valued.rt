@@ -1,0 +1,117 @@
+//! Places and trees with their values.
+ghost use Rattle.std.specs.Prelude.{◌≡◌, IsTrue};
+ghost use Rattle.fill_text.specs.Orders.{AtMost};
+ghost use Rattle.fill_tree.specs.Meaning.{atom_tree, source_tree};
+ghost use Rattle.fill_rank.specs.Rank.{atom_rank, place_rank, source_rank};
+
+use crate::kept::Rival;
+use fill_text::Text;
+use fill_tokens::Place;
+use fill_tree::{Atom, Source};
+use std::cmp::Ordering;
+
+/// A place, and its value in a text.
+#[derive(Drop)]
+pub(crate) struct Spot {
+    pub place: Place,
+    pub at: Option<usize>,
+}
+
+/// A source, and its text on a row.
+#[derive(Drop)]
+pub(crate) struct ValuedSource {
+    pub source: Source,
+    pub text: Option<Text>,
+}
+
+/// An atom, and its text on a row.
+#[derive(Drop)]
+pub(crate) struct ValuedAtom {
+    pub atom: Atom,
+    pub text: Option<Text>,
+}
+
+/// Whether both are the same text, or none.
+fn is_same(one: &Option<Text>, other: &Option<Text>) -> bool
+    ensures { IsTrue result → one.now ≡ other.now }
+{
+    match (one, other) {
+        (None, None) => true,
+        (Some(one), Some(other)) => one.same(other),
+        _ => false,
+    }
+}
+
+/// Whether the place is at most the other one, by the cost and then in order.
+fn is_place_at_most(a: &Place, b: &Place) -> bool
+    ensures { IsTrue result → AtMost (place_rank a.now b.now) }
+{
+    a.cost().cmp(&b.cost()).then(a.compare(b)) != Ordering::Greater
+}
+
+/// The same of sources; where a cost is no number of 64 bits the answer is no.
+fn is_source_at_most(a: &Source, b: &Source) -> bool
+    ensures { IsTrue result → AtMost (source_rank (source_tree a.now) (source_tree b.now)) }
+{
+    let (Some(first), Some(second)) = (a.cost(), b.cost()) else {
+        return false;
+    };
+    first.cmp(&second).then(a.compare(b)) != Ordering::Greater
+}
+
+/// The same of atoms, as atoms of a program.
+fn is_atom_at_most(a: &Atom, b: &Atom) -> bool
+    ensures { IsTrue result → AtMost (atom_rank (atom_tree a.now) (atom_tree b.now)) }
+{
+    let (Some(first), Some(second)) = (a.cost(), b.cost()) else {
+        return false;
+    };
+    first.cmp(&second).then(a.compare(b)) != Ordering::Greater
+}
+
+impl Rival for Spot {
+    ghost use Rattle.std.specs.Prelude.{◌≡◌};
+    ghost use Rattle.fill_text.specs.Orders.{AtMost};
+    ghost use Rattle.fill_rank.specs.Rank.{place_rank};
+
+    ghost serving = { λ x y. AtMost (place_rank x.place y.place) × (x.at ≡ y.at) };
+
+    fn serves(&self, other: &Spot) -> bool {
+        if self.at != other.at {
+            return false;
+        }
+        is_place_at_most(&self.place, &other.place)
+    }
+}
+
+impl Rival for ValuedSource {
+    ghost use Rattle.std.specs.Prelude.{◌≡◌};
+    ghost use Rattle.fill_text.specs.Orders.{AtMost};
+    ghost use Rattle.fill_tree.specs.Meaning.{source_tree};
+    ghost use Rattle.fill_rank.specs.Rank.{source_rank};
+
+    ghost serving = { λ x y. AtMost (source_rank (source_tree x.source) (source_tree y.source)) × (x.text ≡ y.text) };
+
+    fn serves(&self, other: &ValuedSource) -> bool {
+        if !is_same(&self.text, &other.text) {
+            return false;
+        }
+        is_source_at_most(&self.source, &other.source)
+    }
+}
+
+impl Rival for ValuedAtom {
+    ghost use Rattle.std.specs.Prelude.{◌≡◌};
+    ghost use Rattle.fill_text.specs.Orders.{AtMost};
+    ghost use Rattle.fill_tree.specs.Meaning.{atom_tree};
+    ghost use Rattle.fill_rank.specs.Rank.{atom_rank};
+
+    ghost serving = { λ x y. AtMost (atom_rank (atom_tree x.atom) (atom_tree y.atom)) × (x.text ≡ y.text) };
+
+    fn serves(&self, other: &ValuedAtom) -> bool {
+        if !is_same(&self.text, &other.text) {
+            return false;
+        }
+        is_atom_at_most(&self.atom, &other.atom)
+    }
+}
