@@ -6,4 +6,5 @@ pub mod Lines
 pub mod Stops
 pub mod Steps
 pub mod Apply
+pub mod Keys
 pub mod Asked

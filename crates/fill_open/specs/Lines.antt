@@ -26,6 +26,10 @@ unread_line name = line_of name (codes "cannot be read\n")
 abbrev pub long_line : List ℕ → List ℕ
 long_line name = line_of name (codes "more than 16777216 bytes\n")
 
+-- the line of a table of too many columns for its keys to be listed
+abbrev pub wide_line : List ℕ → List ℕ
+wide_line name = line_of name (codes "more than 32 columns\n")
+
 abbrev pub memory_line : List ℕ
 memory_line = codes "flashfill: out of memory\n"
 

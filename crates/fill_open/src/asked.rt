@@ -1,6 +1,6 @@
-//! The words that ask for an application.
+//! The words that ask for an application, and those that ask for the keys of a table.
 ghost use Rattle.std.specs.Prelude.{◌≡◌, map, option_map, string_bytes};
-ghost use Rattle.fill_open.specs.Asked.{application_in, application_with, names_data};
+ghost use Rattle.fill_open.specs.Asked.{application_in, application_with, keys_file_in, keys_file_with, names_data};
 
 /// The files of an application.
 #[derive(Clone, Copy, Debug, PartialEq, Eq)]
@@ -50,4 +50,26 @@ fn application_with<'a>(
         program,
         sheet,
     })
+}
+
+/// The file whose keys these words ask for, those after the program's name.
+///
+/// `keys` goes with a name that is not empty.
+pub fn keys_file_of(words: &[String]) -> Option<&str>
+    ensures { option_map (λ file. file.now) result ≡ keys_file_in (map string_bytes words.now) }
+{
+    match words {
+        [word, file] => keys_file_with(word.as_str(), file.as_str()),
+        _ => None,
+    }
+}
+
+/// The file whose keys a word and a name ask for.
+fn keys_file_with<'a>(word: &str, file: &'a str) -> Option<&'a str>
+    ensures { option_map (λ file. file.now) result ≡ keys_file_with word.now file.now }
+{
+    if word != "keys" || file.is_empty() {
+        return None;
+    }
+    Some(file)
 }

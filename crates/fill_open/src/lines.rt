@@ -1,6 +1,6 @@
 //! The lines that say why a file is refused.
 ghost use Rattle.std.specs.Prelude.{◌≡◌, ◌≢◌, IfOk, string_bytes};
-ghost use Rattle.fill_open.specs.Lines.{long_line, script_line, sheet_line, table_line};
+ghost use Rattle.fill_open.specs.Lines.{long_line, script_line, sheet_line, table_line, wide_line};
 
 use fill_script::ScriptError;
 use fill_sheet::SheetError;
@@ -12,6 +12,13 @@ pub(crate) fn long_line(alloc: Global, name: &str) -> Result<String, AllocError>
     ensures { IfOk result (λ line. string_bytes line ≡ long_line name.now) }
 {
     format!(in alloc; "flashfill: {name}: more than 16777216 bytes\n")
+}
+
+/// The line of a table that has too many columns for its keys to be listed.
+pub(crate) fn wide_line(alloc: Global, name: &str) -> Result<String, AllocError>
+    ensures { IfOk result (λ line. string_bytes line ≡ wide_line name.now) }
+{
+    format!(in alloc; "flashfill: {name}: more than 32 columns\n")
 }
 
 /// The line of a session file that spells no script.

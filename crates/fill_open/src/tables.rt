@@ -87,7 +87,7 @@ fn open_line<C: Cabinet>(
 }
 
 /// Adds the table of a file's bytes under a name, for the session's line of this number.
-fn add_table(
+pub(crate) fn add_table(
     alloc: Global,
     session: &str,
     number: u32,

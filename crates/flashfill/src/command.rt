@@ -3,7 +3,7 @@ ghost use Rattle.std.specs.Prelude.{◌≡◌, ◌⊎◌, ◌≤◌, ℕ, false,
 ghost use Rattle.std.specs.Io.KnownBytes.{Keeps};
 ghost use Rattle.fill_edge.specs.Outside.{Rose};
 ghost use Rattle.fill_open.specs.Apply.{Names};
-ghost use Rattle.fill_open.specs.Asked.{application_in};
+ghost use Rattle.fill_open.specs.Asked.{application_in, keys_file_in};
 ghost use Rattle.fill_open.specs.Command.{command_in, made};
 ghost use Rattle.fill_open.specs.Lines.{memory_line, unread_line};
 ghost use Rattle.fill_open.specs.Opened.{Told, IsPassed, Refused, Unread};
@@ -11,12 +11,14 @@ ghost use Rattle.fill_open.specs.Steps.{opened, opening};
 ghost use Rattle.fill_open.specs.Stops.{IsUnread, ReadFails};
 ghost use Rattle.flashfill.specs.Answer.{Ends, IsOfSession, Says, WritesPart, WritesRecords, WritesReport, output_line, usage_line};
 ghost use Rattle.flashfill.specs.Applied.{EndsApplied};
+ghost use Rattle.flashfill.specs.Keys.{EndsKeys};
 
 use crate::apply::apply;
+use crate::keys::keys;
 use crate::replay::replay;
 use crate::stop::{USAGE_LINE, say};
 use fill_edge::{Cabinet, Ledger, Sink, Steps};
-use fill_open::{application_of, command_of};
+use fill_open::{application_of, command_of, keys_file_of};
 use std::alloc::Global;
 
 /// Runs the command of these words, those after the program's name, and answers the status.
@@ -24,7 +26,8 @@ use std::alloc::Global;
 /// `replay SESSION` reads a session file, its sheet and its tables, replays the session, and writes its report to `out`,
 /// each record at once when it is made. `made N` does the same with a session that is generated. `apply SESSION PROGRAM
 /// SHEET` reads the conditional program that a report shows, and writes what it gives on each row of another sheet, with
-/// the session's inputs and tables. Where there is no report, or not all of it, one line on `err` says why.
+/// the session's inputs and tables. `keys FILE` writes the minimal keys of the table in a file. Where there is no report,
+/// or not all of it, one line on `err` says why.
 ///
 /// | status | meaning |
 /// |---|---|
@@ -49,9 +52,9 @@ pub fn run<C: Cabinet, O: Sink, E: Sink, L: Ledger>(
     ensures silent { result ≤ 1 → Keeps (E.written err.old) (E.written err.new) }
 
     // 2 exactly where the words are no command; then nothing is read or written but the line.
-    ensures usage { command_in (map string_bytes words.now) ≡ None → application_in (map string_bytes words.now) ≡ None → result ≡ 2 }
-    ensures no_command { result ≡ 2 → (command_in (map string_bytes words.now) ≡ None) × (application_in (map string_bytes words.now) ≡ None) }
-    ensures untouched { command_in (map string_bytes words.now) ≡ None → application_in (map string_bytes words.now) ≡ None → (cabinet.new ≡ cabinet.old) × (out.new ≡ out.old) }
+    ensures usage { command_in (map string_bytes words.now) ≡ None → application_in (map string_bytes words.now) ≡ None → keys_file_in (map string_bytes words.now) ≡ None → result ≡ 2 }
+    ensures no_command { result ≡ 2 → (command_in (map string_bytes words.now) ≡ None) × (application_in (map string_bytes words.now) ≡ None) × (keys_file_in (map string_bytes words.now) ≡ None) }
+    ensures untouched { command_in (map string_bytes words.now) ≡ None → application_in (map string_bytes words.now) ≡ None → keys_file_in (map string_bytes words.now) ≡ None → (cabinet.new ≡ cabinet.old) × (out.new ≡ out.old) }
     ensures usage_said { result ≡ 2 → Says (E.written err.old) (E.written err.new) (E.faults err.old) (E.faults err.new) usage_line }
 
     // 3 only where a read of a file that the steps come to failed in this call, or the next file is not there.
@@ -86,13 +89,21 @@ pub fn run<C: Cabinet, O: Sink, E: Sink, L: Ledger>(
         EndsApplied names (C.files cabinet.old) result (C.faults cabinet.old) (C.faults cabinet.new) (O.written out.old) (O.written out.new)
         (Says (E.written err.old) (E.written err.new) (E.faults err.old) (E.faults err.new)) × (steps.new ≡ steps.old) }
 
+    // So does the listing of a table's keys: with the records of all keys, a proper prefix of them, or its first whole ones. It makes no step.
+    ensures keys { (file : List ℕ) → keys_file_in (map string_bytes words.now) ≡ Some file →
+        EndsKeys file (C.files cabinet.old) result (C.faults cabinet.old) (C.faults cabinet.new) (O.written out.old) (O.written out.new)
+        (Says (E.written err.old) (E.written err.new) (E.faults err.old) (E.faults err.new)) × (steps.new ≡ steps.old) }
+
     ensures statuses { result ≤ 6 }
     ensures files { C.files cabinet.new ≡ C.files cabinet.old }
 {
     let Some(command) = command_of(words) else {
         let Some(names) = application_of(words) else {
-            say(err, USAGE_LINE);
-            return 2;
+            let Some(file) = keys_file_of(words) else {
+                say(err, USAGE_LINE);
+                return 2;
+            };
+            return keys(alloc, file, cabinet, out, err);
         };
         return apply(
             alloc,

@@ -6,6 +6,8 @@ ghost use Rattle.std.specs.Prelude.{◌≡◌};
 mod applied;
 mod apply;
 mod command;
+mod keyed;
+mod keys;
 mod replay;
 mod stop;
 

@@ -2,6 +2,7 @@
 ghost use Rattle.std.specs.Prelude.{◌≡◌};
 
 mod applied;
+mod keys;
 mod noting;
 mod rows;
 

@@ -7,6 +7,8 @@ mod apply;
 #[cfg(test)]
 mod generator;
 #[cfg(test)]
+mod keys;
+#[cfg(test)]
 mod opening;
 #[cfg(test)]
 mod script;
