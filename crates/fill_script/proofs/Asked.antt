@@ -47,14 +47,16 @@ question-proper line e =
     either _ _ _ e (alone-proper entry.Programs line e tt) (either _ _ _ e (alone-proper entry.Switch line e tt) (either _ _ _ e (alone-proper entry.Fill line e tt)
     (either _ _ _ e (alone-proper entry.Count line e tt)
     (either _ _ _ e (λ is. let found = map_some entry.Answer (row_in line) e is in subst IsEntry found.2 tt)
-    (either _ _ _ e (best-proper line e) (nothing e))))))
+    (either _ _ _ e (λ is. let found = map_some entry.Object (row_in line) e is in subst IsEntry found.2 tt)
+    (either _ _ _ e (best-proper line e) (nothing e)))))))
 
 entry-proper : (line : List (List ℕ)) (e : Entry) → entry_in line ≡ Some e → IsEntry e
 entry-proper line e =
     either _ _ _ e (λ is. let found = map_some (λ given. entry.Edit (Add given.0 given.1)) (row_text_in line) e is in subst IsEntry found.2 tt)
     (either _ _ _ e (λ is. let found = map_some (λ given. entry.Edit (Correct given.0 given.1)) (row_text_in line) e is in subst IsEntry found.2 tt)
     (either _ _ _ e (λ is. let found = map_some (λ row. entry.Edit (Retract row)) (row_in line) e is in subst IsEntry found.2 tt)
-    (either _ _ _ e (alone-proper (entry.Edit Clear) line e tt) (question-proper line e))))
+    (either _ _ _ e (alone-proper (entry.Edit Clear) line e tt)
+    (either _ _ _ e (alone-proper entry.Undo line e tt) (either _ _ _ e (alone-proper entry.Redo line e tt) (question-proper line e))))))
 
 understood-proper : (number : ℕ) (o : Option Entry) (e : Entry) → ((f : Entry) → o ≡ Some f → IsEntry f) → understood number o ≡ Ok e → IsEntry e
 understood-proper number None e proper is = cc

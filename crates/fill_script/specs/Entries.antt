@@ -33,7 +33,7 @@ best_of None k = None
 abbrev pub best_in : List (List ℕ) → Option Entry
 best_in line = if length line == 3 then best_of (number_in (field_of 2 line)) (number_between 1 20 (field_of 3 line)) else None
 
--- what a line that is no edit asks for
+-- what a line that leaves the examples asks for
 abbrev pub question_in : List (List ℕ) → Option Entry
 question_in line =
     if is_word (codes "programs") line then alone entry.Programs line
@@ -41,6 +41,7 @@ question_in line =
     else if is_word (codes "fill") line then alone entry.Fill line
     else if is_word (codes "count") line then alone entry.Count line
     else if is_word (codes "answer") line then option_map entry.Answer (row_in line)
+    else if is_word (codes "object") line then option_map entry.Object (row_in line)
     else if is_word (codes "best") line then best_in line
     else None
 
@@ -51,6 +52,8 @@ entry_in line =
     else if is_word (codes "correct") line then option_map (λ given. entry.Edit (Correct given.0 given.1)) (row_text_in line)
     else if is_word (codes "retract") line then option_map (λ row. entry.Edit (Retract row)) (row_in line)
     else if is_word (codes "clear") line then alone (entry.Edit Clear) line
+    else if is_word (codes "undo") line then alone entry.Undo line
+    else if is_word (codes "redo") line then alone entry.Redo line
     else question_in line
 
 abbrev pub understood : ℕ → Option Entry → Result Entry ScriptError
@@ -73,9 +76,12 @@ entries_from number (line ∷ more) = onward (λ e. onward (before e) (entries_f
 -- one to twenty programs are asked for where some are
 abbrev pub IsEntry : Entry → Type 0
 IsEntry (entry.Edit e) = ⊤
+IsEntry entry.Undo = ⊤
+IsEntry entry.Redo = ⊤
 IsEntry entry.Programs = ⊤
 IsEntry entry.Switch = ⊤
 IsEntry entry.Fill = ⊤
 IsEntry entry.Count = ⊤
 IsEntry (entry.Answer row) = ⊤
+IsEntry (entry.Object row) = ⊤
 IsEntry (entry.Best branch k) = (1 ≤ k) × (k ≤ 20)

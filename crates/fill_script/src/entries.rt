@@ -68,10 +68,16 @@ fn entry_in(alloc: Global, line: &Record) -> Result<Option<Entry>, NoMemory>
     if is_word(line, b"clear") {
         return Ok(alone(line, Entry::Edit(Edit::Clear)));
     }
+    if is_word(line, b"undo") {
+        return Ok(alone(line, Entry::Undo));
+    }
+    if is_word(line, b"redo") {
+        return Ok(alone(line, Entry::Redo));
+    }
     Ok(question_in(line))
 }
 
-/// What a line that is no edit asks for.
+/// What a line that leaves the examples asks for.
 fn question_in(line: &Record) -> Option<Entry>
     ensures { result ≡ question_in line.now }
 {
@@ -89,6 +95,9 @@ fn question_in(line: &Record) -> Option<Entry>
     }
     if is_word(line, b"answer") {
         return row_in(line).map(|row| Entry::Answer { row });
+    }
+    if is_word(line, b"object") {
+        return row_in(line).map(|row| Entry::Object { row });
     }
     if is_word(line, b"best") {
         return best_in(line);

@@ -52,6 +52,10 @@ pub enum TableLine {
 pub enum Entry {
     /// Change the examples.
     Edit(Edit),
+    /// Take the last accepted edit back.
+    Undo,
+    /// Make the last edit that was taken back again.
+    Redo,
     /// Print the branches with their programs.
     Programs,
     /// Print the program for all rows.
@@ -62,6 +66,8 @@ pub enum Entry {
     Count,
     /// Print a row's answer.
     Answer { row: u32 },
+    /// Print the simplest program that explains the examples of a row's branch and answers otherwise there.
+    Object { row: u32 },
     /// Print the first `k` programs of a branch, 1 to 20 of them; all of them where they are fewer. Branches count from 1.
     Best { branch: u32, k: u32 },
 }
