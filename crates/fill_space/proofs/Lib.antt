@@ -5,4 +5,5 @@ pub mod Growing
 pub mod Joined
 pub mod Marks
 pub mod Meeting
+pub mod Objector
 pub mod Told

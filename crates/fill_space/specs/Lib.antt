@@ -2,5 +2,6 @@ pub mod Best
 pub mod Doubt
 pub mod Ground
 pub mod Met
+pub mod Objector
 pub mod Spaces
 pub mod Weights

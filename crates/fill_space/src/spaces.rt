@@ -1,5 +1,5 @@
 //! Spaces, and what is asked of each.
-ghost use Rattle.std.specs.Prelude.{◌≡◌, ◌↔◌, ◌<◌, ◌≤◌, ℕ, List as Listed, length, map, IfOk, IsTrue, OnErr, OnOk};
+ghost use Rattle.std.specs.Prelude.{◌≡◌, ◌↔◌, ◌<◌, ◌≤◌, ℕ, List as Listed, length, map, option_copied, option_map, IfOk, IsTrue, OnErr, OnOk};
 ghost use Rattle.std.specs.List.{AllZip};
 ghost use Rattle.fill_arena.specs.Contents.{EachIn};
 ghost use Rattle.fill_arena.specs.Named.{IsNamed};
@@ -10,6 +10,7 @@ ghost use Rattle.fill_doubt.specs.Shapes.{ShapesStand};
 ghost use Rattle.fill_space.specs.Best.{AreBestOn};
 ghost use Rattle.fill_space.specs.Doubt.{IsDoubtful};
 ghost use Rattle.fill_space.specs.Ground.{ChosenOn, ExplainsOn};
+ghost use Rattle.fill_space.specs.Objector.{ObjectionIs, objection_tree};
 ghost use Rattle.fill_space.specs.Spaces.{SpaceStands, Succeeds, no_spaces};
 
 use crate::carried::carry_over;
@@ -18,9 +19,10 @@ use crate::met::Met;
 use crate::space::{Space, graphs_of, put_graphs};
 use fill_arena::{Arena, GraphId};
 use fill_doubt::Shapes;
+use fill_object::Objection;
 use fill_sheet::Sheet;
 use fill_tables::Tables;
-use fill_text::{List, NoMemory};
+use fill_text::{List, NoMemory, Text};
 use fill_tree::{Program, Settings};
 use std::alloc::Global;
 use std::marker::Model;
@@ -118,6 +120,33 @@ impl Spaces {
         ensures { IfOk result (λ made. (l : Listed Example) → SpaceStands self.now s l → AreBestOn self.now.ground l k (map program_tree made)) }
     {
         fill_best::best(alloc, &self.arena, s.graph(), k)
+    }
+
+    /// Of the programs that explain the examples of the space the least one whose answer on a row is not the one that was
+    /// said (a text or none), with its value. Rows count from 1.
+    pub fn object(
+        &self,
+        alloc: Global,
+        s: Space,
+        row: u32,
+        said: Option<&Text>,
+    ) -> Result<Option<Objection>, NoMemory>
+        requires stands { (l : Listed Example) × SpaceStands self.now s l }
+        requires first { 1 ≤ row }
+        requires last { row ≤ length self.now.ground.sheet.rows }
+        ensures { let told = option_copied said.entry in IfOk result (λ found. (l : Listed Example) → SpaceStands self.now s l →
+            ObjectionIs self.now.ground l row told (option_map objection_tree found)) }
+    {
+        let ground = &self.ground;
+        fill_object::object(
+            alloc,
+            &self.arena,
+            s.graph(),
+            row,
+            said,
+            &ground.sheet,
+            &ground.tables,
+        )
     }
 
     /// Whether the program explains the examples that the space stands for.
