@@ -7,6 +7,8 @@ mod eval;
 #[cfg(test)]
 mod guard;
 #[cfg(test)]
+mod notation;
+#[cfg(test)]
 mod places;
 #[cfg(test)]
 mod print;

@@ -231,81 +231,6 @@ fn answers_after_two_examples(rt: HostRuntime) -> Result<(), Fail> {
 }
 
 #[test]
-fn a_retraction_leaves_what_the_other_example_defines(rt: HostRuntime) -> Result<(), Fail> {
-    let edits = [
-        accepted(Kind::Add, 1, "Cd"),
-        accepted(Kind::Add, 2, "Ijk"),
-        accepted(Kind::Retract, 1, ""),
-    ];
-    let rows = [expected(1, 1, Some("Cd"), State::Doubt)];
-    assert_eq!(rt; left(rt.alloc(), WORDS, &edits, &rows)?, Some(2));
-    Ok(())
-}
-
-#[test]
-fn rows_that_no_guard_tells_apart(rt: HostRuntime) -> Result<(), Fail> {
-    let edits = [
-        accepted(Kind::Add, 1, "a"),
-        refused(Kind::Add, 2, "b", EditError::NoGuard { branch: 1 }),
-    ];
-    let rows = [expected(2, 1, Some("a"), State::Sure)];
-    assert_eq!(rt; left(rt.alloc(), "ab\nab\n", &edits, &rows)?, Some(1));
-    Ok(())
-}
-
-#[test]
-fn a_cleared_session(rt: HostRuntime) -> Result<(), Fail> {
-    let edits = [accepted(Kind::Add, 1, "a"), accepted(Kind::Clear, 0, "")];
-    let rows = [expected(2, 0, None, State::Sure)];
-    assert_eq!(rt; left(rt.alloc(), "ab\nab\n", &edits, &rows)?, Some(0));
-    Ok(())
-}
-
-#[test]
-fn a_correction_moves_a_later_example(rt: HostRuntime) -> Result<(), Fail> {
-    let edits = [
-        accepted(Kind::Add, 1, "k"),
-        accepted(Kind::Add, 2, "12"),
-        accepted(Kind::Add, 3, "k"),
-        accepted(Kind::Correct, 2, "k"),
-    ];
-    let sheet = "k\n12\nA-\n";
-    assert_eq!(rt; left(rt.alloc(), sheet, &edits[..3], &[])?, Some(1203));
-    assert_eq!(rt; left(rt.alloc(), sheet, &edits, &[])?, Some(123));
-    Ok(())
-}
-
-#[test]
-fn names_after_one_example(rt: HostRuntime) -> Result<(), Fail> {
-    let edits = [accepted(Kind::Add, 1, "Byron")];
-    let rows = [expected(2, 1, Some("Planck"), State::Doubt)];
-    let sheet = "Ada Byron\nMax Planck\nEmmy A Noether\n";
-    assert_eq!(rt; left(rt.alloc(), sheet, &edits, &rows)?, Some(1));
-    Ok(())
-}
-
-#[test]
-fn a_ninth_branch(rt: HostRuntime) -> Result<(), Fail> {
-    let edits = [
-        accepted(Kind::Add, 1, "a"),
-        accepted(Kind::Add, 2, "b"),
-        accepted(Kind::Add, 3, "c"),
-        accepted(Kind::Add, 4, "d"),
-        accepted(Kind::Add, 5, "e"),
-        accepted(Kind::Add, 6, "f"),
-        accepted(Kind::Add, 7, "g"),
-        accepted(Kind::Add, 8, "h"),
-        refused(Kind::Add, 9, "i", EditError::TooManyBranches { row: 9 }),
-    ];
-    let sheet = "-\n.\n;\n:\n/\n_\n@\n#\n&\n";
-    assert_eq!(rt;
-        left(rt.alloc(), sheet, &edits, &[])?,
-        Some(102030405060708)
-    );
-    Ok(())
-}
-
-#[test]
 fn the_profiles_place_examples_differently(rt: HostRuntime) -> Result<(), Fail> {
     let mut settings = Settings {
         depth: 1,
@@ -324,22 +249,6 @@ fn the_profiles_place_examples_differently(rt: HostRuntime) -> Result<(), Fail> 
     assert_eq!(rt;
         left_under(rt.alloc(), sheet, settings, &edits)?,
         Some(1023)
-    );
-    Ok(())
-}
-
-#[test]
-fn a_text_that_no_program_gives(rt: HostRuntime) -> Result<(), Fail> {
-    let settings = Settings {
-        depth: 1,
-        constants: Constants::Separators,
-        profile: 1,
-    };
-    let reason = EditError::NoProgram { row: 1 };
-    let edits = [refused(Kind::Add, 1, "Mr Smith", reason)];
-    assert_eq!(rt;
-        left_under(rt.alloc(), "Smith\n", settings, &edits)?,
-        Some(0)
     );
     Ok(())
 }
