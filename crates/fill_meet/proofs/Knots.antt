@@ -97,25 +97,29 @@ module _ (c : List Entry) (xs ys : List Edge) (h w : ℕ) (able : ArePairable c 
     ])
 
     module _ (i node : ℕ) (is : at ≡ i * w + node) (lt : node < w) where
-      -- on to the next edge of the second graph out of the node
-      pub row_on : (l2 : ℕ) → IsFirstFrom ys node l l2 → TiedSoFar c xs ys h w at k l2 marks ties
-      row_on l2 f = tied_on at k l2 (omega arith) (λ a b x y hx hy before marked. elim before [
-        | inl less ↦ inl less
-        | inr q ↦ inr (
-          q.0,
-          elim q.1 [
-            | inl less ↦ inl less
-            | inr e ↦ elim (cases_lt b l) [
-              | inl less ↦ inr (e.0, less)
-              | inr past ↦
-                  let same = same_row w x.from y.from i node (from_within b y hy).0 lt (q.0 ∙ is) in
-                  let least = f.least b y past hy same.1 in
-                  let less = e.1 in
-                  absurd (omega arith)
-            ]
-          ],
-        )
-      ])
+      -- on to a later edge of the second graph out of the node, past edges that have nothing in common with the first graph's edge
+      pub row_on : (l2 : ℕ) (x : Edge) → slice_get xs k ≡ Some x → ((b : ℕ) (y : Edge) → l ≤ b → b < l2 → slice_get ys b ≡ Some y → y.from ≡ node → AreApart AtomStands c x.atoms y.atoms) → TiedSoFar c xs ys h w at k l2 marks ties
+      row_on l2 x hx past =
+          record {
+            long = s.long;
+            marked = s.marked;
+            sound = s.sound;
+            low = s.low;
+            rising = s.rising;
+            covers = λ a b u v hu hv before marked. elim before [
+              | inl less ↦ s.covers a b u v hu hv (inl less) marked
+              | inr q ↦ elim q.1 [
+                | inl less ↦ s.covers a b u v hu hv (inr (q.0, inl less)) marked
+                | inr e ↦ elim (cases_lt b l) [
+                  | inl less ↦ s.covers a b u v hu hv (inr (q.0, inr (e.0, less))) marked
+                  | inr on ↦
+                      let same = same_row w u.from v.from i node (from_within b v hv).0 lt (q.0 ∙ is) in
+                      let this : x ≡ u = same_value xs k a x u (sym e.0) hx hu in
+                      inr (subst (λ f. AreApart AtomStands c f.atoms v.atoms) this (past b v on e.1 hv same.1))
+                ]
+              ]
+            ];
+          }
 
   module _ (at k : ℕ) (marks : List Bool) (ties : List Tie) (s : TiedSoFar c xs ys h w at k 0 marks ties) (i node : ℕ) (is : at ≡ i * w + node) (lt : node < w) where
     -- on to the next edge of the first graph out of the node

@@ -17,6 +17,7 @@ pub mod Streams
 pub mod Seams
 pub mod Trials
 pub mod Parted
+pub mod Begins
 pub mod WalksOn
 pub mod Meets
 pub mod Selves

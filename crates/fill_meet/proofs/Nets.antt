@@ -1,8 +1,10 @@
 -- The state of the loops over pairs of nodes and of edges, step by step.
 use Rattle.std.proofs.Common.{◌≡◌, ℕ, ◌+◌, ◌*◌, ◌<◌, ◌≤◌, inl, inr, true, List, length, set, Some, slice_get, sym, ap, ◌∙◌, subst, arith, length-set}
+use Rattle.fill_arena.specs.Stands.{AtomStands}
 use Rattle.fill_arena.specs.declared.entry.Entry.{Entry}
 use Rattle.fill_arena.specs.declared.entry.Edge.{Edge}
 use Rattle.fill_trim.specs.Marks.{IsMarked}
+use Rattle.fill_meet.specs.Meet.{AreApart}
 use Rattle.fill_meet.specs.Outs.{IsFirstFrom, AreOuts}
 use Rattle.fill_meet.specs.Product.{ArePairable}
 use Rattle.fill_meet.specs.Ties.{IsTried, AreTies, AreRising, NameSets, TiedSoFar, TieState}
@@ -30,8 +32,9 @@ module _ (c : List Entry) (xs ys : Outs) (at k l : ℕ) (p : Net) (s : TieState 
   pub net_node_end : length xs.edges.now ≤ k → TieState c xs ys (at + 1) 0 0 p
   net_node_end long = with_tied (at + 1) 0 0 (node_end c xs.edges.now ys.edges.now s.height p.width s.able at k l p.reached.items p.ties s.tied long)
 
-  pub net_row_on : (i node : ℕ) → at ≡ i * p.width + node → node < p.width → (l2 : ℕ) → IsFirstFrom ys.edges.now node l l2 → TieState c xs ys at k l2 p
-  net_row_on i node is lt l2 f = with_tied at k l2 (row_on c xs.edges.now ys.edges.now s.height p.width s.able at k l p.reached.items p.ties s.tied i node is lt l2 f)
+  pub net_row_on : (i node : ℕ) → at ≡ i * p.width + node → node < p.width → (l2 : ℕ) (x : Edge) → slice_get xs.edges.now k ≡ Some x
+      → ((b : ℕ) (y : Edge) → l ≤ b → b < l2 → slice_get ys.edges.now b ≡ Some y → y.from ≡ node → AreApart AtomStands c x.atoms y.atoms) → TieState c xs ys at k l2 p
+  net_row_on i node is lt l2 x hx past = with_tied at k l2 (row_on c xs.edges.now ys.edges.now s.height p.width s.able at k l p.reached.items p.ties s.tied i node is lt l2 x hx past)
 
   module _ (x y : Edge) (hx : slice_get xs.edges.now k ≡ Some x) (hy : slice_get ys.edges.now l ≡ Some y) where
     pub net_to : x.to * p.width + y.to < length p.reached.items

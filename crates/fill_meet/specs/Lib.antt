@@ -5,6 +5,7 @@ pub mod Memory
 pub mod Outs
 pub mod Product
 pub mod Sets
+pub mod Starts
 pub mod Ties
 pub mod Tried
 pub mod Walked

@@ -47,6 +47,16 @@ pub record AreOutlines (c : List Entry) (edges : List Edge) (outlines : List (Op
   pub long : length outlines ≡ length edges
   pub each : (k : ℕ) (e : Edge) (o : Option Outline) → slice_get edges k ≡ Some e → slice_get outlines k ≡ Some o → IfSome o (HasOutline c e.atoms)
 
+-- each constant of the outline has the length, and unless that is 0, there is an outline
+pub record HasLength (o : Option Outline) (n : ℕ) : Type 0 where
+  pub some : (n ≡ 0 → ⊥) → (x : Outline) × (o ≡ Some x)
+  pub each : (x : Outline) (l : Label) → o ≡ Some x → constant_of x ≡ Some l → l.length ≡ n
+
+-- for each outline the length of its constant
+pub record AreLengths (outlines : List (Option Outline)) (lengths : List ℕ) : Type 0 where
+  pub long : length lengths ≡ length outlines
+  pub each : (k : ℕ) (o : Option Outline) (n : ℕ) → slice_get outlines k ≡ Some o → slice_get lengths k ≡ Some n → HasLength o n
+
 -- not both have a label, or they have two
 abbrev pub DifferIn : Option Label → Option Label → Type 0
 DifferIn x y = (k l : Label) → x ≡ Some k → y ≡ Some l → (k.length ≡ l.length) → (k.first ≡ l.first) → ⊥

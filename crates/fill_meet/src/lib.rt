@@ -15,6 +15,7 @@ mod outs;
 mod places;
 mod product;
 mod sets;
+mod starts;
 mod ties;
 mod tried;
 mod within;

@@ -5,7 +5,7 @@ ghost use Rattle.fill_arena.specs.Stands.{AtomStands};
 ghost use Rattle.fill_arena.specs.declared.entry.AtomItem.TheVariants.{Const, Sub};
 ghost use Rattle.fill_arena.specs.declared.entry.Edge.{Edge as Listed};
 ghost use Rattle.fill_arena.specs.declared.entry.Entry.{Entry};
-ghost use Rattle.fill_meet.specs.Outlines.{AreApartAtEnds, AreOutlines, DifferIn, HasOutline, IsLabel, OutlinesMore, constant_of, pieces_of};
+ghost use Rattle.fill_meet.specs.Outlines.{AreApartAtEnds, AreLengths, AreOutlines, DifferIn, HasLength, HasOutline, IsLabel, OutlinesMore, constant_of, pieces_of};
 ghost use Rattle.fill_meet.specs.Meet.{AreApart};
 ghost use Rattle.fill_meet.specs.Tried.{IsTold};
 
@@ -32,7 +32,7 @@ pub(crate) enum Outline {
 }
 
 impl Outline {
-    fn constant(&self) -> Option<Label>
+    pub(crate) fn constant(&self) -> Option<Label>
         ensures { result ≡ constant_of self.now }
     {
         match self {
@@ -41,7 +41,7 @@ impl Outline {
         }
     }
 
-    fn pieces(&self) -> Option<(PlaceSet, PlaceSet)>
+    pub(crate) fn pieces(&self) -> Option<(PlaceSet, PlaceSet)>
         ensures { result ≡ pieces_of self.now }
     {
         match self {
@@ -133,6 +133,33 @@ fn outline_of(arena: &Arena, s: AtomSet) -> Option<Outline>
     Some(outline)
 }
 
+/// For each outline the length of its constant. What has no outline, and may be anything, has the length 0.
+pub(crate) fn find_lengths(
+    alloc: Global,
+    outlines: &[Option<Outline>],
+) -> Result<Vec<usize>, NoMemory>
+    ensures { IfOk result (λ lengths. AreLengths outlines.now lengths.items) }
+{
+    let mut lengths = Vec::with_capacity(alloc, outlines.len())?;
+    for i in 0..outlines.len() {
+        lengths.push(constant_length(outlines[i], usize::MAX))?;
+    }
+    Ok(lengths)
+}
+
+/// The length of the outline's constant, where it has one, and 0 where there is no outline.
+pub(crate) fn constant_length(outline: Option<Outline>, none: usize) -> usize
+    ensures { HasLength outline result }
+{
+    let Some(outline) = outline else {
+        return 0;
+    };
+    match outline.constant() {
+        Some(label) => label.length,
+        None => none,
+    }
+}
+
 /// Whether the outlines of two edges' sets, and the last answers at a pair of nodes and at one that the edges lead to, tell
 /// that nothing stands on both. So most pairs of edges are told apart without a look at their sets.
 pub(crate) fn are_told_apart(
@@ -192,7 +219,7 @@ fn are_apart_at_ends(
 }
 
 /// Whether the last answer at the pair of nodes was that these two sets have no place in common.
-fn is_told_apart(recent: &[Option<Told>], at: usize, s: PlaceSet, t: PlaceSet) -> bool
+pub(crate) fn is_told_apart(recent: &[Option<Told>], at: usize, s: PlaceSet, t: PlaceSet) -> bool
     ensures { IsTrue result → In (Some (record { s = s; t = t; may = false })) recent.now }
 {
     match recall(recent, at, s, t) {

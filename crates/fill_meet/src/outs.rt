@@ -2,23 +2,27 @@
 ghost use Rattle.std.specs.Prelude.{◌≡◌, ◌<◌, ℕ, length, get_or, slice_get, Some, IfOk};
 ghost use Rattle.fill_arena.specs.Contents.{EachIn, IsAtomSet};
 ghost use Rattle.fill_meet.specs.Outlines.{AreOutlines};
-ghost use Rattle.fill_meet.specs.Outs.{AreChainedFrom, AreOuts};
+ghost use Rattle.fill_meet.specs.Outs.{AreChainedFrom, AreOuts, IsFirstFrom, IsSought};
 
-use crate::outlines::{Outline, find_outlines};
+use crate::outlines::{Outline, find_lengths, find_outlines};
+use crate::starts::{Start, find_starts};
 use fill_arena::{Arena, Edge};
 use fill_text::NoMemory;
 use std::alloc::Global;
 
-/// Edges, for each node the place of the first edge out of it, and for each edge that of the next one out of its node, and
-/// the outline of its set.
+/// Edges; for each node the place of the first edge out of it, and where pieces out of it begin; for each edge the place of
+/// the next one out of its node, the outline of its set and the length of its constant.
 ///
-/// Where there is no such edge, it is a place past the last one.
+/// Where there is no such edge, it is a place past the last one. The lengths stand apart, since most edges are passed over by
+/// a look at these alone.
 #[derive(Drop)]
 pub(crate) struct Outs<'a> {
     pub(crate) edges: &'a [Edge],
     pub(crate) firsts: Vec<usize>,
     pub(crate) nexts: Vec<usize>,
     pub(crate) outlines: Vec<Option<Outline>>,
+    pub(crate) lengths: Vec<usize>,
+    pub(crate) starts: Vec<Start>,
 }
 
 impl<'a> Outs<'a> {
@@ -39,11 +43,15 @@ impl<'a> Outs<'a> {
         let mut nexts = vec![in alloc; edges.len(); edges.len()]?;
         chain(firsts.as_mut_slice(), nexts.as_mut_slice(), edges);
         let outlines = find_outlines(alloc, arena, edges)?;
+        let lengths = find_lengths(alloc, outlines.as_slice())?;
+        let starts = find_starts(alloc, nodes, edges, outlines.as_slice())?;
         Ok(Outs {
             edges,
             firsts,
             nexts,
             outlines,
+            lengths,
+            starts,
         })
     }
 
@@ -69,6 +77,34 @@ impl<'a> Outs<'a> {
         ensures { slice_get self.now.outlines.items place ≡ Some result }
     {
         self.outlines[place]
+    }
+
+    /// Where pieces out of the node begin.
+    pub(crate) fn start(&self, node: usize) -> Start
+        requires { node < length self.now.starts.items }
+        ensures { slice_get self.now.starts.items node ≡ Some result }
+    {
+        self.starts[node]
+    }
+
+    /// The first place from this one on, among the edges out of its node, whose edge has a constant of this length or no
+    /// outline. Where the length is 0, each edge is taken.
+    pub(crate) fn seek(&self, place: usize, wanted: usize) -> usize
+        requires { (nodes : ℕ) × AreOuts nodes self.now }
+        ensures { (node start : ℕ) → IsFirstFrom self.now.edges.now node start place → IsSought self.now.edges.now self.now.lengths.items node wanted start result }
+    {
+        if wanted == 0 {
+            return place;
+        }
+        let mut found = place;
+        while found < self.lengths.len() {
+            let length = self.lengths[found];
+            if length == wanted || length == 0 {
+                return found;
+            }
+            found = self.nexts[found];
+        }
+        found
     }
 }
 

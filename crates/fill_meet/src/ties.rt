@@ -1,14 +1,17 @@
 //! The pairs of edges that may have an atom in common.
-ghost use Rattle.std.specs.Prelude.{◌≡◌, ◌<◌, ◌+◌, ◌*◌, length, IfOk, IfSome, OnOk};
+ghost use Rattle.std.specs.Prelude.{◌≡◌, ◌<◌, ◌+◌, ◌*◌, ◌⊎◌, length, slice_get, IfOk, IfSome, IsTrue, OnOk, Some};
 ghost use Rattle.fill_arena.specs.Contents.{IsAtomSet};
-ghost use Rattle.fill_meet.specs.Outlines.{AreOutlines, HasOutline};
+ghost use Rattle.fill_arena.specs.declared.entry.Edge.{Edge as Listed};
+ghost use Rattle.fill_meet.specs.Outlines.{AreOutlines, HasLength, HasOutline};
 ghost use Rattle.fill_meet.specs.Product.{ArePairable};
+ghost use Rattle.fill_meet.specs.Starts.{NodesApart};
 ghost use Rattle.fill_meet.specs.Ties.{AreRising, AreTies, IsOut, IsTried, NameSets, TieState};
 ghost use Rattle.fill_meet.specs.Tried.{AreTried};
 
 use crate::apart::may_meet;
-use crate::outlines::{Outline, are_told_apart};
+use crate::outlines::{Outline, are_told_apart, constant_length};
 use crate::outs::Outs;
+use crate::starts::begin_apart;
 use crate::tried::Tried;
 use fill_arena::{Arena, AtomSet, Edge};
 use fill_text::{List, NoMemory};
@@ -91,16 +94,23 @@ fn tie_nodes(
     ensures width { OnOk result (net.new.width ≡ net.old.width) }
     ensures long { OnOk result (length net.new.reached.items ≡ length net.old.reached.items) }
 {
+    let first = at / net.width;
     let node = at % net.width;
-    let mut k = xs.first(at / net.width);
+    let mut apart = false;
+    let mut k = xs.first(first);
     while k < xs.edges.len() {
-        tie_row(arena, xs, k, ys, node, at, net)?;
+        let recent = net.tried.recent.as_slice();
+        apart = begin_apart(apart, recent, at, xs.start(first), ys.start(node));
+        tie_row(arena, xs, k, ys, node, at, apart, net)?;
         k = xs.next(k);
     }
     Ok(())
 }
 
 /// Ties the edge at place `k` of the first graph with those out of a node of the second.
+///
+/// Where pieces out of both nodes begin apart, only constants of one length may be on both edges, so most edges of the
+/// second graph are passed over.
 fn tie_row(
     arena: &Arena,
     xs: &Outs<'_>,
@@ -108,18 +118,21 @@ fn tie_row(
     ys: &Outs<'_>,
     node: usize,
     at: usize,
+    apart: bool,
     net: &mut Net,
 ) -> Result<(), NoMemory>
     requires firsts { AreOutlines arena.now xs.now.edges.now xs.now.outlines.items }
     requires seconds { AreOutlines arena.now ys.now.edges.now ys.now.outlines.items }
     requires within { k < length xs.now.edges.now }
     requires from { IsOut xs.now.edges.now k net.old.width node at }
+    requires apart { IsTrue apart → (x : Listed) → slice_get xs.now.edges.now k ≡ Some x → NodesApart arena.now xs.now.starts.items ys.now.starts.items x.from node }
     requires state { TieState arena.now xs.now ys.now at k 0 net.old }
     ensures state { OnOk result (TieState arena.now xs.now ys.now at (k + 1) 0 net.new) }
     ensures width { OnOk result (net.new.width ≡ net.old.width) }
     ensures long { OnOk result (length net.new.reached.items ≡ length net.old.reached.items) }
 {
-    let mut l = ys.first(node);
+    let wanted = wanted_length(apart, xs.outline(k));
+    let mut l = ys.seek(ys.first(node), wanted);
     while l < ys.edges.len() {
         tie_edges(
             arena,
@@ -129,9 +142,20 @@ fn tie_row(
             ys.outline(l),
             net,
         )?;
-        l = ys.next(l);
+        l = ys.seek(ys.next(l), wanted);
     }
     Ok(())
+}
+
+/// The length of a constant that may be on both edges, where only that may, or 0.
+fn wanted_length(apart: bool, outline: Option<Outline>) -> usize
+    ensures told { (result ≡ 0 → ⊥) → IsTrue apart }
+    ensures length { HasLength outline result ⊎ (result ≡ 0) }
+{
+    if !apart {
+        return 0;
+    }
+    constant_length(outline, usize::MAX - 1)
 }
 
 /// Ties two edges, if they may have an atom in common. Their sets have the given outlines.

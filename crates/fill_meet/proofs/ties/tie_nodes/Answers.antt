@@ -1,5 +1,10 @@
 use Rattle.std.proofs.Common.{◌≡◌, ◌+◌, ◌*◌, ◌/◌, ◌%◌, ◌<◌, refl, ap, sym, ◌∙◌, subst, arith}
+use Rattle.std.proofs.lemmas.Bool.{false≢true}
+use Rattle.fill_arena.specs.Contents.{EachIn}
 use Rattle.fill_arena.proofs.Lists.{get_there}
+use Rattle.fill_meet.specs.Starts.{NodesApart}
+use Rattle.fill_meet.specs.Tried.{IsTold}
+use Rattle.fill_meet.proofs.Begins.{stays_apart}
 use Rattle.fill_meet.proofs.Chains.{first_is, next_is}
 use Rattle.fill_meet.proofs.Nets.{net_node_on, net_node_end}
 use Rattle.fill_meet.proofs.Products.{row_within, row_and_column}
@@ -15,9 +20,20 @@ loop-k-init c =
     record {
       state = net_node_on c.args.arena.now c.args.xs.now c.args.ys.now c.args.at 0 c.args.net.now state (c.args.at / w) (c.args.at % w) is.0 is.1 c.first-k.result first;
       from = (is.1, λ x hx. is.0 ∙ ap (λ n. n * w + c.args.at % w) (sym (first.here x hx)));
+      of = first.here;
+      row = subst (λ n. c.args.at / w < n) (sym state.firsts.begun) row;
+      column = subst (λ n. c.args.at % w < n) (sym state.seconds.begun) is.1;
+      apart = λ none. absurd (false≢true none);
       width = refl;
       long = refl;
     }
+
+pub tie_row-requires-clause-apart : goal.tie_row-requires-clause-apart
+tie_row-requires-clause-apart c = λ yes x hx.
+    let inv = c.loop-k.invariant in
+    let recent = subst (EachIn (IsTold c.args.arena.now)) (sym c.as_slice-recent.ensures.value) inv.state.told.recent in
+    let apart = stays_apart c.args.arena.now c.args.xs.now.starts.items c.args.ys.now.starts.items (c.args.at / c.args.net.now.width) (c.args.at % c.args.net.now.width) c.start.result c.start-in-loop-k.result c.as_slice-recent.result.now c.loop-k.apart c.begin_apart-apart.result c.start.ensures c.start-in-loop-k.ensures c.begin_apart-apart.ensures recent inv.apart yes in
+    subst (λ n. NodesApart c.args.arena.now c.args.xs.now.starts.items c.args.ys.now.starts.items n (c.args.at % c.args.net.now.width)) (sym (c.loop-k.invariant.of x hx)) apart
 
 pub loop-k-smaller : goal.loop-k-smaller
 loop-k-smaller c =
@@ -29,6 +45,7 @@ loop-k-smaller c =
 pub loop-k-preserved : goal.loop-k-preserved
 loop-k-preserved c =
     let inv = c.loop-k.invariant in
+    let recent = subst (EachIn (IsTold c.args.arena.now)) (sym c.as_slice-recent.ensures.value) inv.state.told.recent in
     let done = c.in_ok-tie_row.ensures in
     let node = c.args.at % c.args.net.now.width in
     let x = get_there c.args.xs.now.edges.now c.loop-k.k c.loop-k-test.true in
@@ -37,6 +54,10 @@ loop-k-preserved c =
     let lt : node < c.tie_row.new.net.width = subst (λ w. node < w) (sym done.width) inv.from.0 in
     record {
       state = net_node_on c.args.arena.now c.args.xs.now c.args.ys.now c.args.at (c.loop-k.k + 1) c.tie_row.new.net done.state x.0.from node at lt c.next-k.result next;
+      of = λ y hy. next.here y hy ∙ inv.of x.0 x.1;
+      row = inv.row;
+      column = inv.column;
+      apart = stays_apart c.args.arena.now c.args.xs.now.starts.items c.args.ys.now.starts.items (c.args.at / c.args.net.now.width) (c.args.at % c.args.net.now.width) c.start.result c.start-in-loop-k.result c.as_slice-recent.result.now c.loop-k.apart c.begin_apart-apart.result c.start.ensures c.start-in-loop-k.ensures c.begin_apart-apart.ensures recent inv.apart;
       from = (lt, λ y hy. at ∙ ap (λ n. n * c.tie_row.new.net.width + node) (sym (next.here y hy)));
       width = done.width ∙ inv.width;
       long = done.long ∙ inv.long;

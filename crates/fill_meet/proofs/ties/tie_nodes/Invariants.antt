@@ -1,4 +1,6 @@
-use Rattle.std.proofs.Common.{◌≡◌, ◌-◌, length}
+use Rattle.std.proofs.Common.{◌≡◌, ◌-◌, ◌<◌, IsTrue, Some, length, slice_get}
+use Rattle.fill_arena.specs.declared.entry.Edge.{Edge}
+use Rattle.fill_meet.specs.Starts.{NodesApart}
 use Rattle.fill_meet.specs.Ties.{TieState, IsOut}
 use Rattle.fill_meet.proofs.ties.tie_nodes.Given as goal
 
@@ -7,6 +9,10 @@ invariant-loop-k l =
     record {
       state : TieState l.arena l.xs l.ys l.at l.k 0 l.net;
       from : IsOut l.xs.edges.now l.k l.net.width l.node l.at;
+      of : (x : Edge) → slice_get l.xs.edges.now l.k ≡ Some x → x.from ≡ l.first;
+      row : l.first < length l.xs.starts.items;
+      column : l.node < length l.ys.starts.items;
+      apart : IsTrue l.apart → NodesApart l.arena l.xs.starts.items l.ys.starts.items l.first l.node;
       width : l.net.width ≡ l.initial.net.width;
       long : length l.net.reached.items ≡ length l.initial.net.reached.items;
     }
