@@ -22,7 +22,7 @@ use Rattle.fill_tree.specs.declared.tree.Program.{Program}
 use Rattle.fill_tree.specs.declared.user.Example.{Example}
 use Rattle.fill_space.specs.declared.ground.Ground.{Ground}
 use Rattle.fill_space.specs.Ground.{FitsOn, WeighsOn}
-use Rattle.fill_session.specs.Answers.{AnswerIs, StateIs, TakesRow, cases_of, switch_of, with_branch}
+use Rattle.fill_session.specs.Answers.{AnswerIs, IsBranchAt, StateIs, TakesRow, cases_of, switch_of, with_branch}
 use Rattle.fill_session.specs.Branches.{AreGuarded, BranchData, IsGuardBefore, lists_of, rule_of_profile}
 use Rattle.fill_session.specs.Edits.{HasExample, rows_of}
 use Rattle.fill_session.specs.Outcome.{has_example}
@@ -142,35 +142,56 @@ front_long [] k x h = absurd cc
 front_long (a ∷ xs) zero x h = refl
 front_long (a ∷ xs) (suc k) x h = ap suc (front_long xs k x h)
 
--- the first branch that takes the row answers there
-pub answer_some : (g : Ground) (xs : List Example) (shown : List Branch) (row k : ℕ) (a : Answer) (are : AreShown g xs shown) (t : IsFirstTaker g.sheet row shown k) → a.branch ≡ k + 1
-    → ((x : Branch) → slice_get shown k ≡ Some x → IsValue (ProgramIs g.sheet g.tables row (program_tree x.program)) a.text)
-    → ((list : List Example) → slice_get (lists_of are.0) k ≡ Some list → StateIs g xs list row a.state) → AnswerIs g xs row a
-answer_some g [] shown row k a are t number value state =
+-- the branch that the first taker shows is the row's
+pub record TakenAt (sheet : SheetData) (row k : ℕ) (bs : List BranchData) (x : Branch) : Type 0 where
+  pub branch : BranchData
+  pub place : IsBranchAt sheet row bs (suc k) branch
+  pub shows : Shows x branch
+  pub list : slice_get (lists_of bs) k ≡ Some branch.examples
+
+pub taken_at : (sheet : SheetData) (shown : List Branch) (row k : ℕ) (bs : List BranchData) → AllZip Shows shown bs → (t : IsFirstTaker sheet row shown k) → TakenAt sheet row k bs t.branch
+taken_at sheet shown row k bs z t =
+    let found = zip_some Shows shown bs k t.branch z t.here in
+    let b = found.0 in
+    let size = front_long bs k b found.1 in
+    let n : suc k ≡ suc (length (take k bs)) = omega arith in
+    record {
+      branch = b;
+      place = (
+        take k bs,
+        drop (suc k) bs,
+        parted bs k b found.1,
+        none_zip sheet row (take k shown) (take k bs) (zip_take Shows k shown bs z) t.earlier,
+        subst (λ (o : Option Guard). TakesRow sheet row o) (found.2).guard t.takes,
+        n,
+      );
+      shows = found.2;
+      list = map_at (λ (c : BranchData). c.examples) bs k b found.1;
+    }
+
+-- where there is no example, no branch is shown that could take a row
+pub no_taker : (g : Ground) (shown : List Branch) (row k : ℕ) → AreShown g [] shown → IsFirstTaker g.sheet row shown k → ⊥
+no_taker g shown row k are t =
     let lt = below shown k t.branch t.here in
     let none : length (lists_of are.0) ≡ 0 = ap length (are.1).placed in
     let long = lists_long are.0 in
     let many = zip_lengths Shows shown are.0 are.2 in
-    absurd (omega arith)
+    omega arith
+
+-- the first branch that takes the row answers there
+pub answer_some : (g : Ground) (xs : List Example) (shown : List Branch) (row k : ℕ) (a : Answer) (are : AreShown g xs shown) (t : IsFirstTaker g.sheet row shown k) → a.branch ≡ k + 1
+    → ((x : Branch) → slice_get shown k ≡ Some x → IsValue (ProgramIs g.sheet g.tables row (program_tree x.program)) a.text)
+    → ((list : List Example) → slice_get (lists_of are.0) k ≡ Some list → StateIs g xs list row a.state) → AnswerIs g xs row a
+answer_some g [] shown row k a are t number value state = absurd (no_taker g shown row k are t)
 answer_some g (e ∷ es) shown row k a are t number value state =
-    let bs = are.0 in
-    let found = zip_some Shows shown bs k t.branch are.2 t.here in
-    let b = found.0 in
-    let size = front_long bs k b found.1 in
-    let n : a.branch ≡ suc (length (take k bs)) = omega arith in (
-      bs,
-      b,
+    let taken = taken_at g.sheet shown row k are.0 are.2 t in
+    let n : suc k ≡ a.branch = omega arith in (
+      are.0,
+      taken.branch,
       are.1,
-      (
-        take k bs,
-        drop (suc k) bs,
-        parted bs k b found.1,
-        none_zip g.sheet row (take k shown) (take k bs) (zip_take Shows k shown bs are.2) t.earlier,
-        subst (λ (o : Option Guard). TakesRow g.sheet row o) (found.2).guard t.takes,
-        n,
-      ),
-      subst (λ (p : Atoms). IsValue (ProgramIs g.sheet g.tables row p) a.text) (found.2).program (value t.branch t.here),
-      state b.examples (map_at (λ (c : BranchData). c.examples) bs k b found.1),
+      subst (λ (m : ℕ). IsBranchAt g.sheet row are.0 m taken.branch) n taken.place,
+      subst (λ (p : Atoms). IsValue (ProgramIs g.sheet g.tables row p) a.text) (taken.shows).program (value t.branch t.here),
+      state (taken.branch).examples taken.list,
     )
 
 -- the cases of one more branch

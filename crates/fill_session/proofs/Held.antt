@@ -1,6 +1,7 @@
 -- What a session holds, as its spaces grow and as examples change.
-use Rattle.std.proofs.Common.{◌≡◌, ℕ, suc, ◌-◌, ◌<◌, ◌≤◌, List, [], ◌∷◌, length, get_or, Some, None, refl, sym, ap, ◌∙◌, subst, inl, arith}
+use Rattle.std.proofs.Common.{◌≡◌, ℕ, suc, ◌-◌, ◌<◌, ◌≤◌, List, [], ◌∷◌, ◌++◌, length, get_or, Some, None, refl, sym, ap, ◌∙◌, subst, inl, arith}
 use Rattle.std.specs.Prelude.{slice_get, All}
+use Rattle.std.proofs.lemmas.List.Elements.{All-weaker}
 use Rattle.std.specs.List.{AllZip}
 use Rattle.fill_split.specs.Keeping.{Keeps}
 use Rattle.fill_split.specs.Placement.{Placed}
@@ -15,6 +16,9 @@ use Rattle.fill_split.proofs.Zips.{zip_lengths, zip_some}
 use Rattle.fill_tree.specs.declared.user.Edit.{Edit}
 use Rattle.fill_tree.specs.declared.user.Example.{Example}
 use Rattle.fill_tree.specs.declared.user.Settings.{Settings}
+use Rattle.fill_undo.specs.Moves.{Moves, latest}
+use Rattle.fill_undo.specs.declared.done.Done.{Done}
+use Rattle.fill_undo.specs.declared.done.Moved.{Moved}
 use Rattle.fill_space.specs.declared.ground.Ground.{Ground}
 use Rattle.fill_space.specs.Ground.{FitsOn, WeighsOn, MayStand}
 use Rattle.fill_space.specs.Spaces.{SpacesData, SpaceStands}
@@ -22,17 +26,18 @@ use Rattle.fill_session.specs.Branches.{ArePlaced, BranchData, lists_of, rule_of
 use Rattle.fill_session.specs.Edits.{AreExamples, changed}
 use Rattle.fill_session.specs.Fate.{EachHasProgram}
 use Rattle.fill_session.specs.Outcome.{first_reason}
-use Rattle.fill_session.specs.State.{AreShown, IsAsBefore, IsBranch, IsHeld, SessionData, Shows, SpacesStand}
+use Rattle.fill_session.specs.State.{AreHeld, AreShown, IsAsBefore, IsBranch, IsHeld, SessionData, Shows, SpacesStand}
 use Rattle.fill_session.specs.declared.branch.Branch.{Branch}
 use Rattle.fill_session.proofs.Applied.{stay_examples, stay_allowed, stay_few}
+use Rattle.fill_session.proofs.Moving.{held_pushed}
 use Rattle.fill_session.proofs.Picked.{here}
 
 abbrev pub SpaceFolds : Type 0 → Type 0
 SpaceFolds T = Folds SpacesData Example ℕ T Ground
 
 -- what is seen of what is held
-abbrev pub seen : SpacesData → List Example → List Branch → SessionData
-seen s xs shown = record { spaces = s; examples = xs; branches = shown }
+abbrev pub seen : SpacesData → List Example → List Branch → Moves (List Example) → SessionData
+seen s xs shown moves = record { spaces = s; examples = xs; branches = shown; moves = moves }
 
 -- folds stand where the spaces have grown
 pub stand_stays : {T : Type 0} (a b : SpacesData) (xs : List Example) (folds : SpaceFolds T) → b.ground ≡ a.ground → Keeps (SpaceStands a) (SpaceStands b) → SpacesStand a xs folds → SpacesStand b xs folds
@@ -51,6 +56,23 @@ held_stays a b xs folds shown same keeps h = record {
   stand = stand_stays a b xs folds same keeps h.stand;
   rule = h.rule ∙ ap (λ (g : Ground). rule_of_profile g.settings.profile) (sym same);
 }
+
+-- so of each state of a history
+pub states_stay : {S T : Type 0} (folds : S → SpaceFolds T) (examples : S → List Example) (branches : S → List Branch) (a b : SpacesData) (moves : Moves S) → b.ground ≡ a.ground → Keeps (SpaceStands a) (SpaceStands b)
+    → AreHeld (λ p. IsHeld a (examples p) (folds p) (branches p)) moves → AreHeld (λ p. IsHeld b (examples p) (folds p) (branches p)) moves
+states_stay {S} folds examples branches a b moves same keeps all =
+    All-weaker (λ (m : Moved S). IsHeld a (examples m.state) (folds m.state) (branches m.state)) (λ (m : Moved S). IsHeld b (examples m.state) (folds m.state) (branches m.state))
+    (λ m h. held_stays a b (examples m.state) (folds m.state) (branches m.state) same keeps h) (moves.past ++ moves.future) all
+
+-- what is held after an accepted edit: what was present goes to the past, and what was made is present
+pub next_held : {S T : Type 0} (folds : S → SpaceFolds T) (examples : S → List Example) (branches : S → List Branch) (a b : SpacesData) (old new : Moves S) (now before next made : S) (done : Done) → b.ground ≡ a.ground
+    → Keeps (SpaceStands a) (SpaceStands b) → IsHeld a (examples now) (folds now) (branches now) → AreHeld (λ p. IsHeld a (examples p) (folds p) (branches p)) old → IsHeld b (examples made) (folds made) (branches made)
+    → before ≡ now → next ≡ made → new.past ≡ latest (old.past ++ (record { state = before; done = done }) ∷ []) → new.future ≡ []
+    → IsHeld b (examples next) (folds next) (branches next) × AreHeld (λ p. IsHeld b (examples p) (folds p) (branches p)) new
+next_held {S} folds examples branches a b old new now before next made done same keeps h all is was now_is past future =
+    let held = λ (p : S). IsHeld b (examples p) (folds p) (branches p) in
+    let one : held before = subst held (sym was) (held_stays a b (examples now) (folds now) (branches now) same keeps h) in
+    (subst held (sym now_is) is, held_pushed held old new (record { state = before; done = done }) past future (states_stay folds examples branches a b old same keeps all) one)
 
 no_examples : AreExamples []
 no_examples i j d less lt = absurd (omega arith)
@@ -130,8 +152,12 @@ as_many s xs folds shown stand rule are =
 pub few_shown : (g : Ground) (xs : List Example) (shown : List Branch) → AreShown g xs shown → length shown ≤ 8
 few_shown g xs shown are = let few = (are.1).few in let same = zip_lengths Shows shown are.0 are.2 in omega arith
 
+-- the branches that are held, also as a slice that has them
+pub held_shown : {T : Type 0} (s : SpacesData) (xs : List Example) (folds : SpaceFolds T) (branches : List Branch) → IsHeld s xs folds branches → (shown : List Branch) → shown ≡ branches → AreShown s.ground xs shown
+held_shown s xs folds branches h shown same = subst (λ v. AreShown s.ground xs v) (sym same) (h.session).shown
+
 -- a session that is seen as v
-module _ {T : Type 0} (s : SpacesData) (xs : List Example) (folds : SpaceFolds T) (shown : List Branch) (v : SessionData) (is : seen s xs shown ≡ v) (h : IsHeld s xs folds shown) where
+module _ {T : Type 0} (s : SpacesData) (xs : List Example) (folds : SpaceFolds T) (shown : List Branch) (moves : Moves (List Example)) (v : SessionData) (is : seen s xs shown moves ≡ v) (h : IsHeld s xs folds shown) where
   pub within_folds : (fs : List (Fold ℕ)) (n : ℕ) → fs ≡ branches_of folds → 1 ≤ n → n ≤ length v.branches → n - 1 < length fs
   within_folds fs n all first last =
       let many = as_many s xs folds shown h.stand h.rule (h.session).shown in
@@ -162,5 +188,5 @@ module _ {T : Type 0} (s : SpacesData) (xs : List Example) (folds : SpaceFolds T
       let step : n ≡ suc (n - 1) = omega arith in
       (get_or (lists_of are.0) (n - 1) [], (lists_of are.0, n - 1, (are.1).placed, here (lists_of are.0) (n - 1) [] lt, step)))
 
-  pub as_before : (b : SpacesData) → b.ground ≡ s.ground → Keeps (SpaceStands s) (SpaceStands b) → Keeps (SpaceStands b) (SpaceStands s) → IsAsBefore v (seen b xs shown)
-  as_before b same keeps cut = subst (λ (w : SessionData). IsAsBefore w (seen b xs shown)) is (record { ground = same; examples = refl; branches = refl; spaces = λ k l. (keeps k l, cut k l) })
+  pub as_before : (b : SpacesData) → b.ground ≡ s.ground → Keeps (SpaceStands s) (SpaceStands b) → Keeps (SpaceStands b) (SpaceStands s) → IsAsBefore v (seen b xs shown moves)
+  as_before b same keeps cut = subst (λ (w : SessionData). IsAsBefore w (seen b xs shown moves)) is (record { ground = same; examples = refl; branches = refl; moves = refl; spaces = λ k l. (keeps k l, cut k l) })

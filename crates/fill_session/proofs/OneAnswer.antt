@@ -16,7 +16,8 @@ use Rattle.fill_session.proofs.Firsts.{contains_map}
 use Rattle.fill_session.proofs.OneFate.{branches_are_one}
 use Rattle.fill_session.proofs.Reproduced.{branch_is_one, example_reproduced}
 
-value_is_one : {A : Type 0} (P : A → Type 0) (o p : Option A) → IsValue P o → IsValue P p → o ≡ p
+-- what a property has is one value, or none
+pub value_is_one : {A : Type 0} (P : A → Type 0) (o p : Option A) → IsValue P o → IsValue P p → o ≡ p
 value_is_one P None None h k = refl
 value_is_one P None (Some v) h k = (h v).0 ((k v).1 refl)
 value_is_one P (Some v) p h k = sym ((k v).0 ((h v).1 refl))

@@ -97,7 +97,7 @@ branch_is_one sheet row bs n m b c h k =
     (h.5 ∙ ap suc one.0 ∙ sym k.5, one.1)
 
 -- what explains examples has the text of each as its value there
-explained_value : (g : Ground) (xs : List Example) (p : Atoms) (e : Example) → ExplainsOn g xs p → Contains xs e → ProgramIs g.sheet g.tables e.row p e.text
+pub explained_value : (g : Ground) (xs : List Example) (p : Atoms) (e : Example) → ExplainsOn g xs p → Contains xs e → ProgramIs g.sheet g.tables e.row p e.text
 explained_value g xs p e h c = All-contains (λ (x : Example). ProgramIs g.sheet g.tables x.row p x.text) xs e h.values c
 
 -- so that is the one answer there

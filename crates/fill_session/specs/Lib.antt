@@ -7,6 +7,9 @@ pub mod Edits
 pub mod Fate
 pub mod Folded
 pub mod Laws
+pub mod Objector
 pub mod Outcome
+pub mod Renewed
 pub mod State
 pub mod Taken
+pub mod Timeline

@@ -6,18 +6,21 @@ ghost use Rattle.fill_tree.specs.Guard.{ReadsInputs};
 ghost use Rattle.fill_tree.specs.Switch.{case_tree, switch_tree};
 ghost use Rattle.fill_tree.specs.declared.user.Example.{Example};
 ghost use Rattle.fill_doubt.specs.Shapes.{ShapesStand};
+ghost use Rattle.fill_space.specs.Objector.{objection_tree};
 ghost use Rattle.fill_space.specs.Spaces.{SpaceStands};
 ghost use Rattle.fill_session.specs.Answers.{AnswerIs, StateIs, TakesRow, cases_of, switch_of};
 ghost use Rattle.fill_session.specs.Branches.{rule_of_profile, BranchData};
-ghost use Rattle.fill_session.specs.State.{AreShown, Shows, SpacesStand};
+ghost use Rattle.fill_session.specs.Objector.{ObjectorIs};
+ghost use Rattle.fill_session.specs.State.{AreShown, IsHeld, Shows, SpacesStand};
 ghost use Rattle.fill_session.specs.Taken.{ReadInputs, NoneTakes, IsFirstTaker};
 
 use crate::answer::{Answer, State};
 use crate::branch::Branch;
+use crate::present::Present;
 use crate::reasons::is_given;
 use fill_eval::{guard_holds, program_value};
 use fill_sheet::Sheet;
-use fill_space::{Shapes, Space, Spaces};
+use fill_space::{Objection, Shapes, Space, Spaces};
 use fill_split::Folds;
 use fill_text::{List, NoMemory};
 use fill_tree::{Case, Example, Guard, Switch};
@@ -59,6 +62,30 @@ pub(crate) fn answer_on(
             text: None,
             state: State::Sure,
         }),
+    }
+}
+
+/// Who objects on a row to what is answered there by what is present.
+pub(crate) fn objector_on(
+    alloc: Global,
+    spaces: &Spaces,
+    present: &Present,
+    row: u32,
+) -> Result<Option<Objection>, NoMemory>
+    requires held { IsHeld spaces.now present.now.examples present.now.folds present.now.branches }
+    requires first { 1 ≤ row }
+    requires last { row ≤ length spaces.now.ground.sheet.rows }
+    ensures { IfOk result (λ found. ObjectorIs spaces.now.ground present.now.examples row (option_map objection_tree found)) }
+{
+    let shown = present.branches.as_slice();
+    let folds = present.folds.branches();
+    match first_taker(spaces.sheet(), shown, row) {
+        Some(k) => {
+            let program = &shown[k].program;
+            let text = program_value(alloc, program, row, spaces.sheet(), spaces.tables())?;
+            spaces.object(alloc, folds[k].kept, row, text.as_ref())
+        }
+        None => Ok(None),
     }
 }
 

@@ -2,16 +2,21 @@
 //!
 //! Each function does nothing: what it tells is its clauses, which hold over all grounds and for all lists of examples
 //! and of edits.
-ghost use Rattle.std.specs.Prelude.{◌≡◌, ◌≢◌, ℕ, ⊤, [], All, Contains, Err, List, None, Option, Result};
+ghost use Rattle.std.specs.Prelude.{◌≡◌, ◌≢◌, ℕ, ⊤, [], All, Contains, Err, List, None, Option, Result, Some};
 ghost use Rattle.fill_tables.specs.Keys.{KeysDistinguish};
 ghost use Rattle.fill_tree.specs.declared.user.Edit.{Edit};
 ghost use Rattle.fill_tree.specs.declared.user.Example.{Example};
+ghost use Rattle.fill_undo.specs.Done.{done_of};
+ghost use Rattle.fill_undo.specs.declared.done.Done.{Done};
 ghost use Rattle.fill_space.specs.declared.ground.Ground.{Ground};
+ghost use Rattle.fill_space.specs.Objector.{ObjectionTree};
 ghost use Rattle.fill_session.specs.Answers.{AnswerIs, IsBranchAt};
 ghost use Rattle.fill_session.specs.Branches.{AreBranches, BranchData};
 ghost use Rattle.fill_session.specs.Fate.{FateIs};
 ghost use Rattle.fill_session.specs.Laws.{IsGivenAs, IsReproducedBy};
+ghost use Rattle.fill_session.specs.Objector.{ObjectorIs};
 ghost use Rattle.fill_session.specs.Outcome.{AllAnswer, OutcomeIs};
+ghost use Rattle.fill_session.specs.Timeline.{RedoIs, Timeline, UndoIs, edited};
 ghost use Rattle.fill_session.specs.declared.answer.Answer.{Answer};
 ghost use Rattle.fill_session.specs.declared.error.EditError.{EditError};
 
@@ -55,4 +60,19 @@ pub fn one_outcome()
 pub fn one_answer()
     ensures { (g : Ground) (examples : List Example) (row : ℕ) (a b : Answer) →
         AnswerIs g examples row a → AnswerIs g examples row b → a ≡ b }
+{}
+
+/// A row has at most one objector.
+pub fn one_objector()
+    ensures { (g : Ground) (examples : List Example) (row : ℕ) (a b : Option ObjectionTree) →
+        ObjectorIs g examples row a → ObjectorIs g examples row b → a ≡ b }
+{}
+
+/// An accepted edit that is undone is told, and the examples of before it are there again. What was undone and is done again
+/// is told once more, and all is as before both.
+pub fn undo_goes_back()
+    ensures undone { (a b c : Timeline) (edit : Edit) (o : Option Done) →
+        b ≡ edited a edit → UndoIs b o c → (o ≡ Some (done_of edit)) × (c.examples ≡ a.examples) }
+    ensures redone { (a b c : Timeline) (done : Done) (o : Option Done) →
+        UndoIs a (Some done) b → RedoIs b o c → (o ≡ Some done) × (c ≡ a) }
 {}

@@ -20,5 +20,5 @@ mod session;
 pub use answer::{Answer, State};
 pub use branch::Branch;
 pub use error::{EditError, Part};
-pub use fill_space::Shapes;
+pub use fill_space::{Objection, Shapes};
 pub use session::Session;

@@ -1,5 +1,5 @@
 //! Sessions.
-ghost use Rattle.std.specs.Prelude.{◌≡◌, ◌↔◌, ◌+◌, ◌≤◌, ⊤, List as Listed, length, map, [], Some, Ok, Err, Result, IfOk, OnErr, IsTrue, All, option_map};
+ghost use Rattle.std.specs.Prelude.{◌≡◌, ◌≢◌, ◌↔◌, ◌+◌, ◌≤◌, ⊤, List as Listed, length, map, [], None, Some, Ok, Err, Result, IfOk, OnErr, IsTrue, All, option_map};
 ghost use Rattle.fill_tree.specs.Grammar.{AreSettings};
 ghost use Rattle.fill_tree.specs.Meaning.{program_tree};
 ghost use Rattle.fill_tree.specs.Switch.{switch_tree};
@@ -7,15 +7,21 @@ ghost use Rattle.fill_tree.specs.declared.user.Example.{Example};
 ghost use Rattle.fill_doubt.specs.Shapes.{ShapesStand};
 ghost use Rattle.fill_space.specs.Best.{AreBestOn, BeginsWithChosen};
 ghost use Rattle.fill_space.specs.Ground.{ExplainsOn, MayStand};
+ghost use Rattle.fill_space.specs.Objector.{objection_tree};
 ghost use Rattle.fill_space.specs.Spaces.{SpaceStands};
 ghost use Rattle.fill_session.specs.Answers.{AnswerIs, switch_of};
 ghost use Rattle.fill_session.specs.Branches.{AreBranches, BranchData};
 ghost use Rattle.fill_session.specs.Edits.{AreExamples};
+ghost use Rattle.fill_session.specs.Objector.{ObjectorIs};
 ghost use Rattle.fill_session.specs.Outcome.{Answers, AllAnswer, first_reason, term};
 ghost use Rattle.fill_session.specs.State.{AreShown, IsAsBefore, IsBranch};
+ghost use Rattle.fill_session.specs.Timeline.{RedoIs, UndoIs, edited_by, forgotten, timeline};
+ghost use Rattle.fill_undo.specs.Moves.{no_moves};
+ghost use Rattle.fill_session.specs.declared.answer.Answer.{Answer as Answered};
+ghost use Rattle.fill_session.specs.declared.answer.State.TheVariants.{Doubt};
 ghost use Rattle.fill_session.specs.declared.error.EditError.{EditError};
 
-use crate::answers::{answer_on, switch_from};
+use crate::answers::{answer_on, objector_on, switch_from};
 use crate::compaction::{compact, is_due};
 use crate::edit::present_after;
 use crate::present::Present;
@@ -23,25 +29,28 @@ use crate::reasons::first_reason;
 use crate::{Answer, Branch, EditError};
 use fill_edge::{Ledger, Steps};
 use fill_sheet::Sheet;
-use fill_space::{Shapes, Space, Spaces};
+use fill_space::{Objection, Shapes, Space, Spaces};
 use fill_tables::Tables;
 use fill_text::{List, NoMemory};
 use fill_tree::{Edit, Example, Program, Settings, Switch};
+use fill_undo::{Done, History};
 use std::alloc::Global;
 use std::marker::Model;
+use std::mem;
 
-/// Examples over a sheet and tables, and the branches that are learned from them.
+/// Examples over a sheet and tables, the branches that are learned from them, and the edits that can be undone.
 #[derive(Drop)]
 pub struct Session {
     alloc: Global,
     spaces: Spaces,
     present: Present,
+    history: History<Present>,
     // the size of the spaces after the last compaction, 0 before the first
     compacted: u128,
 }
 
 impl Model for Session {
-    ghost use Rattle.fill_session.specs.State.{SessionData, IsHeld};
+    ghost use Rattle.fill_session.specs.State.{SessionData, AreHeld, IsHeld, seen_as};
     ghost use Rattle.fill_tree.specs.contracts.tree.Atom as atom;
     ghost use Rattle.std.specs.Coded.{codes};
 
@@ -49,32 +58,41 @@ impl Model for Session {
 
     ghost coded = { Prim.hlevel (codes, atom.the_row.coded) };
 
-    ghost view = { λ s. record { spaces = s.spaces; examples = s.present.examples; branches = s.present.branches } };
+    ghost view = { λ s. record { spaces = s.spaces; examples = s.present.examples; branches = s.present.branches; moves = seen_as (λ p. p.examples) s.history } };
 
-    ghost invariant = { λ s. IsHeld s.spaces s.present.examples s.present.folds s.present.branches };
+    ghost invariant = { λ s. IsHeld s.spaces s.present.examples s.present.folds s.present.branches × AreHeld (λ p. IsHeld s.spaces p.examples p.folds p.branches) s.history };
 }
 
 impl Session {
-    /// No examples yet. Takes no memory.
-    pub fn new(alloc: Global, settings: Settings, sheet: Sheet, tables: Tables) -> Session
+    /// No examples yet, and no edit to undo. Takes the memory that the history will ever need.
+    pub fn new(
+        alloc: Global,
+        settings: Settings,
+        sheet: Sheet,
+        tables: Tables,
+    ) -> Result<Session, NoMemory>
         requires { AreSettings settings }
-        ensures ground { result.spaces.ground ≡ record { settings = settings; sheet = sheet; tables = tables } }
-        ensures examples { result.examples ≡ [] }
+        ensures ground { IfOk result (λ made. made.spaces.ground ≡ record { settings = settings; sheet = sheet; tables = tables }) }
+        ensures timeline { IfOk result (λ made. timeline made ≡ record { examples = []; moves = no_moves }) }
     {
+        let history = History::new(alloc)?;
         let spaces = Spaces::new(alloc, sheet, tables, settings);
         let present = Present::none(alloc, &settings);
-        Session {
+        Ok(Session {
             alloc,
             spaces,
             present,
+            history,
             compacted: 0,
-        }
+        })
     }
 
-    /// Makes an edit, or tells why it is refused. After a refusal the session is as before.
+    /// Makes an edit, or tells why it is refused. After a refusal the session is as before. One that is accepted can be
+    /// undone.
     pub fn edit<L: Ledger>(&mut self, edit: &Edit, steps: &mut Steps<L>) -> Result<(), EditError>
         ensures ground { self.new.spaces.ground ≡ self.old.spaces.ground }
         ensures answers { Answers self.old.spaces.ground self.old.examples edit.now result self.new.examples }
+        ensures timeline { timeline self.new ≡ edited_by (timeline self.old) edit.now result }
         ensures certain { (reason : EditError) → first_reason self.old.spaces.ground.sheet self.old.examples edit.now ≡ Some reason → result ≡ Err reason }
         ensures cleared { edit.now ≡ Edit.Clear → result ≡ Ok tt }
         ensures as_before { OnErr result (IsAsBefore self.old self.new) }
@@ -86,8 +104,10 @@ impl Session {
         }
         match present_after(self.alloc, &mut self.spaces, &self.present, edit, steps) {
             Ok(present) => {
-                self.present = present;
-                if is_due(edit, self.spaces.size(), self.compacted) {
+                let forgets = self.history.can_redo();
+                let before = mem::replace(&mut self.present, present);
+                self.history.push(edit, before);
+                if is_due(edit, forgets, self.spaces.size(), self.compacted) {
                     self.compact();
                 }
                 Ok(())
@@ -96,13 +116,70 @@ impl Session {
         }
     }
 
-    /// Lets the spaces forget what nothing present needs. Where there is no memory for that, all stays as it is.
+    /// Undoes the last edit that was accepted, if there is one, and tells what that edit did. It takes no memory and no
+    /// step, and can be done again by [`Session::redo`] until the next accepted edit.
+    pub fn undo(&mut self) -> Option<Done>
+        ensures spaces { self.new.spaces ≡ self.old.spaces }
+        ensures timeline { UndoIs (timeline self.old) result (timeline self.new) }
+    {
+        let none = Present::none(self.alloc, self.spaces.settings());
+        let now = mem::replace(&mut self.present, none);
+        match self.history.undo(now) {
+            Ok(before) => {
+                self.present = before.state;
+                Some(before.done)
+            }
+            Err(now) => {
+                self.present = now;
+                None
+            }
+        }
+    }
+
+    /// Does again what was undone last, if nothing was done since, and tells what that edit did. It takes no memory and no
+    /// step.
+    pub fn redo(&mut self) -> Option<Done>
+        ensures spaces { self.new.spaces ≡ self.old.spaces }
+        ensures timeline { RedoIs (timeline self.old) result (timeline self.new) }
+    {
+        let none = Present::none(self.alloc, self.spaces.settings());
+        let now = mem::replace(&mut self.present, none);
+        match self.history.redo(now) {
+            Ok(after) => {
+                self.present = after.state;
+                Some(after.done)
+            }
+            Err(now) => {
+                self.present = now;
+                None
+            }
+        }
+    }
+
+    /// Nothing can be undone or redone any more.
+    pub fn forget(&mut self)
+        ensures spaces { self.new.spaces ≡ self.old.spaces }
+        ensures branches { self.new.branches ≡ self.old.branches }
+        ensures timeline { timeline self.new ≡ forgotten (timeline self.old) }
+    {
+        self.history.forget();
+    }
+
+    /// Lets the spaces forget what no state needs. Where there is no memory for that, all stays as it is.
     fn compact(&mut self)
         ensures ground { self.new.spaces.ground ≡ self.old.spaces.ground }
         ensures examples { self.new.examples ≡ self.old.examples }
         ensures branches { self.new.branches ≡ self.old.branches }
+        ensures moves { self.new.moves ≡ self.old.moves }
     {
-        if compact(self.alloc, &mut self.spaces, &mut self.present).is_ok() {
+        if compact(
+            self.alloc,
+            &mut self.spaces,
+            &mut self.present,
+            &mut self.history,
+        )
+        .is_ok()
+        {
             self.compacted = self.spaces.size();
         }
     }
@@ -206,6 +283,18 @@ impl Session {
             &present.folds,
             row,
         )
+    }
+
+    /// Who objects on a row to what is answered there: of the programs that explain the examples of the row's branch the
+    /// least one that answers otherwise, with its value. Rows count from 1.
+    pub fn object(&self, alloc: Global, row: u32) -> Result<Option<Objection>, NoMemory>
+        requires first { 1 ≤ row }
+        requires last { row ≤ length self.now.spaces.ground.sheet.rows }
+        ensures objector { IfOk result (λ found. ObjectorIs self.now.spaces.ground self.now.examples row (option_map objection_tree found)) }
+        ensures doubtful { IfOk result (λ found. (a : Answered) → AnswerIs self.now.spaces.ground self.now.examples row a → (found ≢ None) ↔ (a.state ≡ Doubt)) }
+    {
+        self.spaces.tables().keeps_keys();
+        objector_on(alloc, &self.spaces, &self.present, row)
     }
 
     /// The conditional program; none where there is no branch.

@@ -62,7 +62,7 @@ module _ {S : Type 0} where
       (slice_get_read (past ++ future) (length (past ++ future)) i moved refl (omega (arith, length-append past future))
       (e ∙ ap (λ k. get_or future k moved) is ∙ sym (get_or-append_right past future (length past) i moved refl le)))
 
-  length_with : (moves : List (Moved S)) (i : ℕ) (state : S) → length (with_state moves i state) ≡ length moves
+  pub length_with : (moves : List (Moved S)) (i : ℕ) (state : S) → length (with_state moves i state) ≡ length moves
   length_with [] i state = refl
   length_with (x ∷ xs) zero state = refl
   length_with (x ∷ xs) (suc i) state = ap (λ n. suc n) (length_with xs i state)
@@ -88,7 +88,7 @@ module _ {S : Type 0} where
   done_stays (x ∷ xs) (suc i) (suc j) state = done_stays xs i j state
 
   -- the moves of both sides as one list
-  joined : (past future : List (Moved S)) (i : ℕ) (state : S) →
+  pub joined : (past future : List (Moved S)) (i : ℕ) (state : S) →
       with_state past i state ++ (if nat_lt i (length past) then future else with_state future (i - length past) state) ≡ with_state (past ++ future) i state
   joined [] future i state =
       ap (λ (b : Bool). if b then future else with_state future (i - 0) state) (above i 0 (omega arith))

@@ -1,5 +1,5 @@
 //! The history.
-ghost use Rattle.std.specs.Prelude.{◌≡◌, ◌+◌, ◌-◌, ◌<◌, ◌≤◌, ◌++◌, [], ◌∷◌, drop, length, IfOk, IfErr, OnErr, Some, vec_len, vec_capacity};
+ghost use Rattle.std.specs.Prelude.{◌≡◌, ◌≢◌, ◌↔◌, ◌+◌, ◌-◌, ◌<◌, ◌≤◌, ◌++◌, [], ◌∷◌, drop, length, IfOk, IfErr, OnErr, IsTrue, Some, vec_len, vec_capacity};
 ghost use Rattle.std.specs.Borrow.{sem};
 ghost use Rattle.fill_undo.specs.Done.{done_of};
 
@@ -44,6 +44,13 @@ impl<S: Drop> History<S> {
         let past = Vec::with_capacity(alloc, MOST_MOVES)?;
         let future = Vec::with_capacity(alloc, MOST_MOVES)?;
         Ok(History { past, future })
+    }
+
+    /// Whether there is an edit to be redone.
+    pub fn can_redo(&self) -> bool
+        ensures { IsTrue result ↔ (self.now.future ≢ []) }
+    {
+        !self.future.is_empty()
     }
 
     /// How many states there are.
