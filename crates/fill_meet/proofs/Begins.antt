@@ -1,5 +1,5 @@
 -- Lengths of constants, where pieces begin, and edges that are passed over.
-use Rattle.std.proofs.Common.{◌≡◌, ℕ, zero, suc, ◌+◌, ◌<◌, ◌≤◌, ◌⊎◌, inl, inr, Bool, IsTrue, List, [], ◌∷◌, ◌++◌, length, set, Option, None, Some, IfSome, slice_get, refl, sym, ◌∙◌, ap, subst, arith}
+use Rattle.std.proofs.Common.{◌≡◌, ℕ, zero, suc, ◌+◌, ◌<◌, ◌≤◌, ◌⊎◌, inl, inr, Bool, IsTrue, List, [], ◌∷◌, ◌++◌, length, set, Option, None, Some, slice_get, refl, sym, ◌∙◌, ap, subst, arith}
 use Rattle.std.proofs.lemmas.Bool.{cases_lt, cases_eq}
 use Rattle.std.proofs.lemmas.Option.{slice_get_within}
 use Rattle.fill_arena.specs.Contents.{EachIn}
@@ -9,17 +9,15 @@ use Rattle.fill_arena.specs.declared.entry.Entry.{Entry}
 use Rattle.fill_arena.proofs.Lists.{get_pushed}
 use Rattle.fill_trim.proofs.Ranks.{set_other}
 use Rattle.fill_meet.specs.Meet.{AreApart}
-use Rattle.fill_meet.specs.Outlines.{AreOutlines, AreLengths, DifferIn, HasLength, HasOutline, constant_of, pieces_of}
+use Rattle.fill_meet.specs.Outlines.{AreOutlines, DifferIn, HasLength, constant_of, pieces_of}
 use Rattle.fill_meet.specs.Outs.{AreOuts, DiffersAt, IsFirstFrom, IsSought}
 use Rattle.fill_meet.specs.Tried.{IsTold}
 use Rattle.fill_meet.specs.Starts.{AreStarts, BeginApart, BeginsAt, BeginsIn, NodesApart, StartsMore}
-use Rattle.fill_meet.specs.declared.outlines.Label.{Label}
 use Rattle.fill_meet.specs.declared.outlines.Outline.{Outline}
 use Rattle.fill_meet.specs.declared.outs.Outs.{Outs}
 use Rattle.fill_meet.specs.declared.starts.Start.{Start}
 use Rattle.fill_meet.specs.declared.tried.Told.{Told}
-use Rattle.fill_meet.specs.declared.starts.Start.TheVariants.{Nowhere, At, Anywhere}
-use Rattle.fill_meet.proofs.Grows.{some_is}
+use Rattle.fill_meet.specs.declared.starts.Start.TheVariants.{Nowhere, At}
 use Rattle.fill_meet.proofs.Lists.{get_there_too, length_pushed, same_value}
 use Rattle.fill_meet.proofs.Parted.{one_value, outlines_apart}
 

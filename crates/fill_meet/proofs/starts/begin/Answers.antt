@@ -1,4 +1,4 @@
-use Rattle.std.proofs.Common.{◌≡◌, ◌<◌, get_or, length, sym, ◌∙◌, subst, length-set}
+use Rattle.std.proofs.Common.{◌<◌, get_or, length, sym, ◌∙◌, subst, length-set}
 use Rattle.std.proofs.lemmas.Option.{slice_get-get_or}
 use Rattle.fill_meet.proofs.Begins.{starts_more, starts_all}
 use Rattle.fill_meet.proofs.Lists.{here}

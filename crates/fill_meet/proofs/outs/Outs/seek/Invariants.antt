@@ -1,4 +1,4 @@
-use Rattle.std.proofs.Common.{◌≡◌, ◌-◌, ℕ, length}
+use Rattle.std.proofs.Common.{◌-◌, ℕ, length}
 use Rattle.fill_meet.specs.Outs.{IsFirstFrom, IsSought}
 use Rattle.fill_meet.proofs.outs.Outs.seek.Given as goal
 
