@@ -36,21 +36,15 @@ fn sheet_and_tables(alloc: Global) -> Result<Given, Fail> {
     Ok(Given { sheet, tables })
 }
 
-fn settings(depth: u8, constants: Constants) -> Settings
-    requires { depth ≤ 2 }
-{
-    Settings {
-        depth,
-        constants,
-        profile: 1,
-    }
-}
-
 /// Whether the program is in the grammar under the first profile, with lookups of this depth.
 fn is_in(p: &Program, depth: u8, constants: Constants, given: &Given) -> bool
     requires { depth ≤ 2 }
 {
-    let settings = settings(depth, constants);
+    let settings = Settings {
+        depth,
+        constants,
+        profile: 1,
+    };
     in_grammar(p, &settings, &given.sheet, &given.tables)
 }
 
