@@ -1,12 +1,13 @@
 -- What was found of two graphs is so of their copies.
-use Rattle.std.proofs.Common.{◌≡◌, zero, suc, ℕ, List, [], ◌∷◌, Some, None, slice_get, subst}
+use Rattle.std.proofs.Common.{◌≡◌, zero, suc, ℕ, Bool, true, false, cond, List, [], ◌∷◌, Some, None, slice_get, nat_eq, refl, sym, ◌∙◌, subst, rules}
 use Rattle.std.specs.Prelude.{◌↔◌}
+use Rattle.std.specs.HashMap.{HashMap, get, Updates}
 use Rattle.std.specs.List.{AllZip}
 use Rattle.fill_tree.specs.Tree.{Atoms}
 use Rattle.fill_arena.specs.Contents.{EachIn, IsGraph}
 use Rattle.fill_arena.specs.Stands.{ProgramStands}
 use Rattle.fill_arena.specs.declared.entry.Entry.{Entry}
-use Rattle.fill_space.specs.Met.{IsTold, AreCopies}
+use Rattle.fill_space.specs.Met.{IsTold, AreCopies, AreReplaced}
 
 zip_at : {A B : Type 0} (R : A → B → Type 0) (xs : List A) (ys : List B) (i : ℕ) (x : A) (y : B) → AllZip R xs ys → slice_get xs i ≡ Some x → slice_get ys i ≡ Some y → R x y
 zip_at R [] ys i x y z hx hy = absurd cc
@@ -51,3 +52,16 @@ module _ (c d : List Entry) (old new : List ℕ) (copies : AreCopies c d old new
           );
           some = (t.some.0, (same_at i a x ha hx t.some.0).1 t.some.1, (same_at j b y hb hy t.some.0).1 t.some.2);
         }
+
+-- a table of copies with one more
+module _ {S : Type 0} (old new : List ℕ) (copies more : HashMap ℕ ℕ S) (i k n : ℕ) (hk : slice_get old i ≡ Some k) (hn : slice_get new i ≡ Some n) where
+  put_step : (j m : ℕ) (b : Bool) → nat_eq k j ≡ b → get nat_eq more j ≡ cond b (Some n) (get nat_eq copies j) → get nat_eq more j ≡ Some m → AreReplaced old new copies → (p : ℕ) × (slice_get old p ≡ Some j) × (slice_get new p ≡ Some m)
+  put_step j m true e u h r =
+      let same : k ≡ j = search rules in
+      let q : Some n ≡ Some m = sym u ∙ h in
+      let copy : n ≡ m = cc in
+      (i, subst (λ v. slice_get old i ≡ Some v) same hk, subst (λ v. slice_get new i ≡ Some v) copy hn)
+  put_step j m false e u h r = r.each j m (sym u ∙ h)
+
+  pub replaced_put : Updates nat_eq copies more k (Some n) → AreReplaced old new copies → AreReplaced old new more
+  replaced_put u r = record { each = λ j m h. put_step j m (nat_eq k j) refl (u.0 j) h r }

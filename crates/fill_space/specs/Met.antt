@@ -1,5 +1,6 @@
 -- What is known of pairs of graphs that were met.
-use Rattle.std.specs.Prelude.{◌↔◌, ℕ, List, Option, MatchOption, OnSome}
+use Rattle.std.specs.Prelude.{◌≡◌, ◌↔◌, ℕ, List, Option, MatchOption, OnSome, Some, nat_eq, slice_get}
+use Rattle.std.specs.HashMap.{HashMap, get}
 use Rattle.std.specs.List.{AllZip}
 use Rattle.fill_tree.specs.Tree.{Atoms}
 use Rattle.fill_arena.specs.Contents.{EachIn, IsGraph}
@@ -25,3 +26,7 @@ AreTold c met = AreRight (IsTold c) met.table
 pub record AreCopies (c d : List Entry) (old new : List ℕ) : Type 0 where
   pub graphs : EachIn (IsGraph d) new
   pub same : AllZip (λ k n. (p : Atoms) → ProgramStands d n p ↔ ProgramStands c k p) old new
+
+-- for each graph of the table the one at its place of the second list
+pub record AreReplaced {S : Type 0} (old new : List ℕ) (copies : HashMap ℕ ℕ S) : Type 0 where
+  pub each : (k n : ℕ) → get nat_eq copies k ≡ Some n → (i : ℕ) × (slice_get old i ≡ Some k) × (slice_get new i ≡ Some n)

@@ -1,11 +1,14 @@
 //! What is known of graphs that were met, after their arena was copied.
-ghost use Rattle.std.specs.Prelude.{◌≡◌, ◌<◌, ℕ, List, length, slice_get, Some, IfSome};
+ghost use Rattle.std.specs.Prelude.{◌≡◌, ◌<◌, ℕ, List, length, nat_eq, slice_get, Some, IfOk, IfSome, OnOk};
+ghost use Rattle.std.specs.HashMap.{get, Updates};
 ghost use Rattle.fill_arena.specs.declared.entry.Entry.{Entry};
-ghost use Rattle.fill_space.specs.Met.{AreCopies, AreTold};
+ghost use Rattle.fill_space.specs.Met.{AreCopies, AreReplaced, AreTold, IsTold};
 
-use crate::met::{Met, find_met};
+use crate::met::Met;
 use fill_arena::GraphId;
+use fill_text::NoMemory;
 use std::alloc::Global;
+use std::collections::HashMap;
 
 /// What is known of pairs of the listed graphs and of what they came to, told of the graphs that replace them. Where there
 /// is no room for it, less is known.
@@ -13,62 +16,26 @@ pub(crate) fn carry_over(alloc: Global, met: &Met, listed: &[GraphId], new: &[Gr
     requires { length new.now ≡ length listed.now }
     ensures { (c d : List Entry) → AreTold c met.now → AreCopies c d listed.now new.now → AreTold d result }
 {
-    let mut carried = Met::new(alloc);
+    match copies_of(alloc, listed, new) {
+        Ok(copies) => carry_all(alloc, met, &copies),
+        Err(NoMemory) => Met::new(alloc),
+    }
+}
+
+/// For each listed graph the one that replaces it.
+fn copies_of(
+    alloc: Global,
+    listed: &[GraphId],
+    new: &[GraphId],
+) -> Result<HashMap<GraphId, GraphId>, NoMemory>
+    requires { length new.now ≡ length listed.now }
+    ensures { IfOk result (AreReplaced listed.now new.now) }
+{
+    let mut copies = HashMap::new(alloc);
     for i in 0..listed.len() {
-        carry_row(alloc, met, listed, new, i, &mut carried);
+        put_copy(&mut copies, graph_at(listed, i), graph_at(new, i))?;
     }
-    carried
-}
-
-/// The same of the pairs of one graph with each of the others.
-fn carry_row(
-    alloc: Global,
-    met: &Met,
-    listed: &[GraphId],
-    new: &[GraphId],
-    i: usize,
-    carried: &mut Met,
-)
-    requires long { length new.now ≡ length listed.now }
-    requires within { i < length listed.now }
-    ensures { (c d : List Entry) → AreTold c met.now → AreCopies c d listed.now new.now → AreTold d carried.old → AreTold d carried.new }
-{
-    for j in 0..listed.len() {
-        carry_pair(alloc, met, listed, new, i, j, carried);
-    }
-}
-
-/// The same of one pair.
-fn carry_pair(
-    alloc: Global,
-    met: &Met,
-    listed: &[GraphId],
-    new: &[GraphId],
-    i: usize,
-    j: usize,
-    carried: &mut Met,
-)
-    requires long { length new.now ≡ length listed.now }
-    requires first { i < length listed.now }
-    requires second { j < length listed.now }
-    ensures { (c d : List Entry) → AreTold c met.now → AreCopies c d listed.now new.now → AreTold d carried.old → AreTold d carried.new }
-{
-    let a = graph_at(listed, i);
-    let b = graph_at(listed, j);
-    let Some(made) = find_met(&met.table, a, b) else {
-        return;
-    };
-    let x = graph_at(new, i);
-    let y = graph_at(new, j);
-    match made {
-        None => carried.keep(alloc, x, y, &None),
-        Some(graph) => {
-            let Some(copy) = replaced(listed, new, graph) else {
-                return;
-            };
-            carried.keep(alloc, x, y, &Some(copy));
-        }
-    }
+    Ok(copies)
 }
 
 fn graph_at(graphs: &[GraphId], i: usize) -> GraphId
@@ -78,15 +45,63 @@ fn graph_at(graphs: &[GraphId], i: usize) -> GraphId
     graphs[i]
 }
 
-/// The graph that replaces this one, if it is listed.
-fn replaced(listed: &[GraphId], new: &[GraphId], graph: GraphId) -> Option<GraphId>
-    requires { length new.now ≡ length listed.now }
-    ensures { IfSome result (λ copy. (i : ℕ) × (slice_get listed.now i ≡ Some graph) × (slice_get new.now i ≡ Some copy)) }
+fn put_copy(
+    copies: &mut HashMap<GraphId, GraphId>,
+    graph: GraphId,
+    copy: GraphId,
+) -> Result<(), NoMemory>
+    ensures { OnOk result (Updates nat_eq copies.old copies.new graph (Some copy)) }
 {
-    for i in 0..listed.len() {
-        if graph_at(listed, i) == graph {
-            return Some(graph_at(new, i));
+    match copies.insert(graph, copy) {
+        Ok(_) => Ok(()),
+        Err(_) => Err(NoMemory),
+    }
+}
+
+/// The graph that replaces this one, if it is listed.
+fn copy_of(copies: &HashMap<GraphId, GraphId>, graph: GraphId) -> Option<GraphId>
+    ensures { IfSome result (λ copy. get nat_eq copies.now graph ≡ Some copy) }
+{
+    match copies.get(&graph) {
+        Some(copy) => Some(*copy),
+        None => None,
+    }
+}
+
+/// What is known of all pairs, told of the copies.
+fn carry_all(alloc: Global, met: &Met, copies: &HashMap<GraphId, GraphId>) -> Met
+    ensures { (c d : List Entry) (old new : List ℕ) → AreTold c met.now → AreReplaced old new copies.now → AreCopies c d old new → AreTold d result }
+{
+    let mut carried = Met::new(alloc);
+    for (pair, made) in met.table.iter() {
+        carry_pair(alloc, copies, pair, made, &mut carried);
+    }
+    carried
+}
+
+/// What is known of one pair, if it and what it came to were listed.
+fn carry_pair(
+    alloc: Global,
+    copies: &HashMap<GraphId, GraphId>,
+    pair: &(GraphId, GraphId),
+    made: &Option<GraphId>,
+    carried: &mut Met,
+)
+    ensures { (c d : List Entry) (old new : List ℕ) → IsTold c pair.now.0 pair.now.1 made.now → AreReplaced old new copies.now → AreCopies c d old new → AreTold d carried.old → AreTold d carried.new }
+{
+    let Some(x) = copy_of(copies, pair.0) else {
+        return;
+    };
+    let Some(y) = copy_of(copies, pair.1) else {
+        return;
+    };
+    match made {
+        None => carried.keep(alloc, x, y, &None),
+        Some(graph) => {
+            let Some(copy) = copy_of(copies, *graph) else {
+                return;
+            };
+            carried.keep(alloc, x, y, &Some(copy));
         }
     }
-    None
 }

@@ -1,7 +1,0 @@
-use Rattle.std.proofs.Common.{List}
-use Rattle.fill_arena.specs.declared.entry.Entry.{Entry}
-use Rattle.fill_space.specs.Met.{AreCopies, AreTold}
-use Rattle.fill_space.proofs.carried.carry_over.Given as goal
-
-abbrev pub invariant-loop-i : goal.invariant-loop-i
-invariant-loop-i l = (c d : List Entry) → AreTold c l.met → AreCopies c d l.listed l.new → AreTold d l.carried
