@@ -1,5 +1,5 @@
 -- Why a beginning of a report is the front of it.
-use Rattle.std.proofs.Common.{◌≡◌, ℕ, zero, suc, ◌+◌, ◌≤◌, List, [], ◌∷◌, ◌++◌, length, take, Option, None, Some, inl, inr, sym, ap, ◌∙◌, refl, subst, arith}
+use Rattle.std.proofs.Common.{◌≡◌, ◌⊎◌, ℕ, zero, suc, ◌+◌, ◌≤◌, List, [], ◌∷◌, ◌++◌, length, take, Option, None, Some, inl, inr, sym, ap, ◌∙◌, refl, subst, arith}
 use Rattle.std.proofs.Math.Seq.{take-append-add}
 use Rattle.std.specs.List.{AllZip, range_with_len}
 use Rattle.fill_text.specs.Data.{nth}
@@ -9,12 +9,14 @@ use Rattle.fill_script.specs.declared.script.Entry.{Entry}
 use Rattle.fill_script.specs.declared.script.Entry.TheVariants as entry
 use Rattle.fill_space.specs.declared.ground.Ground.{Ground}
 use Rattle.fill_session.specs.Branches.{BranchData}
-use Rattle.fill_report.specs.Entries.{AnswerWrites, BestOf, EditWrites, EntryBegins, EntryWrites, FillBegins, WritesFirst, entry_term, told}
+use Rattle.fill_session.specs.Timeline.{Timeline, forgotten}
+use Rattle.fill_report.specs.Entries.{AnswerWrites, BestOf, EditWrites, EntryBegins, EntryWrites, FillBegins, ObjectWrites, QueryFirst, QueryWrites, RedoWrites, UndoWrites, entry_term, told}
 use Rattle.fill_report.specs.Laws.{IsFrontOf}
-use Rattle.fill_report.specs.Report.{BeginsReport, IsReport, all_entries}
+use Rattle.fill_report.specs.Report.{BeginsReport, EntriesBegin, EntriesWrite, IsReport, additions, start}
 use Rattle.fill_report.specs.Rows.{IsRowRecord}
-use Rattle.fill_report.specs.Runs.{Begins, Runs, Written, first_of, followed}
-use Rattle.fill_report.proofs.Unique.{entry_is_one, report_opens, row_record_is_one}
+use Rattle.fill_report.specs.Runs.{Begins, FirstOf, Runs, Written, first_of, followed, nothing}
+use Rattle.fill_report.proofs.Moved.{moved_free, redo_writes_one, undo_writes_one}
+use Rattle.fill_report.proofs.Unique.{ReportParts, edit_is_one, entries_are_one, entry_is_one, query_is_one, report_opens, row_record_is_one}
 
 -- first items of a list are first items of a longer one
 take_front : {A : Type 0} (n : ℕ) (xs ys : List A) → (m : ℕ) × (take n xs ≡ take m (xs ++ ys))
@@ -60,61 +62,107 @@ begins_front {S} step begin one begun s (e ∷ es) w v t (inr h) k =
     let same : followed k.0 h.2 ≡ w = sym (h.5 ∙ ap (λ (x : Written). followed x h.2) first.0) in
     subst (λ (x : Written). IsFrontOf x w) (sym k.5) (subst (λ (x : Written). IsFrontOf (followed k.0 k.2) x) same (front_of_others k.0 k.2 h.2 later))
 
+-- what a beginning of a report is made of
+abbrev pub Beginning : Ground → List Entry → Written → Type 0
+Beginning g entries w = EntriesBegin g start (additions g.sheet (length g.sheet.rows)) w
+    ⊎ ((first : Written) × (mid : Timeline) × (later : Written)
+    × EntriesWrite g start (additions g.sheet (length g.sheet.rows)) first mid × EntriesBegin g (forgotten mid) entries later
+    × (w ≡ followed first later))
+
+-- of one whole thing at most, what is written first of it is the front
+kind_front : (Kind : Written → Type 0) (none w v : Written) → ((x : Written) → Kind x → x ≡ v) → none.records ≡ [] → none.term ≡ v.term → FirstOf Kind none w → IsFrontOf v w
+kind_front Kind none w v one empty steps (inl h) =
+    let ours : w.term ≡ none.term = ap (λ (x : Written). x.term) h in
+    (zero, ap (λ (x : Written). x.records) h ∙ empty, (omega arith))
+kind_front Kind none w v one empty steps (inr h) =
+    let front : w ≡ first_of h.1 v = h.3 ∙ ap (first_of h.1) (one h.0 h.2) in
+    let same : w.term ≡ v.term = ap (λ (x : Written). x.term) front in
+    (h.1, ap (λ (x : Written). x.records) front, (omega arith))
+
 module _ (g : Ground) where
-  -- whatever an entry writes, it may take the steps of the entry
-  edit_steps : (examples : List Example) (e : Edit) (w : Written) (next : List Example) → EditWrites g examples e w next → w.term ≡ entry_term g.sheet examples (entry.Edit e)
-  edit_steps examples e w next (inl h) = ap (λ (x : Written). x.term) h.1
-  edit_steps examples e w next (inr h) = ap (λ (x : Written). x.term) h.2
+  -- whatever an edit writes, it may take the steps of the edit
+  edit_steps : (t : Timeline) (e : Edit) (w : Written) (next : Timeline) → EditWrites g t e w next → w.term ≡ entry_term g.sheet t.examples (entry.Edit e)
+  edit_steps t e w next (inl h) = ap (λ (x : Written). x.term) h.1
+  edit_steps t e w next (inr h) = ap (λ (x : Written). x.term) h.2
 
   answer_steps : (examples : List Example) (row : ℕ) (w : Written) → AnswerWrites g examples row w → w.term ≡ 0
   answer_steps examples row w (inl h) = ap (λ (x : Written). x.term) h.1.2
   answer_steps examples row w (inr h) = ap (λ (x : Written). x.term) h.1
 
+  object_steps : (examples : List Example) (row : ℕ) (w : Written) → ObjectWrites g examples row w → w.term ≡ 0
+  object_steps examples row w (inl h) = ap (λ (x : Written). x.term) h.1.2
+  object_steps examples row w (inr h) = ap (λ (x : Written). x.term) h.1
+
   best_of_steps : (examples : List Example) (branch k : ℕ) (o : Option BranchData) (w : Written) → BestOf g examples branch k o w → w.term ≡ 0
   best_of_steps examples branch k None w h = ap (λ (x : Written). x.term) h
   best_of_steps examples branch k (Some b) w h = ap (λ (x : Written). x.term) h.2
 
-  entry_steps : (examples : List Example) (e : Entry) (w : Written) (next : List Example) → EntryWrites g examples e w next → w.term ≡ entry_term g.sheet examples e
-  entry_steps examples (entry.Edit e) w next h = edit_steps examples e w next h
-  entry_steps examples entry.Programs w next h = ap (λ (x : Written). x.term) h.0.2
-  entry_steps examples entry.Switch w next h = ap (λ (x : Written). x.term) h.0.2
-  entry_steps examples entry.Fill w next h = ap (λ (x : Written). x.term) h.0.2
-  entry_steps examples entry.Count w next h = ap (λ (x : Written). x.term) h.0.2
-  entry_steps examples (entry.Answer row) w next h = answer_steps examples row w h.0
-  entry_steps examples (entry.Best branch k) w next h = best_of_steps examples branch k (nth h.0.0 branch) w h.0.2
+  -- a question takes none
+  query_steps : (examples : List Example) (e : Entry) (w : Written) → QueryWrites g examples e w → w.term ≡ 0
+  query_steps examples (entry.Edit e) w h = absurd h
+  query_steps examples entry.Undo w h = absurd h
+  query_steps examples entry.Redo w h = absurd h
+  query_steps examples entry.Programs w h = ap (λ (x : Written). x.term) h.2
+  query_steps examples entry.Switch w h = ap (λ (x : Written). x.term) h.2
+  query_steps examples entry.Fill w h = ap (λ (x : Written). x.term) h.2
+  query_steps examples entry.Count w h = ap (λ (x : Written). x.term) h.2
+  query_steps examples (entry.Answer row) w h = answer_steps examples row w h
+  query_steps examples (entry.Object row) w h = object_steps examples row w h
+  query_steps examples (entry.Best branch k) w h = best_of_steps examples branch k (nth h.0 branch) w h.2
 
-  first_is_front : (examples : List Example) (e : Entry) (w v : Written) (next : List Example) → WritesFirst g examples e w → EntryWrites g examples e v next → IsFrontOf v w
-  first_is_front examples e w v next (inl h) k =
-      let ours : w.term ≡ entry_term g.sheet examples e = ap (λ (x : Written). x.term) h in
-      let all : v.term ≡ entry_term g.sheet examples e = entry_steps examples e v next k in
-      (zero, ap (λ (x : Written). x.records) h, (omega arith))
-  first_is_front examples e w v next (inr h) k =
-      let whole : h.0 ≡ v = (entry_is_one g examples e h.0 v h.1 next h.3 k).0 in
-      let front : w ≡ first_of h.2 v = h.4 ∙ ap (first_of h.2) whole in
-      let steps : w.term ≡ v.term = ap (λ (x : Written). x.term) front in
-      (h.2, ap (λ (x : Written). x.records) front, (omega arith))
+  query_front : (examples : List Example) (e : Entry) (w v : Written) → QueryFirst g examples e w → QueryWrites g examples e v → IsFrontOf v w
+  query_front examples e w v h k =
+      kind_front (QueryWrites g examples e) nothing w v (λ x q. query_is_one g examples e x v q k) refl (sym (query_steps examples e v k)) h
 
-  fill_is_front : (examples : List Example) (w v : Written) (next : List Example) → FillBegins g examples w → EntryWrites g examples entry.Fill v next → IsFrontOf v w
-  fill_is_front examples w v next h k =
-      let all : v ≡ told g.sheet examples entry.Fill k.0.0 = k.0.2 in
-      let rows : h.1 ≡ take h.0 k.0.0 = zip_front (IsRowRecord g examples) (row_record_is_one g examples) 1 h.0 (length g.sheet.rows) h.1 k.0.0 h.2 h.3 k.0.1 in
+  fill_front : (examples : List Example) (w v : Written) → FillBegins g examples w → QueryWrites g examples entry.Fill v → IsFrontOf v w
+  fill_front examples w v h k =
+      let all : v ≡ told g.sheet examples entry.Fill k.0 = k.2 in
+      let rows : h.1 ≡ take h.0 k.0 = zip_front (IsRowRecord g examples) (row_record_is_one g examples) 1 h.0 (length g.sheet.rows) h.1 k.0 h.2 h.3 k.1 in
       let ours : w.term ≡ 0 = ap (λ (x : Written). x.term) h.4 in
       (h.0, ap (λ (x : Written). x.records) h.4 ∙ rows ∙ ap (λ (x : Written). take h.0 x.records) (sym all), (omega arith))
 
-  begun_is_front : (examples : List Example) (e : Entry) (w v : Written) (next : List Example) → EntryBegins g examples e w → EntryWrites g examples e v next → IsFrontOf v w
-  begun_is_front examples (entry.Edit e) w v next h k = first_is_front examples (entry.Edit e) w v next h k
-  begun_is_front examples entry.Programs w v next h k = first_is_front examples entry.Programs w v next h k
-  begun_is_front examples entry.Switch w v next h k = first_is_front examples entry.Switch w v next h k
-  begun_is_front examples entry.Fill w v next h k = fill_is_front examples w v next h k
-  begun_is_front examples entry.Count w v next h k = first_is_front examples entry.Count w v next h k
-  begun_is_front examples (entry.Answer row) w v next h k = first_is_front examples (entry.Answer row) w v next h k
-  begun_is_front examples (entry.Best branch n) w v next h k = first_is_front examples (entry.Best branch n) w v next h k
+  edit_front : (t : Timeline) (e : Edit) (w v : Written) (next : Timeline) → EntryBegins g t (entry.Edit e) w → EditWrites g t e v next → IsFrontOf v w
+  edit_front t e w v next h k =
+      kind_front (λ x. (to : Timeline) × EditWrites g t e x to) (told g.sheet t.examples (entry.Edit e) []) w v (λ x p. (edit_is_one g t e x v p.0 next p.1 k).0) refl
+      (sym (edit_steps t e v next k)) h
 
-  beginning_opens : (entries : List Entry) (w : Written) → BeginsReport g entries w → Begins (EntryWrites g) (EntryBegins g) [] (all_entries g.sheet entries) w
+  undo_front : (t : Timeline) (w v : Written) (next : Timeline) → EntryBegins g t entry.Undo w → UndoWrites t v next → IsFrontOf v w
+  undo_front t w v next h k =
+      kind_front (λ x. (to : Timeline) × UndoWrites t x to) nothing w v (λ x p. (undo_writes_one t x v p.0 next p.1 k).0) refl (sym (moved_free _ _ k.0 v k.2)) h
+
+  redo_front : (t : Timeline) (w v : Written) (next : Timeline) → EntryBegins g t entry.Redo w → RedoWrites t v next → IsFrontOf v w
+  redo_front t w v next h k =
+      kind_front (λ x. (to : Timeline) × RedoWrites t x to) nothing w v (λ x p. (redo_writes_one t x v p.0 next p.1 k).0) refl (sym (moved_free _ _ k.0 v k.2)) h
+
+  begun_is_front : (t : Timeline) (e : Entry) (w v : Written) (next : Timeline) → EntryBegins g t e w → EntryWrites g t e v next → IsFrontOf v w
+  begun_is_front t (entry.Edit e) w v next h k = edit_front t e w v next h k
+  begun_is_front t entry.Undo w v next h k = undo_front t w v next h k
+  begun_is_front t entry.Redo w v next h k = redo_front t w v next h k
+  begun_is_front t entry.Programs w v next h k = query_front t.examples entry.Programs w v h k.0
+  begun_is_front t entry.Switch w v next h k = query_front t.examples entry.Switch w v h k.0
+  begun_is_front t entry.Fill w v next h k = fill_front t.examples w v h k.0
+  begun_is_front t entry.Count w v next h k = query_front t.examples entry.Count w v h k.0
+  begun_is_front t (entry.Answer row) w v next h k = query_front t.examples (entry.Answer row) w v h k.0
+  begun_is_front t (entry.Object row) w v next h k = query_front t.examples (entry.Object row) w v h k.0
+  begun_is_front t (entry.Best branch n) w v next h k = query_front t.examples (entry.Best branch n) w v h k.0
+
+  entries_front : (t : Timeline) (es : List Entry) (w v : Written) (next : Timeline) → EntriesBegin g t es w → EntriesWrite g t es v next → IsFrontOf v w
+  entries_front t es w v next h k = begins_front (EntryWrites g) (EntryBegins g) (entry_is_one g) begun_is_front t es w v next h k
+
+  beginning_opens : (entries : List Entry) (w : Written) → BeginsReport g entries w → Beginning g entries w
   unfolding BeginsReport
   beginning_opens entries w h = h
 
+  front_of : (entries : List Entry) (w whole : Written) → Beginning g entries w → ReportParts g entries whole → IsFrontOf whole w
+  front_of entries w whole (inl h) k =
+      subst (λ (x : Written). IsFrontOf x w) (sym k.6)
+      (front_of_first k.0 k.2 w (entries_front start (additions g.sheet (length g.sheet.rows)) w k.0 k.1 h k.4))
+  front_of entries w whole (inr h) k =
+      let first = entries_are_one g start (additions g.sheet (length g.sheet.rows)) h.0 k.0 h.1 k.1 h.3 k.4 in
+      let others : EntriesBegin g (forgotten k.1) entries h.2 = subst (λ (t : Timeline). EntriesBegin g (forgotten t) entries h.2) first.1 h.4 in
+      let later : IsFrontOf k.2 h.2 = entries_front (forgotten k.1) entries h.2 k.2 k.3 others k.5 in
+      let same : followed k.0 h.2 ≡ w = sym (h.5 ∙ ap (λ (x : Written). followed x h.2) first.0) in
+      subst (λ (x : Written). IsFrontOf x w) (sym k.6) (subst (λ (x : Written). IsFrontOf (followed k.0 k.2) x) same (front_of_others k.0 k.2 h.2 later))
+
   pub beginning_is_front : (entries : List Entry) (w whole : Written) → BeginsReport g entries w → IsReport g entries whole → IsFrontOf whole w
-  beginning_is_front entries w whole h k =
-      let all = report_opens g entries whole k in
-      begins_front (EntryWrites g) (EntryBegins g) (entry_is_one g) begun_is_front [] (all_entries g.sheet entries) w whole all.0 (beginning_opens entries w h) all.1
+  beginning_is_front entries w whole h k = front_of entries w whole (beginning_opens entries w h) (report_opens g entries whole k)

@@ -11,11 +11,12 @@ use Rattle.fill_tree.specs.declared.user.Example.{Example}
 use Rattle.fill_script.specs.declared.script.Entry.{Entry}
 use Rattle.fill_script.specs.declared.script.Entry.TheVariants as entry
 use Rattle.fill_space.specs.declared.ground.Ground.{Ground}
-use Rattle.fill_report.specs.Entries.{EntryBegins, FillBegins, QueryWrites, entry_term, told}
+use Rattle.fill_session.specs.Timeline.{Timeline}
+use Rattle.fill_report.specs.Entries.{EntryBegins, FillBegins, IsQuery, QueryBegins, QueryWrites, told}
 use Rattle.fill_report.specs.Output.{Leaves, WritesRecords, report_text}
 use Rattle.fill_report.specs.Records.{Fields}
 use Rattle.fill_report.specs.Rows.{AreRowRecords, IsRowRecord}
-use Rattle.fill_report.specs.Runs.{Written}
+use Rattle.fill_report.specs.Runs.{Written, nothing}
 use Rattle.fill_report.specs.Writing.{LeavesFirst, LeavesOne}
 use Rattle.fill_report.specs.declared.halt.Halt.{Halt}
 use Rattle.fill_report.specs.declared.halt.Halt.TheVariants as halt
@@ -34,6 +35,12 @@ pub leaves_map : (W V B C : Written → Type 0) → ((w : Written) → W w → V
 leaves_map W V B C f h (Ok flag) old new before now l = (l.0, f l.0 l.1, l.2, l.3, l.4)
 leaves_map W V B C f h (Err halt.Fault) old new before now l = (l.0, h l.0 l.1, l.2, l.3)
 leaves_map W V B C f h (Err halt.NoMemory) old new before now l = (l.0, h l.0 l.1, l.2, l.3)
+
+-- a writing that stopped
+pub stops_map : (W V B C : Written → Type 0) → ((w : Written) → B w → C w) → (why : Halt) (old new : Option (List ℕ)) (before now : ℕ)
+    → Leaves W B (Err why) old new before now → Leaves V C (Err why) old new before now
+stops_map W V B C h halt.Fault old new before now l = (l.0, h l.0 l.1, l.2, l.3)
+stops_map W V B C h halt.NoMemory old new before now l = (l.0, h l.0 l.1, l.2, l.3)
 
 -- a writing that took no steps
 pub leaves_on : (W B : Written → Type 0) (r : Result Bool Halt) (old new : Option (List ℕ)) (before now : ℕ) → now ≡ before → Leaves W B r old new 0 0 → Leaves W B r old new before now
@@ -69,28 +76,44 @@ module _ (W B : Written → Type 0) (old new : Option (List ℕ)) (before now te
   leaves_first records (Err halt.Fault) w b l = (record { records = take l.0 records; refused = 0; term = term }, b l.0, l.1, le)
   leaves_first records (Err halt.NoMemory) w b l = (record { records = take l.0 records; refused = 0; term = term }, b l.0, l.1, le)
 
+-- a question of which nothing was written
+pub query_none : (g : Ground) (examples : List Example) (e : Entry) → IsQuery e → QueryBegins g examples e nothing
+query_none g examples (entry.Edit e) q = absurd q
+query_none g examples entry.Undo q = absurd q
+query_none g examples entry.Redo q = absurd q
+query_none g examples entry.Programs q = inl refl
+query_none g examples entry.Switch q = inl refl
+query_none g examples entry.Fill q = (0, [], omega arith, tt, refl)
+query_none g examples entry.Count q = inl refl
+query_none g examples (entry.Answer row) q = inl refl
+query_none g examples (entry.Object row) q = inl refl
+query_none g examples (entry.Best branch k) q = inl refl
+
 -- an entry of which nothing was written
-pub none_begun : (g : Ground) (examples : List Example) (e : Entry) → EntryBegins g examples e (told g.sheet examples e [])
-none_begun g examples (entry.Edit e) = inl refl
-none_begun g examples entry.Programs = inl refl
-none_begun g examples entry.Switch = inl refl
-none_begun g examples entry.Fill = (0, [], omega arith, tt, refl)
-none_begun g examples entry.Count = inl refl
-none_begun g examples (entry.Answer row) = inl refl
-none_begun g examples (entry.Best branch k) = inl refl
+pub none_begun : (g : Ground) (t : Timeline) (e : Entry) → EntryBegins g t e (told g.sheet t.examples e [])
+none_begun g t (entry.Edit e) = inl refl
+none_begun g t entry.Undo = inl refl
+none_begun g t entry.Redo = inl refl
+none_begun g t entry.Programs = inl refl
+none_begun g t entry.Switch = inl refl
+none_begun g t entry.Fill = (0, [], omega arith, tt, refl)
+none_begun g t entry.Count = inl refl
+none_begun g t (entry.Answer row) = inl refl
+none_begun g t (entry.Object row) = inl refl
+none_begun g t (entry.Best branch k) = inl refl
 
 pub made_so : {E : Type 0} (made : Result Fields E) (P : Fields → Type 0) → IfOk made P → (fields : Fields) → made ≡ Ok fields → P fields
 made_so {E} made P h fields e = subst (λ (r : Result Fields E). IfOk r P) e h
 
 -- one question's record was to be written
 pub leaves_answer : (g : Ground) (examples : List Example) (e : Entry) (made : Result Fields NoMemory) (P : Fields → Type 0) (flag : Bool) (count : ℕ) (r : Result Bool Halt)
-    (old new : Option (List ℕ)) → entry_term g.sheet examples e ≡ 0 → IfOk made P
+    (old new : Option (List ℕ)) → IsQuery e → IfOk made P
     → ((fields : Fields) → P fields → QueryWrites g examples e (record { records = fields ∷ []; refused = count; term = 0 }))
-    → ((fields : Fields) → P fields → EntryBegins g examples e (record { records = fields ∷ []; refused = 0; term = 0 }))
-    → IsTrue flag ↔ (1 ≤ count) → LeavesOne made flag r old new → Leaves (QueryWrites g examples e) (EntryBegins g examples e) r old new 0 0
-leaves_answer g examples e made P flag count r old new free h w b f l =
-    leaves_one (QueryWrites g examples e) (EntryBegins g examples e) old new 0 0 0 (omega arith)
-    (subst (λ (t : ℕ). EntryBegins g examples e (record { records = []; refused = 0; term = t })) free (none_begun g examples e)) made flag count r
+    → ((fields : Fields) → P fields → QueryBegins g examples e (record { records = fields ∷ []; refused = 0; term = 0 }))
+    → IsTrue flag ↔ (1 ≤ count) → LeavesOne made flag r old new → Leaves (QueryWrites g examples e) (QueryBegins g examples e) r old new 0 0
+leaves_answer g examples e made P flag count r old new query h w b f l =
+    leaves_one (QueryWrites g examples e) (QueryBegins g examples e) old new 0 0 0 (omega arith)
+    (query_none g examples e query) made flag count r
     (λ fields m. w fields (made_so made P h fields m)) (λ fields m. b fields (made_so made P h fields m)) f l
 
 -- the first records of a list were written, and then one more

@@ -3,6 +3,7 @@ pub mod Edited
 pub mod Firsts
 pub mod Fronts
 pub mod Leaving
+pub mod Moved
 pub mod Numbered
 pub mod Questions
 pub mod Reported

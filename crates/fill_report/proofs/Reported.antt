@@ -1,31 +1,32 @@
 -- The additions, the entries and the whole report.
-use Rattle.std.proofs.Common.{◌≡◌, ℕ, ◌+◌, ◌<◌, List, [], ◌∷◌, ◌++◌, length, take, drop, get_or, Bool, true, false, Option, None, Some, Result, Ok, Err, inl, sym, ap, ◌∙◌, refl, subst, arith}
+use Rattle.std.proofs.Common.{◌≡◌, ℕ, ◌+◌, ◌<◌, List, [], ◌∷◌, ◌++◌, length, take, drop, get_or, Bool, true, false, Option, None, Some, Result, Ok, Err, inl, inr, sym, ap, ◌∙◌, refl, subst, arith}
 use Rattle.std.proofs.lemmas.List.{take-append-drop, take_more}
 use Rattle.std.specs.Prelude.{◌||◌}
 use Rattle.std.proofs.KnownBytes.{Appends-nil}
 use Rattle.fill_text.specs.Data.{SheetData}
 use Rattle.fill_sheet.specs.Sheet.{given_at}
 use Rattle.fill_tree.specs.declared.user.Edit.TheVariants.{Add}
-use Rattle.fill_tree.specs.declared.user.Example.{Example}
 use Rattle.fill_script.specs.declared.script.Entry.{Entry}
 use Rattle.fill_script.specs.declared.script.Entry.TheVariants as entry
 use Rattle.fill_space.specs.declared.ground.Ground.{Ground}
+use Rattle.fill_session.specs.Timeline.{Timeline, forgotten}
 use Rattle.fill_report.specs.Entries.{EntryBegins, EntryWrites, told}
 use Rattle.fill_report.specs.Output.{Leaves, Writes, WritesPart, WritesRecords}
-use Rattle.fill_report.specs.Report.{BeginsReport, EntriesBegin, EntriesWrite, IsReport, addition, addition_at, additions, all_entries}
-use Rattle.fill_report.specs.Runs.{Written}
+use Rattle.fill_report.specs.Report.{BeginsReport, EntriesBegin, EntriesWrite, IsReport, addition, addition_at, additions, start}
+use Rattle.fill_report.specs.Runs.{Written, followed}
 use Rattle.fill_report.specs.declared.halt.Halt.{Halt}
 use Rattle.fill_report.specs.declared.halt.Halt.TheVariants as halt
-use Rattle.fill_report.proofs.Leaving.{leaves_map, none_begun}
+use Rattle.fill_report.proofs.Bytes.{appends_then, part_then}
+use Rattle.fill_report.proofs.Leaving.{leaves_map, none_begun, stops_map}
 use Rattle.fill_report.proofs.Numbered.{additions_before, additions_more}
-use Rattle.fill_report.proofs.Walk.{Wrote, runs_one, stops_before, stops_then, wrote_then}
+use Rattle.fill_report.proofs.Walk.{Wrote, either, runs_one, stops_before, stops_then, wrote_then}
 
 -- what a writing leaves of entries
-abbrev pub EntriesLeave : Ground → List Example → List Entry → List Example → Result Bool Halt → Option (List ℕ) → Option (List ℕ) → ℕ → ℕ → Type 0
+abbrev pub EntriesLeave : Ground → Timeline → List Entry → Timeline → Result Bool Halt → Option (List ℕ) → Option (List ℕ) → ℕ → ℕ → Type 0
 EntriesLeave g first entries last r old new before now = Leaves (λ w. EntriesWrite g first entries w last) (EntriesBegin g first entries) r old new before now
 
 -- what a writing leaves of one entry
-abbrev pub EntryLeaves : Ground → List Example → Entry → List Example → Result Bool Halt → Option (List ℕ) → Option (List ℕ) → ℕ → ℕ → Type 0
+abbrev pub EntryLeaves : Ground → Timeline → Entry → Timeline → Result Bool Halt → Option (List ℕ) → Option (List ℕ) → ℕ → ℕ → Type 0
 EntryLeaves g first e last r old new before now = Leaves (λ w. EntryWrites g first e w last) (EntryBegins g first e) r old new before now
 
 pub flag_then : (p q flag : Bool) → p ≡ true → flag ≡ true → flag ≡ (p || q)
@@ -35,7 +36,7 @@ pub flag_else : (p q flag : Bool) → p ≡ false → flag ≡ q → flag ≡ (p
 flag_else p q flag e f = f ∙ ap (λ (x : Bool). x || q) (sym e)
 
 -- one entry alone
-pub leaves_single : (g : Ground) (first last : List Example) (e : Entry) (es : List Entry) (r : Result Bool Halt) (old new : Option (List ℕ)) (before now : ℕ) → es ≡ e ∷ []
+pub leaves_single : (g : Ground) (first last : Timeline) (e : Entry) (es : List Entry) (r : Result Bool Halt) (old new : Option (List ℕ)) (before now : ℕ) → es ≡ e ∷ []
     → EntryLeaves g first e last r old new before now → EntriesLeave g first es last r old new before now
 leaves_single g first last e es r old new before now is l =
     subst (λ (x : List Entry). EntriesLeave g first x last r old new before now) (sym is)
@@ -52,16 +53,16 @@ pub add_some : (sheet : SheetData) (row : ℕ) (text : List ℕ) → Some text �
 add_some sheet row text e = ap (addition row) (sym e)
 
 -- an entry that could not be made for want of memory
-pub lost_single : (g : Ground) (first : List Example) (e : Entry) (es : List Entry) (old : Option (List ℕ)) (steps : ℕ) → es ≡ e ∷ []
+pub lost_single : (g : Ground) (first : Timeline) (e : Entry) (es : List Entry) (old : Option (List ℕ)) (steps : ℕ) → es ≡ e ∷ []
     → WritesRecords (EntriesBegin g first es) old old steps steps
 lost_single g first e es old steps is = (
-  told g.sheet first e [],
-  subst (λ (x : List Entry). EntriesBegin g first x (told g.sheet first e [])) (sym is) (inl (none_begun g first e)),
+  told g.sheet first.examples e [],
+  subst (λ (x : List Entry). EntriesBegin g first x (told g.sheet first.examples e [])) (sym is) (inl (none_begun g first e)),
   Appends-nil old,
   omega arith,
 )
 
-module _ (g h : Ground) (first mid last : List Example) (p : Bool) (old half new : Option (List ℕ)) (b0 b1 b2 : ℕ) (same : h ≡ g) where
+module _ (g h : Ground) (first mid last : Timeline) (p : Bool) (old half new : Option (List ℕ)) (b0 b1 b2 : ℕ) (same : h ≡ g) where
   -- entries, and then others over the same ground
   pub next_wrote : (xs ys all : List Entry) (q flag : Bool) → all ≡ xs ++ ys → flag ≡ (p || q) → Wrote g first xs mid p old half b0 b1 → Wrote h mid ys last q half new b1 b2
       → Wrote g first all last flag old new b0 b2
@@ -111,41 +112,66 @@ module _ (g h : Ground) (first mid last : List Example) (p : Bool) (old half new
       (sym (take-append-drop (i + 1) entries) ∙ ap (λ (es : List Entry). es ++ drop (i + 1) entries) next) a
       (leaves_single h mid last e (e ∷ []) (Err why) half new b1 b2 refl l)
 
-pub is_report : (g : Ground) (entries : List Entry) (w : Written) (last : List Example) → EntriesWrite g [] (all_entries g.sheet entries) w last → IsReport g entries w
+is_report : (g : Ground) (entries : List Entry) (first : Written) (mid : Timeline) (later : Written) (last : Timeline)
+    → EntriesWrite g start (additions g.sheet (length g.sheet.rows)) first mid → EntriesWrite g (forgotten mid) entries later last → IsReport g entries (followed first later)
 unfolding IsReport
-is_report g entries w last h = (last, h)
+is_report g entries first mid later last a b = (first, mid, later, last, a, b, refl)
 
-begins_report : (g : Ground) (entries : List Entry) (w : Written) → EntriesBegin g [] (all_entries g.sheet entries) w → BeginsReport g entries w
+begins_first : (g : Ground) (entries : List Entry) (w : Written) → EntriesBegin g start (additions g.sheet (length g.sheet.rows)) w → BeginsReport g entries w
 unfolding BeginsReport
-begins_report g entries w h = h
+begins_first g entries w h = inl h
 
-module _ (g : Ground) (first : List Example) (entries : List Entry) (old : Option (List ℕ)) (b0 : ℕ) (none : first ≡ []) where
+begins_later : (g : Ground) (entries : List Entry) (first : Written) (mid : Timeline) (later : Written)
+    → EntriesWrite g start (additions g.sheet (length g.sheet.rows)) first mid → EntriesBegin g (forgotten mid) entries later → BeginsReport g entries (followed first later)
+unfolding BeginsReport
+begins_later g entries first mid later a b = inr (first, mid, later, a, b, refl)
+
+module _ (g : Ground) (from : Timeline) (entries : List Entry) (old : Option (List ℕ)) (b0 : ℕ) (none : from ≡ start) where
   -- the report stops at the additions
-  pub report_opening : (last : List Example) (why : Halt) (new : Option (List ℕ)) (b1 : ℕ)
-      → EntriesLeave g first (additions g.sheet (length g.sheet.rows)) last (Err why) old new b0 b1 → Leaves (IsReport g entries) (BeginsReport g entries) (Err why) old new b0 b1
+  pub report_opening : (last : Timeline) (why : Halt) (new : Option (List ℕ)) (b1 : ℕ)
+      → EntriesLeave g from (additions g.sheet (length g.sheet.rows)) last (Err why) old new b0 b1 → Leaves (IsReport g entries) (BeginsReport g entries) (Err why) old new b0 b1
   report_opening last why new b1 l =
       let all = additions g.sheet (length g.sheet.rows) in
-      leaves_map (IsReport g entries) (IsReport g entries) (EntriesBegin g [] (all ++ entries)) (BeginsReport g entries) (λ w h. h) (begins_report g entries) (Err why) old new b0 b1
-      (stops_before g [] (λ w. EntriesWrite g [] all w last) (IsReport g entries) all entries (all ++ entries) why old new b0 b1 refl
-      (subst (λ (es : List Example). EntriesLeave g es all last (Err why) old new b0 b1) none l))
+      stops_map (λ w. EntriesWrite g start all w last) (IsReport g entries) (EntriesBegin g start all) (BeginsReport g entries) (begins_first g entries) why old new b0 b1
+      (subst (λ (t : Timeline). EntriesLeave g t all last (Err why) old new b0 b1) none l)
 
-module _ (g : Ground) (first : List Example) (entries : List Entry) (old : Option (List ℕ)) (b0 : ℕ) (none : first ≡ []) (h : Ground) (mid last : List Example) (p : Bool) (half new : Option (List ℕ)) (b1 b2 : ℕ) (same : h ≡ g) (so_far : Wrote g first (additions g.sheet (length g.sheet.rows)) mid p old half b0 b1) where
+module _ (g : Ground) (from : Timeline) (entries : List Entry) (old : Option (List ℕ)) (b0 : ℕ) (none : from ≡ start) (h : Ground) (mid on last : Timeline) (p : Bool) (half new : Option (List ℕ)) (b1 b2 : ℕ) (same : h ≡ g) (is : on ≡ forgotten mid) (so_far : Wrote g from (additions g.sheet (length g.sheet.rows)) mid p old half b0 b1) where
+  opened : Wrote g start (additions g.sheet (length g.sheet.rows)) mid p old half b0 b1
+  opened = subst (λ (t : Timeline). Wrote g t (additions g.sheet (length g.sheet.rows)) mid p old half b0 b1) none so_far
+
+  -- the entries as they are written after the additions
+  after : (r : Result Bool Halt) → EntriesLeave h on entries last r half new b1 b2 → EntriesLeave g (forgotten mid) entries last r half new b1 b2
+  after r l =
+      subst (λ (t : Timeline). EntriesLeave g t entries last r half new b1 b2) is (subst (λ (x : Ground). EntriesLeave x on entries last r half new b1 b2) same l)
+
+  stopped : (why : Halt) → EntriesLeave g (forgotten mid) entries last (Err why) half new b1 b2 → Leaves (IsReport g entries) (BeginsReport g entries) (Err why) old new b0 b2
+  stopped halt.Fault l = (
+    followed opened.0 l.0,
+    begins_later g entries opened.0 mid l.0 opened.1 l.1,
+    part_then old half new opened.0.records l.0.records opened.2 l.2,
+    omega (arith, opened.4, l.3),
+  )
+  stopped halt.NoMemory l = (
+    followed opened.0 l.0,
+    begins_later g entries opened.0 mid l.0 opened.1 l.1,
+    appends_then old half new opened.0.records l.0.records opened.2 l.2,
+    omega (arith, opened.4, l.3),
+  )
+
   -- the report stops at the entries
-  pub report_entries : (why : Halt) → EntriesLeave h mid entries last (Err why) half new b1 b2 → Leaves (IsReport g entries) (BeginsReport g entries) (Err why) old new b0 b2
-  report_entries why l =
-      let all = additions g.sheet (length g.sheet.rows) in
-      let a : Wrote g [] all mid p old half b0 b1 = subst (λ (es : List Example). Wrote g es all mid p old half b0 b1) none so_far in
-      leaves_map (IsReport g entries) (IsReport g entries) (EntriesBegin g [] (all ++ entries)) (BeginsReport g entries) (λ w h. h) (begins_report g entries) (Err why) old new b0 b2
-      (stops_then g [] mid all p old half new b0 b1 b2 a (λ w. EntriesWrite g mid entries w last) (IsReport g entries) entries why
-      (subst (λ (x : Ground). EntriesLeave x mid entries last (Err why) half new b1 b2) same l))
+  pub report_entries : (why : Halt) → EntriesLeave h on entries last (Err why) half new b1 b2 → Leaves (IsReport g entries) (BeginsReport g entries) (Err why) old new b0 b2
+  report_entries why l = stopped why (after (Err why) l)
 
   -- the report is whole
-  pub report_whole : (q flag : Bool) → flag ≡ (p || q) → Wrote h mid entries last q half new b1 b2 → Writes (IsReport g entries) flag old new b0 b2
+  pub report_whole : (q flag : Bool) → flag ≡ (p || q) → Wrote h on entries last q half new b1 b2 → Writes (IsReport g entries) flag old new b0 b2
   report_whole q flag f l =
-      let all = additions g.sheet (length g.sheet.rows) in
-      let a : Wrote g [] all mid p old half b0 b1 = subst (λ (es : List Example). Wrote g es all mid p old half b0 b1) none so_far in
-      let w = wrote_then g [] mid all p old half new b0 b1 b2 a last entries q flag f (subst (λ (x : Ground). Wrote x mid entries last q half new b1 b2) same l) in
-      (w.0, is_report g entries w.0 last w.1, w.2, w.3, w.4)
+      let more : Wrote g (forgotten mid) entries last q half new b1 b2 = after (Ok q) l in (
+        followed opened.0 more.0,
+        is_report g entries opened.0 mid more.0 last opened.1 more.1,
+        appends_then old half new opened.0.records more.0.records opened.2 more.2,
+        either p q flag opened.0.refused more.0.refused f opened.3 more.3,
+        omega (arith, opened.4, more.4),
+      )
 
 -- by the answer
 pub leaves_part : (W B : Written → Type 0) (r : Result Bool Halt) (old new : Option (List ℕ)) (before now : ℕ) → Leaves W B r old new before now → r ≡ Err halt.Fault

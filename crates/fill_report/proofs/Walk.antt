@@ -4,9 +4,9 @@ use Rattle.std.proofs.Math.Nat.{add-zero, zero-add}
 use Rattle.std.proofs.lemmas.Bool.{false≢true}
 use Rattle.std.specs.Prelude.{IsTrue, ◌||◌}
 use Rattle.std.proofs.KnownBytes.{Appends-nil}
-use Rattle.fill_tree.specs.declared.user.Example.{Example}
 use Rattle.fill_script.specs.declared.script.Entry.{Entry}
 use Rattle.fill_space.specs.declared.ground.Ground.{Ground}
+use Rattle.fill_session.specs.Timeline.{Timeline}
 use Rattle.fill_report.specs.Entries.{EntryBegins, EntryWrites}
 use Rattle.fill_report.specs.Output.{Leaves, Writes}
 use Rattle.fill_report.specs.Report.{EntriesBegin, EntriesWrite}
@@ -55,7 +55,7 @@ none_of : (m n : ℕ) → (1 ≤ m → ⊥) → (1 ≤ n → ⊥) → 1 ≤ m + 
 none_of m n a b le = omega arith
 
 -- one of two flags
-either : (p q flag : Bool) (m n : ℕ) → flag ≡ (p || q) → IsTrue p ↔ (1 ≤ m) → IsTrue q ↔ (1 ≤ n) → IsTrue flag ↔ (1 ≤ m + n)
+pub either : (p q flag : Bool) (m n : ℕ) → flag ≡ (p || q) → IsTrue p ↔ (1 ≤ m) → IsTrue q ↔ (1 ≤ n) → IsTrue flag ↔ (1 ≤ m + n)
 either true q flag m n e a b = (λ t. let h : 1 ≤ m = a.0 refl in omega arith, λ le. e)
 either false true flag m n e a b = (λ t. let h : 1 ≤ n = b.0 refl in omega arith, λ le. e)
 either false false flag m n e a b = (
@@ -63,16 +63,16 @@ either false false flag m n e a b = (
   λ le. absurd (none_of m n (λ h. false≢true (a.1 h)) (λ h. false≢true (b.1 h)) le),
 )
 
--- what was written of entries up to some examples
-abbrev pub Wrote : Ground → List Example → List Entry → List Example → Bool → Option (List ℕ) → Option (List ℕ) → ℕ → ℕ → Type 0
+-- what was written of entries up to a state
+abbrev pub Wrote : Ground → Timeline → List Entry → Timeline → Bool → Option (List ℕ) → Option (List ℕ) → ℕ → ℕ → Type 0
 Wrote g first entries last flag old now before steps = Writes (λ w. EntriesWrite g first entries w last) flag old now before steps
 
-pub wrote_none : (g : Ground) (first : List Example) (old : Option (List ℕ)) (steps : ℕ) → Wrote g first [] first false old old steps steps
+pub wrote_none : (g : Ground) (first : Timeline) (old : Option (List ℕ)) (steps : ℕ) → Wrote g first [] first false old old steps steps
 wrote_none g first old steps = (nothing, (refl, refl), Appends-nil old, none_refused false refl, omega arith)
 
-module _ (g : Ground) (first mid : List Example) (xs : List Entry) (p : Bool) (old half new : Option (List ℕ)) (b0 b1 b2 : ℕ) (so_far : Wrote g first xs mid p old half b0 b1) where
+module _ (g : Ground) (first mid : Timeline) (xs : List Entry) (p : Bool) (old half new : Option (List ℕ)) (b0 b1 b2 : ℕ) (so_far : Wrote g first xs mid p old half b0 b1) where
   -- entries, and then others
-  pub wrote_then : (last : List Example) (ys : List Entry) (q flag : Bool) → flag ≡ (p || q) → Wrote g mid ys last q half new b1 b2 → Wrote g first (xs ++ ys) last flag old new b0 b2
+  pub wrote_then : (last : Timeline) (ys : List Entry) (q flag : Bool) → flag ≡ (p || q) → Wrote g mid ys last q half new b1 b2 → Wrote g first (xs ++ ys) last flag old new b0 b2
   wrote_then last ys q flag e more = (
     followed so_far.0 more.0,
     runs_append (EntryWrites g) (EntryBegins g) first mid last xs ys so_far.0 more.0 so_far.1 more.1,
@@ -97,7 +97,7 @@ module _ (g : Ground) (first mid : List Example) (xs : List Entry) (p : Bool) (o
   )
 
 -- entries that stop, before others
-pub stops_before : (g : Ground) (first : List Example) (W V : Written → Type 0) (xs ys all : List Entry) (why : Halt) (old new : Option (List ℕ)) (before now : ℕ) → all ≡ xs ++ ys
+pub stops_before : (g : Ground) (first : Timeline) (W V : Written → Type 0) (xs ys all : List Entry) (why : Halt) (old new : Option (List ℕ)) (before now : ℕ) → all ≡ xs ++ ys
     → Leaves W (EntriesBegin g first xs) (Err why) old new before now → Leaves V (EntriesBegin g first all) (Err why) old new before now
 stops_before g first W V xs ys all halt.Fault old new before now e l =
     (l.0, subst (λ (es : List Entry). EntriesBegin g first es l.0) (sym e) (begins_before (EntryWrites g) (EntryBegins g) first xs ys l.0 l.1), l.2, l.3)

@@ -1,6 +1,7 @@
 pub mod Counts
 pub mod Entries
 pub mod Laws
+pub mod Objections
 pub mod Output
 pub mod Records
 pub mod Report

@@ -6,7 +6,10 @@ use Rattle.fill_tree.specs.Switch.{SwitchTree}
 use Rattle.fill_tree.specs.Tree.{Atoms}
 use Rattle.fill_tree.specs.declared.guard.Guard.{Guard}
 use Rattle.fill_tree.specs.declared.user.Edit.{Edit}
-use Rattle.fill_tree.specs.declared.user.Edit.TheVariants.{Add, Correct, Retract, Clear}
+use Rattle.fill_undo.specs.Done.{done_of}
+use Rattle.fill_undo.specs.declared.done.Done.{Done}
+use Rattle.fill_undo.specs.declared.done.Kind.{Kind}
+use Rattle.fill_undo.specs.declared.done.Kind.TheVariants as kind
 use Rattle.fill_print.specs.Notation.{guard_text, program_text, switch_text}
 use Rattle.fill_session.specs.Branches.{BranchData}
 use Rattle.fill_session.specs.declared.branch.Branch.{Branch}
@@ -19,19 +22,23 @@ use Rattle.fill_session.specs.declared.error.Part.TheVariants as part
 abbrev pub Fields : Type 0
 Fields = List (List ℕ)
 
--- the word of an edit
-abbrev pub kind_of : Edit → List ℕ
-kind_of (Add row text) = codes "add"
-kind_of (Correct row text) = codes "correct"
-kind_of (Retract row) = codes "retract"
-kind_of Clear = codes "clear"
+-- the word of what an edit does
+abbrev pub kind_word : Kind → List ℕ
+kind_word kind.Add = codes "add"
+kind_word kind.Correct = codes "correct"
+kind_word kind.Retract = codes "retract"
+kind_word kind.Clear = codes "clear"
 
--- the row of an edit, where it is of one
-abbrev pub row_of : Edit → List (List ℕ)
-row_of (Add row text) = decimal row ∷ []
-row_of (Correct row text) = decimal row ∷ []
-row_of (Retract row) = decimal row ∷ []
-row_of Clear = []
+-- its row, where it is of one
+abbrev pub row_fields : Kind → ℕ → List (List ℕ)
+row_fields kind.Add row = decimal row ∷ []
+row_fields kind.Correct row = decimal row ∷ []
+row_fields kind.Retract row = decimal row ∷ []
+row_fields kind.Clear row = []
+
+-- the fields of what an edit does
+abbrev pub done_fields : Done → List (List ℕ)
+done_fields done = kind_word done.kind ∷ row_fields done.kind done.row
 
 -- how long which part is
 abbrev pub length_text : Part → ℕ → List ℕ
@@ -52,11 +59,19 @@ reason_text error.NoMemory = []
 
 -- the record of an edit that was made
 abbrev pub ok_record : Edit → Fields
-ok_record e = codes "ok" ∷ kind_of e ∷ row_of e
+ok_record e = codes "ok" ∷ done_fields (done_of e)
 
 -- the record of an edit that was refused
 abbrev pub refused_record : Edit → EditError → Fields
-refused_record e reason = codes "refused" ∷ kind_of e ∷ (row_of e ++ reason_text reason ∷ [])
+refused_record e reason = codes "refused" ∷ (done_fields (done_of e) ++ reason_text reason ∷ [])
+
+-- the record of an edit that was undone or redone, after the word for which
+abbrev pub move_record : List ℕ → Done → Fields
+move_record word done = codes "ok" ∷ word ∷ done_fields done
+
+-- the record of an undoing or a redoing that there is not, with the reason
+abbrev pub no_move_record : List ℕ → List ℕ → Fields
+no_move_record word reason = codes "refused" ∷ word ∷ reason ∷ []
 
 -- the guard of a branch; the last one has none
 abbrev pub guard_field : Option Guard → List ℕ
@@ -90,9 +105,9 @@ switch_field (Some s) = switch_text s
 abbrev pub switch_record : Option SwitchTree → Fields
 switch_record s = codes "switch" ∷ switch_field s ∷ []
 
--- the record of an answer that was asked for on a row that the sheet has not
-abbrev pub no_row_record : ℕ → Fields
-no_row_record row = codes "refused" ∷ codes "answer" ∷ decimal row ∷ codes "no such row" ∷ []
+-- the record of what was asked for, by this word, on a row that the sheet has not
+abbrev pub no_row_record : List ℕ → ℕ → Fields
+no_row_record word row = codes "refused" ∷ word ∷ decimal row ∷ codes "no such row" ∷ []
 
 -- the record of the best program of a number, of a branch
 abbrev pub best_record : ℕ → ℕ → Atoms → Fields

@@ -21,6 +21,10 @@ followed w more = record { records = w.records ++ more.records; refused = w.refu
 abbrev pub first_of : ℕ → Written → Written
 first_of n w = record { records = take n w.records; refused = 0; term = w.term }
 
+-- nothing is written of what is so, or so many first records of it
+abbrev pub FirstOf : (Written → Type 0) → Written → Written → Type 0
+FirstOf Kind none w = (w ≡ none) ⊎ ((whole : Written) × (n : ℕ) × Kind whole × (w ≡ first_of n whole))
+
 -- by the steps of the entries in order, where `step s e w t` says that the entry writes w in the state s and leaves t:
 -- from this state the entries write this, and leave the last state
 abbrev pub Runs : {S : Type 0} → (S → Entry → Written → S → Type 0) → S → List Entry → Written → S → Type 0

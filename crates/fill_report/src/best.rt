@@ -3,7 +3,7 @@ ghost use Rattle.std.specs.Prelude.{◌≡◌, ◌↔◌, ◌≤◌, length, map
 ghost use Rattle.fill_edge.specs.Outside.{Rose};
 ghost use Rattle.fill_tree.specs.Meaning.{program_tree};
 ghost use Rattle.fill_script.specs.declared.script.Entry.TheVariants as entry;
-ghost use Rattle.fill_report.specs.Entries.{EntryBegins, QueryWrites};
+ghost use Rattle.fill_report.specs.Entries.{QueryBegins, QueryWrites};
 ghost use Rattle.fill_report.specs.Output.{Leaves};
 ghost use Rattle.fill_report.specs.Records.{best_record, best_records, no_branch_record};
 ghost use Rattle.fill_report.specs.Writing.{LeavesFirst};
@@ -88,7 +88,7 @@ pub(crate) fn write_best<O: Sink>(
     requires some { 1 ≤ k }
     requires few { k ≤ 20 }
     ensures leaves { Leaves (QueryWrites session.now.spaces.ground session.now.examples (entry.Best branch k))
-        (EntryBegins session.now.spaces.ground session.now.examples (entry.Best branch k)) result (O.written out.old) (O.written out.new) 0 0 }
+        (QueryBegins session.now.spaces.ground session.now.examples (entry.Best branch k)) result (O.written out.old) (O.written out.new) 0 0 }
     ensures fault { IsErrOf result Halt.Fault → Rose (O.faults out.old) (O.faults out.new) }
     ensures later { O.faults out.old ≤ O.faults out.new }
 {

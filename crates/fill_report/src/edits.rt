@@ -1,36 +1,43 @@
 //! The records of edits.
-ghost use Rattle.std.specs.Prelude.{◌≡◌, ◌∷◌, IfOk, string_bytes};
-ghost use Rattle.fill_report.specs.Records.{kind_of, length_text, ok_record, reason_text, refused_record, row_of};
+ghost use Rattle.std.specs.Prelude.{◌≡◌, ◌∷◌, ◌++◌, IfOk, string_bytes};
+ghost use Rattle.fill_report.specs.Records.{done_fields, kind_word, length_text, ok_record, reason_text, refused_record, row_fields};
+ghost use Rattle.fill_undo.specs.Done.{done_of};
 
 use crate::records::Record;
 use fill_session::{EditError, Part};
 use fill_text::NoMemory;
 use fill_tree::Edit;
+use fill_undo::{Done, Kind};
 use std::alloc::{AllocError, Global};
 
-/// The word of an edit.
-fn kind_of(edit: &Edit) -> &'static [u8]
-    ensures { result.now ≡ kind_of edit.now }
+/// The word of what an edit does.
+fn kind_word(kind: Kind) -> &'static [u8]
+    ensures { result.now ≡ kind_word kind }
 {
-    match edit {
-        Edit::Add { .. } => b"add",
-        Edit::Correct { .. } => b"correct",
-        Edit::Retract { .. } => b"retract",
-        Edit::Clear => b"clear",
+    match kind {
+        Kind::Add => b"add",
+        Kind::Correct => b"correct",
+        Kind::Retract => b"retract",
+        Kind::Clear => b"clear",
+    }
+}
+
+/// The record with what an edit does more.
+pub(crate) fn with_done(before: Record, done: Done) -> Result<Record, NoMemory>
+    ensures { IfOk result (λ made. made ≡ before ++ done_fields done) }
+{
+    let record = before.with(kind_word(done.kind))?;
+    match done.kind {
+        Kind::Add | Kind::Correct | Kind::Retract => record.with_number(done.row),
+        Kind::Clear => Ok(record),
     }
 }
 
 /// The record of a word and an edit.
 fn edit_record(alloc: Global, word: &[u8], edit: &Edit) -> Result<Record, NoMemory>
-    ensures { IfOk result (λ made. made ≡ word.now ∷ kind_of edit.now ∷ row_of edit.now) }
+    ensures { IfOk result (λ made. made ≡ word.now ∷ done_fields (done_of edit.now)) }
 {
-    let record = Record::of(alloc, word)?.with(kind_of(edit))?;
-    match edit {
-        Edit::Add { row, .. } | Edit::Correct { row, .. } | Edit::Retract { row } => {
-            record.with_number(*row)
-        }
-        Edit::Clear => Ok(record),
-    }
+    with_done(Record::of(alloc, word)?, Done::of(edit))
 }
 
 /// Why an edit was refused.

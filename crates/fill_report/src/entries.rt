@@ -3,13 +3,16 @@ ghost use Rattle.std.specs.Prelude.{◌≡◌, ◌↔◌, ◌≤◌, IsErrOf, Is
 ghost use Rattle.fill_edge.specs.Outside.{Rose};
 ghost use Rattle.fill_script.specs.Entries.{IsEntry};
 ghost use Rattle.fill_script.specs.declared.script.Entry.TheVariants as entry;
+ghost use Rattle.fill_session.specs.Timeline.{timeline};
 ghost use Rattle.fill_report.specs.Counts.{AreKnown};
-ghost use Rattle.fill_report.specs.Entries.{EntryBegins, EntryWrites, IsQuery, QueryWrites};
+ghost use Rattle.fill_report.specs.Entries.{EntryBegins, EntryWrites, IsQuery, QueryBegins, QueryWrites};
 ghost use Rattle.fill_report.specs.Output.{Leaves};
 
 use crate::Halt;
 use crate::best::write_best;
 use crate::edits::{ok_record, refused_record};
+use crate::moves::{write_redo, write_undo};
+use crate::objector::write_object;
 use crate::queries::{switch_record, write_answer, write_branches, write_made, write_rows};
 use crate::rows::{Counts, count_record};
 use fill_edge::{Ledger, Sink, Steps};
@@ -37,8 +40,8 @@ pub(crate) fn write_edit<O: Sink, L: Ledger>(
     steps: &mut Steps<L>,
 ) -> Result<bool, Halt>
     ensures ground { session.new.spaces.ground ≡ session.old.spaces.ground }
-    ensures leaves { Leaves (λ w. EntryWrites session.old.spaces.ground session.old.examples (entry.Edit edit.now) w session.new.examples)
-        (EntryBegins session.old.spaces.ground session.old.examples (entry.Edit edit.now)) result (O.written out.old) (O.written out.new) steps.old steps.new }
+    ensures leaves { Leaves (λ w. EntryWrites session.old.spaces.ground (timeline session.old) (entry.Edit edit.now) w (timeline session.new))
+        (EntryBegins session.old.spaces.ground (timeline session.old) (entry.Edit edit.now)) result (O.written out.old) (O.written out.new) steps.old steps.new }
     ensures fault { IsErrOf result Halt.Fault → Rose (O.faults out.old) (O.faults out.new) }
     ensures later { O.faults out.old ≤ O.faults out.new }
 {
@@ -53,7 +56,7 @@ pub(crate) fn write_edit<O: Sink, L: Ledger>(
     }
 }
 
-/// Writes the answer to a question. An entry that is an edit asks nothing.
+/// Writes the answer to a question. An edit, an undoing and a redoing ask nothing.
 fn write_query<O: Sink>(
     alloc: Global,
     session: &Session,
@@ -66,24 +69,25 @@ fn write_query<O: Sink>(
     requires known { AreKnown session.now.spaces.ground session.now.examples known.old }
     ensures known { AreKnown session.now.spaces.ground session.now.examples known.new }
     ensures leaves { Leaves (QueryWrites session.now.spaces.ground session.now.examples entry.now)
-        (EntryBegins session.now.spaces.ground session.now.examples entry.now) result (O.written out.old) (O.written out.new) 0 0 }
+        (QueryBegins session.now.spaces.ground session.now.examples entry.now) result (O.written out.old) (O.written out.new) 0 0 }
     ensures fault { IsErrOf result Halt.Fault → Rose (O.faults out.old) (O.faults out.new) }
     ensures later { O.faults out.old ≤ O.faults out.new }
 {
     match entry {
-        Entry::Edit(_) => unreachable!(),
+        Entry::Edit(_) | Entry::Undo | Entry::Redo => unreachable!(),
         Entry::Programs => write_branches(alloc, session.branches(), out),
         Entry::Switch => write_made(switch_record(alloc, session), false, out),
         Entry::Fill => write_rows(alloc, session, known, out),
         Entry::Count => write_made(count_record(alloc, session, known), false, out),
         Entry::Answer { row } => write_answer(alloc, session, *row, out),
+        Entry::Object { row } => write_object(alloc, session, *row, out),
         Entry::Best { branch, k } => write_best(alloc, session, *branch, *k, out),
     }
 }
 
 /// Writes the records of an entry, each when it is made, and answers whether one of them is a refusal.
 ///
-/// What is known of how many rows have each state is forgotten at an edit.
+/// What is known of how many rows have each state is forgotten where the examples may change.
 pub(crate) fn write_entry<O: Sink, L: Ledger>(
     alloc: Global,
     session: &mut Session,
@@ -96,8 +100,8 @@ pub(crate) fn write_entry<O: Sink, L: Ledger>(
     requires known { AreKnown session.old.spaces.ground session.old.examples known.old }
     ensures known { AreKnown session.new.spaces.ground session.new.examples known.new }
     ensures ground { session.new.spaces.ground ≡ session.old.spaces.ground }
-    ensures leaves { Leaves (λ w. EntryWrites session.old.spaces.ground session.old.examples entry.now w session.new.examples)
-        (EntryBegins session.old.spaces.ground session.old.examples entry.now) result (O.written out.old) (O.written out.new) steps.old steps.new }
+    ensures leaves { Leaves (λ w. EntryWrites session.old.spaces.ground (timeline session.old) entry.now w (timeline session.new))
+        (EntryBegins session.old.spaces.ground (timeline session.old) entry.now) result (O.written out.old) (O.written out.new) steps.old steps.new }
     ensures fault { IsErrOf result Halt.Fault → Rose (O.faults out.old) (O.faults out.new) }
     ensures later { O.faults out.old ≤ O.faults out.new }
 {
@@ -105,6 +109,14 @@ pub(crate) fn write_entry<O: Sink, L: Ledger>(
         Entry::Edit(edit) => {
             *known = None;
             write_edit(alloc, session, edit, out, steps)
+        }
+        Entry::Undo => {
+            *known = None;
+            write_undo(alloc, session, out)
+        }
+        Entry::Redo => {
+            *known = None;
+            write_redo(alloc, session, out)
         }
         _ => write_query(alloc, session, entry, known, out),
     }

@@ -9,6 +9,8 @@ mod edits;
 mod entries;
 mod halt;
 pub mod laws;
+mod moves;
+mod objector;
 mod queries;
 mod records;
 mod report;

@@ -6,7 +6,7 @@ ghost use Rattle.fill_tree.specs.Switch.{switch_tree};
 ghost use Rattle.fill_script.specs.declared.script.Entry.TheVariants as entry;
 ghost use Rattle.fill_session.specs.Outcome.{is_row};
 ghost use Rattle.fill_report.specs.Counts.{AreKnown};
-ghost use Rattle.fill_report.specs.Entries.{EntryBegins, FillBegins, IsSwitchRecord, QueryWrites};
+ghost use Rattle.fill_report.specs.Entries.{FillBegins, IsSwitchRecord, QueryBegins, QueryWrites};
 ghost use Rattle.fill_report.specs.Output.{Leaves};
 ghost use Rattle.fill_report.specs.Records.{guard_field, no_row_record, shown_record, shown_records, switch_field};
 ghost use Rattle.fill_report.specs.Writing.{LeavesFirst, LeavesOne};
@@ -138,18 +138,18 @@ pub(crate) fn write_rows<O: Sink>(
     Ok(false)
 }
 
-/// The record of an answer that was asked for on a row that the sheet has not.
-pub(crate) fn no_row_record(alloc: Global, row: u32) -> Result<Record, NoMemory>
-    ensures { IfOk result (λ made. made ≡ no_row_record row) }
+/// The record of what was asked for, by this word, on a row that the sheet has not.
+pub(crate) fn no_row_record(alloc: Global, word: &[u8], row: u32) -> Result<Record, NoMemory>
+    ensures { IfOk result (λ made. made ≡ no_row_record word.now row) }
 {
     Record::of(alloc, b"refused")?
-        .with(b"answer")?
+        .with(word)?
         .with_number(row)?
         .with(b"no such row")
 }
 
 /// Whether the sheet has the row.
-fn has_row(sheet: &Sheet, row: u32) -> bool
+pub(crate) fn has_row(sheet: &Sheet, row: u32) -> bool
     ensures { result ≡ is_row sheet.now row }
 {
     1 <= row && row <= sheet.rows()
@@ -163,13 +163,13 @@ pub(crate) fn write_answer<O: Sink>(
     out: &mut O,
 ) -> Result<bool, Halt>
     ensures leaves { Leaves (QueryWrites session.now.spaces.ground session.now.examples (entry.Answer row))
-        (EntryBegins session.now.spaces.ground session.now.examples (entry.Answer row)) result (O.written out.old) (O.written out.new) 0 0 }
+        (QueryBegins session.now.spaces.ground session.now.examples (entry.Answer row)) result (O.written out.old) (O.written out.new) 0 0 }
     ensures fault { IsErrOf result Halt.Fault → Rose (O.faults out.old) (O.faults out.new) }
     ensures later { O.faults out.old ≤ O.faults out.new }
 {
     if has_row(session.sheet(), row) {
         write_made(row_record(alloc, session, row), false, out)
     } else {
-        write_made(no_row_record(alloc, row), true, out)
+        write_made(no_row_record(alloc, b"answer", row), true, out)
     }
 }

@@ -1,9 +1,10 @@
 //! The walk over all entries.
-ghost use Rattle.std.specs.Prelude.{◌≡◌, ◌≤◌, [], length, All, IfOk, IsErrOf};
+ghost use Rattle.std.specs.Prelude.{◌≡◌, ◌≤◌, length, All, IfOk, IsErrOf};
 ghost use Rattle.fill_edge.specs.Outside.{Rose};
 ghost use Rattle.fill_script.specs.Entries.{IsEntry};
+ghost use Rattle.fill_session.specs.Timeline.{timeline};
 ghost use Rattle.fill_report.specs.Output.{Leaves};
-ghost use Rattle.fill_report.specs.Report.{EntriesBegin, EntriesWrite, Reports, ReportsPart, ReportsRecords, addition_at, additions};
+ghost use Rattle.fill_report.specs.Report.{EntriesBegin, EntriesWrite, Reports, ReportsPart, ReportsRecords, addition_at, additions, start};
 
 use crate::Halt;
 use crate::entries::{write_edit, write_entry};
@@ -26,7 +27,7 @@ fn write_addition<O: Sink, L: Ledger>(
     requires last { row ≤ length session.old.spaces.ground.sheet.rows }
     ensures ground { session.new.spaces.ground ≡ session.old.spaces.ground }
     ensures leaves { let g = session.old.spaces.ground in
-        Leaves (λ w. EntriesWrite g session.old.examples (addition_at g.sheet row) w session.new.examples) (EntriesBegin g session.old.examples (addition_at g.sheet row))
+        Leaves (λ w. EntriesWrite g (timeline session.old) (addition_at g.sheet row) w (timeline session.new)) (EntriesBegin g (timeline session.old) (addition_at g.sheet row))
         result (O.written out.old) (O.written out.new) steps.old steps.new }
     ensures fault { IsErrOf result Halt.Fault → Rose (O.faults out.old) (O.faults out.new) }
     ensures later { O.faults out.old ≤ O.faults out.new }
@@ -53,7 +54,7 @@ fn write_additions<O: Sink, L: Ledger>(
 ) -> Result<bool, Halt>
     ensures ground { session.new.spaces.ground ≡ session.old.spaces.ground }
     ensures leaves { let g = session.old.spaces.ground in let all = additions g.sheet (length g.sheet.rows) in
-        Leaves (λ w. EntriesWrite g session.old.examples all w session.new.examples) (EntriesBegin g session.old.examples all)
+        Leaves (λ w. EntriesWrite g (timeline session.old) all w (timeline session.new)) (EntriesBegin g (timeline session.old) all)
         result (O.written out.old) (O.written out.new) steps.old steps.new }
     ensures fault { IsErrOf result Halt.Fault → Rose (O.faults out.old) (O.faults out.new) }
     ensures later { O.faults out.old ≤ O.faults out.new }
@@ -80,7 +81,7 @@ fn write_entries<O: Sink, L: Ledger>(
     requires { All IsEntry entries.now }
     ensures ground { session.new.spaces.ground ≡ session.old.spaces.ground }
     ensures leaves { let g = session.old.spaces.ground in
-        Leaves (λ w. EntriesWrite g session.old.examples entries.now w session.new.examples) (EntriesBegin g session.old.examples entries.now)
+        Leaves (λ w. EntriesWrite g (timeline session.old) entries.now w (timeline session.new)) (EntriesBegin g (timeline session.old) entries.now)
         result (O.written out.old) (O.written out.new) steps.old steps.new }
     ensures fault { IsErrOf result Halt.Fault → Rose (O.faults out.old) (O.faults out.new) }
     ensures later { O.faults out.old ≤ O.faults out.new }
@@ -96,10 +97,10 @@ fn write_entries<O: Sink, L: Ledger>(
     Ok(refused)
 }
 
-/// Writes the report of the entries over a session without examples, each record when it is made, and answers whether
-/// some record of it is a refusal.
+/// Writes the report of the entries over a session without examples and history, each record when it is made, and
+/// answers whether some record of it is a refusal.
 ///
-/// The texts that the sheet's output column gives are added before the entries.
+/// The texts that the sheet's output column gives are added before the entries, and no entry undoes these additions.
 pub fn write_report<O: Sink, L: Ledger>(
     alloc: Global,
     session: &mut Session,
@@ -107,7 +108,7 @@ pub fn write_report<O: Sink, L: Ledger>(
     out: &mut O,
     steps: &mut Steps<L>,
 ) -> Result<bool, Halt>
-    requires empty { session.old.examples ≡ [] }
+    requires empty { timeline session.old ≡ start }
     requires proper { All IsEntry entries.now }
     ensures whole { IfOk result (λ refused. Reports session.old.spaces.ground entries.now refused (O.written out.old) (O.written out.new) steps.old steps.new) }
     ensures part { IsErrOf result Halt.Fault → ReportsPart session.old.spaces.ground entries.now (O.written out.old) (O.written out.new) steps.old steps.new }
@@ -119,6 +120,7 @@ pub fn write_report<O: Sink, L: Ledger>(
         Ok(refused) => refused,
         Err(halt) => return Err(halt),
     };
+    session.forget();
     match write_entries(alloc, session, entries, out, steps) {
         Ok(refused) => Ok(opening || refused),
         Err(halt) => Err(halt),

@@ -59,7 +59,7 @@ impl RowState {
 }
 
 /// The text of an answer in UTF-8.
-fn answer_field(alloc: Global, text: &Option<Text>) -> Result<List<u8>, NoMemory>
+pub(crate) fn answer_field(alloc: Global, text: &Option<Text>) -> Result<List<u8>, NoMemory>
     ensures { IfOk result (λ made. made ≡ answer_field text.now) }
 {
     let mut made = List::new(alloc);

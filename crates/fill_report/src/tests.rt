@@ -74,7 +74,7 @@ fn edits_have_their_records(rt: HostRuntime) -> Result<(), Fail> {
 #[test]
 fn records_are_those_of_csv(rt: HostRuntime) -> Result<(), Fail> {
     let alloc = rt.alloc();
-    let missing = no_row_record(alloc, 0)?;
+    let missing = no_row_record(alloc, b"answer", 0)?;
     assert!(rt; is_written(alloc, &missing, b"refused,answer,0,no such row\n")?);
     let absent = no_branch_record(alloc, 2)?;
     assert!(rt; is_written(alloc, &absent, b"refused,best,2,no such branch\n")?);

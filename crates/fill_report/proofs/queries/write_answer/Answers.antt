@@ -1,7 +1,7 @@
 use Rattle.std.proofs.Common.{◌≡◌, ◌∙◌, ap, sym, true, false}
 use Rattle.fill_text.specs.Data.{SheetData}
 use Rattle.fill_session.specs.Outcome.{is_row}
-use Rattle.fill_report.proofs.Questions.{answer_left, no_row_left}
+use Rattle.fill_report.proofs.Questions.{answer_left, no_answer_left}
 use Rattle.fill_report.proofs.queries.write_answer.Goals as goal
 
 pub returns-then-has_row-clause-leaves : goal.returns-then-has_row-clause-leaves
@@ -16,5 +16,5 @@ returns-else-has_row-clause-leaves g c =
     let s = c.args.session.now in
     let missing : is_row s.spaces.ground.sheet c.args.row ≡ false =
     ap (λ (x : SheetData). is_row x c.args.row) (sym c.sheet.ensures) ∙ sym c.has_row.ensures ∙ c.if-has_row.false in
-    no_row_left s.spaces.ground s.examples c.no_row_record.result c.write_made-else-has_row.result _ _ c.args.row missing c.no_row_record.ensures
+    no_answer_left s.spaces.ground s.examples c.no_row_record.result c.write_made-else-has_row.result _ _ c.args.row missing c.no_row_record.ensures
     c.write_made-else-has_row.ensures.leaves
