@@ -1,25 +1,36 @@
 -- Lengths of constants, where pieces begin, and edges that are passed over.
-use Rattle.std.proofs.Common.{◌≡◌, ℕ, zero, suc, ◌+◌, ◌<◌, ◌≤◌, ◌⊎◌, inl, inr, Bool, IsTrue, List, [], ◌∷◌, ◌++◌, length, set, Option, None, Some, slice_get, refl, sym, ◌∙◌, ap, subst, arith}
-use Rattle.std.proofs.lemmas.Bool.{cases_lt, cases_eq}
+use Rattle.std.proofs.Common.{◌≡◌, ℕ, zero, suc, ◌+◌, ◌<◌, ◌≤◌, ◌⊎◌, inl, inr, Bool, IsTrue, true, false, not, List, [], ◌∷◌, ◌++◌, length, set, Option, None, Some, slice_get, refl, sym, ◌∙◌, ap, subst, arith}
+use Rattle.std.proofs.lemmas.Bool.{cases_lt, cases_eq, false≢true}
 use Rattle.std.proofs.lemmas.Option.{slice_get_within}
 use Rattle.fill_arena.specs.Contents.{EachIn}
 use Rattle.fill_arena.specs.Stands.{PlaceStands, AtomStands}
+use Rattle.fill_arena.specs.declared.entry.AtomItem.{AtomItem}
+use Rattle.fill_arena.specs.declared.entry.AtomItem.TheVariants.{Const, Whole, Sub}
 use Rattle.fill_arena.specs.declared.entry.Edge.{Edge}
 use Rattle.fill_arena.specs.declared.entry.Entry.{Entry}
 use Rattle.fill_arena.proofs.Lists.{get_pushed}
 use Rattle.fill_trim.proofs.Ranks.{set_other}
 use Rattle.fill_meet.specs.Meet.{AreApart}
-use Rattle.fill_meet.specs.Outlines.{AreOutlines, DifferIn, HasLength, constant_of, pieces_of}
+use Rattle.fill_meet.specs.Outlines.{AreOutlines, DifferIn, HasLength, HasOutline, IsOutlined, constant_of, pieces_of}
 use Rattle.fill_meet.specs.Outs.{AreOuts, DiffersAt, IsFirstFrom, IsSought}
+use Rattle.fill_meet.specs.Seen.{AreSeen, ArePassed, IsSeen}
 use Rattle.fill_meet.specs.Tried.{IsTold}
-use Rattle.fill_meet.specs.Starts.{AreStarts, BeginApart, BeginsAt, BeginsIn, NodesApart, StartsMore}
+use Rattle.fill_meet.specs.Starts.{AreStarts, BeginApart, BeginsAt, BeginsIn, HasFar, IsFarFrom, NodesApart, StartsMore}
+use Rattle.fill_meet.specs.declared.outlines.Label.{Label}
 use Rattle.fill_meet.specs.declared.outlines.Outline.{Outline}
 use Rattle.fill_meet.specs.declared.outs.Outs.{Outs}
 use Rattle.fill_meet.specs.declared.starts.Start.{Start}
 use Rattle.fill_meet.specs.declared.tried.Told.{Told}
 use Rattle.fill_meet.specs.declared.starts.Start.TheVariants.{Nowhere, At}
+use Rattle.fill_meet.specs.Sets.{AtomIn}
+use Rattle.fill_meet.proofs.AtomPairs as atoms
 use Rattle.fill_meet.proofs.Lists.{get_there_too, length_pushed, same_value}
 use Rattle.fill_meet.proofs.Parted.{one_value, outlines_apart}
+use Rattle.fill_meet.proofs.Trials.{atoms_unshared}
+
+pub is_false : (b : Bool) → IsTrue (not b) → b ≡ false
+is_false true h = absurd (false≢true h)
+is_false false h = refl
 
 -- the lengths of the outlines before a place
 pub record LengthsBefore (outlines : List (Option Outline)) (i : ℕ) (lengths : List ℕ) : Type 0 where
@@ -38,6 +49,11 @@ lengths_more outlines i lengths more o n at has is s =
             subst (λ v. HasLength v m) same (subst (λ v. HasLength o v) b.1 has))
       ];
     }
+
+set_there : {A : Type 0} (xs : List A) (i : ℕ) (y : A) → i < length xs → slice_get (set xs i y) i ≡ Some y
+set_there [] i y h = absurd (omega arith)
+set_there (z ∷ xs) zero y h = refl
+set_there (z ∷ xs) (suc i) y h = set_there xs i y (omega arith)
 
 set_itself : {A : Type 0} (xs : List A) (i : ℕ) (x y : A) → slice_get xs i ≡ Some x → slice_get (set xs i y) i ≡ Some y
 set_itself [] i x y h = absurd cc
@@ -131,6 +147,57 @@ sought_more edges lengths node wanted start place next s differs f =
       here = f.here;
     }
 
+-- an item that is far from the places, and one of an outline whose pieces begin there and whose constant has another length
+module _ (c : List Entry) (p wanted n : ℕ) (v : Outline) (long : (l : Label) → constant_of v ≡ Some l → l.length ≡ n) (begins : BeginsAt (At p) (pieces_of v)) (differ : n ≡ wanted → ⊥) where
+  far_items : (i j : AtomItem) → IsFarFrom c p wanted i → IsOutlined v j → AreApart AtomIn c i j
+  far_items (Const t) (Const u) f g = atoms.const_apart c t u (λ same. differ (sym (long g.0 g.1) ∙ g.2.0 ∙ sym (ap length same) ∙ f))
+  far_items (Const t) (Whole d) f g = absurd g
+  far_items (Const t) (Sub d r s) f g = atoms.not_const c (Const t) (Sub d r s) t refl (λ w e. cc)
+  far_items (Whole b) j f g = absurd f
+  far_items (Sub b q r) (Const u) f g = atoms.not_sub c (Sub b q r) (Const u) b q r refl (λ d w s e. cc)
+  far_items (Sub b q r) (Whole d) f g = absurd g
+  far_items (Sub b q r) (Sub d w s) f g = atoms.sub_apart_left c b d q r w s (subst (AreApart PlaceStands c q) (sym (begins w s g)) f)
+
+far_sets : (c : List Entry) (start : Start) (s m : ℕ) → HasFar c start s m → (m ≡ 0 → ⊥) → (t : ℕ) (v : Outline) (n : ℕ) → HasOutline c t v → ((b : Label) → constant_of v ≡ Some b → b.length ≡ n) → BeginsAt start (pieces_of v)
+    → (n ≡ m → ⊥) → AreApart AtomStands c s t
+far_sets c start s m far some t v n has long begins differ =
+    let f = far.each some in
+    let there = subst (λ u. BeginsAt u (pieces_of v)) f.1 begins in
+    atoms_unshared c s t f.2 has.0 f.3 has.1 (λ a i at. λ b j is. far_items c f.0 m n v long there differ i j (f.4 a i at) (has.2 b j is))
+
+flip : (c : List Entry) (s t : ℕ) → AreApart AtomStands c s t → AreApart AtomStands c t s
+flip c s t h d o a f g = h d o a g f
+
+-- the edges out of the node are seen before a place of them
+pub record SeenBefore (c : List Entry) (start : Start) (ys : Outs) (node l : ℕ) (seen : List ℕ) : Type 0 where
+  pub each : (b : ℕ) (y : Edge) (n : ℕ) → b < l → slice_get ys.edges.now b ≡ Some y → y.from ≡ node → slice_get seen b ≡ Some n → IsSeen c start ys b y n
+
+pub seen_start : (c : List Entry) (start : Start) (ys : Outs) (node l : ℕ) (seen : List ℕ) → IsFirstFrom ys.edges.now node 0 l → SeenBefore c start ys node l seen
+seen_start c start ys node l seen f = record { each = λ b y n lt hy from. (let least = f.least b y (omega arith) hy from in absurd (let low : ⊥ = omega arith in low)) }
+
+pub seen_more : (c : List Entry) (start : Start) (ys : Outs) (node l next m : ℕ) (seen : List ℕ) (y : Edge) → slice_get ys.edges.now l ≡ Some y → l < length seen → IsSeen c start ys l y m → IsFirstFrom ys.edges.now node (l + 1) next → SeenBefore c start ys node l seen
+    → SeenBefore c start ys node next (set seen l m)
+seen_more c start ys node l next m seen y hy within is f before =
+    record {
+      each = λ b z n lt hz from hn. elim (cases_lt b l) [
+        | inl less ↦ before.each b z n less hz from (sym (set_other seen l b m (λ e. omega arith)) ∙ hn)
+        | inr past ↦ elim (cases_eq b l) [
+          | inl same ↦
+              let value : slice_get (set seen l m) l ≡ Some m = set_there seen l m within in
+              let e : m ≡ n = same_value (set seen l m) l b m n (sym same) value hn in
+              let edge : y ≡ z = same_value ys.edges.now l b y z (sym same) hy hz in
+              subst (λ a. IsSeen c start ys a z n) (sym same) (subst (λ g. IsSeen c start ys l g n) edge (subst (IsSeen c start ys l y) e is))
+          | inr other ↦
+              let on : l + 1 ≤ b = omega arith in
+              let least = f.least b z on hz from in
+              absurd (let low : ⊥ = omega arith in low)
+        ]
+      ];
+    }
+
+pub seen_all : (c : List Entry) (start : Start) (ys : Outs) (node l : ℕ) (seen : List ℕ) → length ys.edges.now ≤ l → SeenBefore c start ys node l seen → AreSeen c start ys node seen
+seen_all c start ys node l seen all before = record { each = λ b y n hy. before.each b y n (let within = slice_get_within ys.edges.now b y hy in omega arith) hy }
+
 -- what is passed over has nothing in common with the edge
 module _ (c : List Entry) (xs ys : Outs) (h w : ℕ) (firsts : AreOuts h xs) (seconds : AreOuts w ys) (left : AreOutlines c xs.edges.now xs.outlines.items) (right : AreOutlines c ys.edges.now ys.outlines.items) where
   module _ (k l wanted : ℕ) (x y : Edge) (o : Option Outline) (hx : slice_get xs.edges.now k ≡ Some x) (hy : slice_get ys.edges.now l ≡ Some y) (ho : slice_get xs.outlines.items k ≡ Some o) (has : HasLength o wanted) where
@@ -149,10 +216,38 @@ module _ (c : List Entry) (xs ys : Outs) (h w : ℕ) (firsts : AreOuts h xs) (se
         let labels : DifferIn (constant_of u.0) (constant_of v.0) = λ a b ha hb same first. differs.4 (sym (other.each v.0 b v.1 hb) ∙ sym same ∙ has.each u.0 a u.1 ha) in
         outlines_apart c u.0 v.0 labels ends x.atoms y.atoms (left.each k x (Some u.0) hx hu) (right.each l y (Some v.0) hy hv)
 
-  -- where the wanted length is known as the edge's own, once pieces out of both nodes begin apart
-  pub row_passed : (k wanted node : ℕ) (x : Edge) (o : Option Outline) (apart : Bool) → slice_get xs.edges.now k ≡ Some x → slice_get xs.outlines.items k ≡ Some o → ((wanted ≡ 0 → ⊥) → IsTrue apart) → HasLength o wanted ⊎ (wanted ≡ 0)
-      → (IsTrue apart → NodesApart c xs.starts.items ys.starts.items x.from node) → (l : ℕ) (y : Edge) → slice_get ys.edges.now l ≡ Some y → y.from ≡ node → DiffersAt ys.lengths.items l wanted → AreApart AtomStands c x.atoms y.atoms
-  row_passed k wanted node x o apart hx ho told has nodes l y hy from differs = elim has [
-    | inl h ↦ passed_apart k l wanted x y o hx hy ho h (subst (NodesApart c xs.starts.items ys.starts.items x.from) (sym from) (nodes (told differs.2))) differs
-    | inr none ↦ absurd (differs.2 none)
-  ]
+  -- a set whose pieces begin far from the node's
+  pub far_passed : (k wanted node : ℕ) (start : Start) → slice_get ys.starts.items node ≡ Some start → ((x : Edge) → slice_get xs.edges.now k ≡ Some x → HasFar c start x.atoms wanted) → ArePassed c xs.edges.now ys.edges.now k node ys.lengths.items wanted
+  far_passed k wanted node start hs far =
+      record {
+        apart = λ x y l hx hy from differs.
+            (let n = differs.0 in
+            let q = get_there_too ys.edges.now ys.outlines.items l y seconds.numbered hy in
+            let other : HasLength q.0 n = seconds.lengths.each l q.0 n q.1 differs.1 in
+            let v = other.some differs.3 in
+            let hv : slice_get ys.outlines.items l ≡ Some (Some v.0) = q.1 ∙ ap Some v.1 in
+            let t = seconds.starts.each l y v.0 hy hv in
+            let is : t.0 ≡ start = one_value (slice_get ys.starts.items y.from) t.0 start t.1 (subst (λ m. slice_get ys.starts.items m ≡ Some start) (sym from) hs) in
+            far_sets c start x.atoms wanted (far x hx) differs.2 y.atoms v.0 n (right.each l y (Some v.0) hy hv) (λ b h. other.each v.0 b v.1 h) (subst (λ u. BeginsAt u (pieces_of v.0)) is t.2) differs.4);
+      }
+
+  -- an edge that has an outline
+  pub own_passed : (k wanted node : ℕ) (o : Option Outline) (apart : Bool) (seen : List ℕ) → slice_get xs.outlines.items k ≡ Some o → ((wanted ≡ 0 → ⊥) → IsTrue apart) → HasLength o wanted ⊎ (wanted ≡ 0)
+      → (IsTrue apart → (x : Edge) → slice_get xs.edges.now k ≡ Some x → NodesApart c xs.starts.items ys.starts.items x.from node)
+      → ((x : Edge) (s : Start) → slice_get xs.edges.now k ≡ Some x → slice_get xs.starts.items x.from ≡ Some s → AreSeen c s ys node seen) → ArePassed c xs.edges.now ys.edges.now k node seen wanted
+  own_passed k wanted node o apart seen ho told has nodes all = record { apart = own_apart } where
+    own_apart : (x y : Edge) (l : ℕ) → slice_get xs.edges.now k ≡ Some x → slice_get ys.edges.now l ≡ Some y → y.from ≡ node → DiffersAt seen l wanted → AreApart AtomStands c x.atoms y.atoms
+    own_apart x y l hx hy from differs = elim has [
+      | inl h ↦
+          let u = h.some differs.2 in
+          let hu : slice_get xs.outlines.items k ≡ Some (Some u.0) = ho ∙ ap Some u.1 in
+          let s = firsts.starts.each k x u.0 hx hu in
+          elim ((all x s.0 hx s.1).each l y differs.0 hy from differs.1) [
+            | inl is ↦
+                passed_apart k l wanted x y o hx hy ho h (subst (NodesApart c xs.starts.items ys.starts.items x.from) (sym from) (nodes (told differs.2) x hx)) (differs.0, is, differs.2, differs.3, differs.4)
+            | inr far ↦
+                flip c y.atoms x.atoms
+                (far_sets c s.0 y.atoms differs.0 far differs.3 x.atoms u.0 wanted (left.each k x (Some u.0) hx hu) (λ b g. h.each u.0 b u.1 g) s.2 (λ e. differs.4 (sym e)))
+          ]
+      | inr none ↦ absurd (differs.2 none)
+    ]

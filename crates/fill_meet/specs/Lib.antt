@@ -4,6 +4,7 @@ pub mod Meet
 pub mod Memory
 pub mod Outs
 pub mod Product
+pub mod Seen
 pub mod Sets
 pub mod Starts
 pub mod Ties

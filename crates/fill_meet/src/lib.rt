@@ -8,6 +8,7 @@
 
 mod apart;
 mod copy;
+mod far;
 pub mod meet;
 mod memo;
 mod outlines;

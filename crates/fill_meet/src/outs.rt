@@ -87,18 +87,19 @@ impl<'a> Outs<'a> {
         self.starts[node]
     }
 
-    /// The first place from this one on, among the edges out of its node, whose edge has a constant of this length or no
-    /// outline. Where the length is 0, each edge is taken.
-    pub(crate) fn seek(&self, place: usize, wanted: usize) -> usize
-        requires { (nodes : ℕ) × AreOuts nodes self.now }
-        ensures { (node start : ℕ) → IsFirstFrom self.now.edges.now node start place → IsSought self.now.edges.now self.now.lengths.items node wanted start result }
+    /// The first place from this one on, among the edges out of its node, whose edge has this length or the length 0. Where
+    /// the wanted length is 0, each edge is taken.
+    pub(crate) fn seek(&self, lengths: &[usize], place: usize, wanted: usize) -> usize
+        requires outs { (nodes : ℕ) × AreOuts nodes self.now }
+        requires lengths { length lengths.now ≡ length self.now.edges.now }
+        ensures { (node start : ℕ) → IsFirstFrom self.now.edges.now node start place → IsSought self.now.edges.now lengths.now node wanted start result }
     {
         if wanted == 0 {
             return place;
         }
         let mut found = place;
-        while found < self.lengths.len() {
-            let length = self.lengths[found];
+        while found < lengths.len() {
+            let length = lengths[found];
             if length == wanted || length == 0 {
                 return found;
             }

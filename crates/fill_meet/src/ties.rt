@@ -4,11 +4,14 @@ ghost use Rattle.fill_arena.specs.Contents.{IsAtomSet};
 ghost use Rattle.fill_arena.specs.declared.entry.Edge.{Edge as Listed};
 ghost use Rattle.fill_meet.specs.Outlines.{AreOutlines, HasLength, HasOutline};
 ghost use Rattle.fill_meet.specs.Product.{ArePairable};
+ghost use Rattle.fill_meet.specs.Seen.{AreSeen, ArePassed};
 ghost use Rattle.fill_meet.specs.Starts.{NodesApart};
 ghost use Rattle.fill_meet.specs.Ties.{AreRising, AreTies, IsOut, IsTried, NameSets, TieState};
 ghost use Rattle.fill_meet.specs.Tried.{AreTried};
+ghost use Rattle.fill_meet.specs.declared.starts.Start.{Start as Begins};
 
 use crate::apart::may_meet;
+use crate::far::{far_length, see};
 use crate::outlines::{Outline, are_told_apart, constant_length};
 use crate::outs::Outs;
 use crate::starts::begin_apart;
@@ -61,6 +64,8 @@ pub(crate) fn find_ties(
     let seconds = Outs::new(alloc, arena, width, ys)?;
     let mut reached = vec![in alloc; false; nodes]?;
     reached[0] = true;
+    let mut seen = vec![in alloc; 0; ys.len()]?;
+    let room = seen.as_mut_slice();
     let tried = Tried::new(alloc, nodes)?;
     let mut net = Net {
         width,
@@ -72,36 +77,41 @@ pub(crate) fn find_ties(
         if !net.reached[at] {
             continue;
         }
-        tie_nodes(arena, &firsts, &seconds, at, &mut net)?;
+        tie_nodes(arena, &firsts, &seconds, at, room, &mut net)?;
     }
     Ok(net.ties)
 }
 
-/// Ties the edges out of the first node of the pair with those out of the second.
+/// Ties the edges out of the first node of the pair with those out of the second. There is room for the lengths of the
+/// second graph's edges.
 fn tie_nodes(
     arena: &Arena,
     xs: &Outs<'_>,
     ys: &Outs<'_>,
     at: usize,
+    seen: &mut [usize],
     net: &mut Net,
 ) -> Result<(), NoMemory>
     requires firsts { AreOutlines arena.now xs.now.edges.now xs.now.outlines.items }
     requires seconds { AreOutlines arena.now ys.now.edges.now ys.now.outlines.items }
     requires wide { 0 < net.old.width }
     requires within { at < length net.old.reached.items }
+    requires seen { length seen.old ≡ length ys.now.edges.now }
     requires state { TieState arena.now xs.now ys.now at 0 0 net.old }
+    ensures seen { length seen.new ≡ length seen.old }
     ensures state { OnOk result (TieState arena.now xs.now ys.now (at + 1) 0 0 net.new) }
     ensures width { OnOk result (net.new.width ≡ net.old.width) }
     ensures long { OnOk result (length net.new.reached.items ≡ length net.old.reached.items) }
 {
     let first = at / net.width;
     let node = at % net.width;
+    see(arena, &net.tried, &xs.start(first), ys, node, seen);
     let mut apart = false;
     let mut k = xs.first(first);
     while k < xs.edges.len() {
         let recent = net.tried.recent.as_slice();
         apart = begin_apart(apart, recent, at, xs.start(first), ys.start(node));
-        tie_row(arena, xs, k, ys, node, at, apart, net)?;
+        tie_out(arena, xs, k, ys, node, at, apart, seen, net)?;
         k = xs.next(k);
     }
     Ok(())
@@ -110,8 +120,8 @@ fn tie_nodes(
 /// Ties the edge at place `k` of the first graph with those out of a node of the second.
 ///
 /// Where pieces out of both nodes begin apart, only constants of one length may be on both edges, so most edges of the
-/// second graph are passed over.
-fn tie_row(
+/// second graph are passed over. An edge without an outline passes over those that have one.
+fn tie_out(
     arena: &Arena,
     xs: &Outs<'_>,
     k: usize,
@@ -119,6 +129,7 @@ fn tie_row(
     node: usize,
     at: usize,
     apart: bool,
+    seen: &[usize],
     net: &mut Net,
 ) -> Result<(), NoMemory>
     requires firsts { AreOutlines arena.now xs.now.edges.now xs.now.outlines.items }
@@ -126,13 +137,67 @@ fn tie_row(
     requires within { k < length xs.now.edges.now }
     requires from { IsOut xs.now.edges.now k net.old.width node at }
     requires apart { IsTrue apart → (x : Listed) → slice_get xs.now.edges.now k ≡ Some x → NodesApart arena.now xs.now.starts.items ys.now.starts.items x.from node }
+    requires long { length seen.now ≡ length ys.now.edges.now }
+    requires seen { (x : Listed) (s : Begins) → slice_get xs.now.edges.now k ≡ Some x → slice_get xs.now.starts.items x.from ≡ Some s → AreSeen arena.now s ys.now node seen.now }
     requires state { TieState arena.now xs.now ys.now at k 0 net.old }
     ensures state { OnOk result (TieState arena.now xs.now ys.now at (k + 1) 0 net.new) }
     ensures width { OnOk result (net.new.width ≡ net.old.width) }
     ensures long { OnOk result (length net.new.reached.items ≡ length net.old.reached.items) }
 {
+    if xs.outline(k).is_none() {
+        let wanted = far_length(arena, &net.tried, &ys.start(node), xs.edges[k].atoms);
+        return tie_row(
+            arena,
+            xs,
+            k,
+            ys,
+            node,
+            at,
+            ys.lengths.as_slice(),
+            wanted,
+            net,
+        );
+    }
     let wanted = wanted_length(apart, xs.outline(k));
-    let mut l = ys.seek(ys.first(node), wanted);
+    tie_row(arena, xs, k, ys, node, at, seen, wanted, net)
+}
+
+/// The length of the outline's constant, where pieces begin apart, or 0.
+fn wanted_length(apart: bool, outline: Option<Outline>) -> usize
+    ensures told { (result ≡ 0 → ⊥) → IsTrue apart }
+    ensures length { HasLength outline result ⊎ (result ≡ 0) }
+{
+    if !apart {
+        return 0;
+    }
+    constant_length(outline, usize::MAX - 1)
+}
+
+/// Ties the edge at place `k` of the first graph with those out of a node of the second that have the wanted length, or the
+/// length 0.
+fn tie_row(
+    arena: &Arena,
+    xs: &Outs<'_>,
+    k: usize,
+    ys: &Outs<'_>,
+    node: usize,
+    at: usize,
+    lengths: &[usize],
+    wanted: usize,
+    net: &mut Net,
+) -> Result<(), NoMemory>
+    requires firsts { AreOutlines arena.now xs.now.edges.now xs.now.outlines.items }
+    requires seconds { AreOutlines arena.now ys.now.edges.now ys.now.outlines.items }
+    requires within { k < length xs.now.edges.now }
+    requires from { IsOut xs.now.edges.now k net.old.width node at }
+    requires lengths { length lengths.now ≡ length ys.now.edges.now }
+    requires passed { ArePassed arena.now xs.now.edges.now ys.now.edges.now k node lengths.now wanted }
+    requires state { TieState arena.now xs.now ys.now at k 0 net.old }
+    ensures state { OnOk result (TieState arena.now xs.now ys.now at (k + 1) 0 net.new) }
+    ensures width { OnOk result (net.new.width ≡ net.old.width) }
+    ensures long { OnOk result (length net.new.reached.items ≡ length net.old.reached.items) }
+{
+    let mut l = ys.seek(lengths, ys.first(node), wanted);
     while l < ys.edges.len() {
         tie_edges(
             arena,
@@ -142,20 +207,9 @@ fn tie_row(
             ys.outline(l),
             net,
         )?;
-        l = ys.seek(ys.next(l), wanted);
+        l = ys.seek(lengths, ys.next(l), wanted);
     }
     Ok(())
-}
-
-/// The length of a constant that may be on both edges, where only that may, or 0.
-fn wanted_length(apart: bool, outline: Option<Outline>) -> usize
-    ensures told { (result ≡ 0 → ⊥) → IsTrue apart }
-    ensures length { HasLength outline result ⊎ (result ≡ 0) }
-{
-    if !apart {
-        return 0;
-    }
-    constant_length(outline, usize::MAX - 1)
 }
 
 /// Ties two edges, if they may have an atom in common. Their sets have the given outlines.

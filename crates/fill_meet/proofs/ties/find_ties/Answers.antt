@@ -1,4 +1,4 @@
-use Rattle.std.proofs.Common.{rules, ◌≡◌, ◌<◌, ◌≤◌, true, length, set, refl, sym, ◌∙◌, subst, length-set}
+use Rattle.std.proofs.Common.{rules, ◌≡◌, ◌<◌, ◌≤◌, true, length, set, refl, ap, sym, ◌∙◌, subst, length-set}
 use Rattle.std.proofs.lemmas.Option.{get_or_from_slice_get}
 use Rattle.fill_trim.proofs.Ranks.{set_same}
 use Rattle.fill_meet.specs.Product.{ArePairable}
@@ -9,6 +9,7 @@ use Rattle.fill_meet.proofs.ties.find_ties.Goals as goal
 pub loop-at-init : goal.loop-at-init
 loop-at-init c =
     let long : length c.in_ok-reached.reached.items ≡ c.args.nodes = search rules in
+    let count : length c.in_ok-seen.seen.items ≡ length c.args.ys.now = search rules in
     let able = subst (λ u. ArePairable c.args.arena.now c.args.height c.args.width u c.in_ok-seconds.seconds.edges.now) (sym c.in_ok-firsts.ensures.edges)
     (subst (λ v. ArePairable c.args.arena.now c.args.height c.args.width c.args.xs.now v) (sym c.in_ok-seconds.ensures.edges) c.requires.edges) in
     let marks = set c.in_ok-reached.reached.items 0 true in
@@ -23,6 +24,7 @@ loop-at-init c =
         tied = tied_start c.args.arena.now c.in_ok-firsts.firsts.edges.now c.in_ok-seconds.seconds.edges.now c.args.height c.args.width able marks c.new-4.result (wide ∙ c.requires.nodes) c.new-4.ensures
             (set_same c.in_ok-reached.reached.items 0 true (subst (λ n. 0 < n) (sym long) c.requires.some));
       };
+      room = ap length c.as_mut_slice-room.ensures.value ∙ count ∙ sym (ap length c.in_ok-seconds.ensures.edges);
       width = refl;
       long = wide;
     }
@@ -35,6 +37,7 @@ loop-at-preserved-then-not-index c =
           let yes = c.index.ensures ∙ get_or_from_slice_get c.loop-at.net.reached.items c.loop-at.at true c.index.result.now m in
           let off = c.if-not-index.true in
           cc);
+      room = inv.room;
       width = inv.width;
       long = inv.long;
     }

@@ -2,7 +2,6 @@ use Rattle.std.proofs.Common.{◌≡◌, ◌+◌, ◌*◌, ◌<◌, get_or, refl
 use Rattle.std.proofs.lemmas.Option.{slice_get-get_or}
 use Rattle.fill_arena.proofs.Lists.{get_there}
 use Rattle.fill_meet.specs.Outs.{IsFirstFrom}
-use Rattle.fill_meet.proofs.Begins.{row_passed}
 use Rattle.fill_meet.proofs.Chains.{first_is, next_is}
 use Rattle.fill_meet.proofs.Nets.{tried_long, net_from, net_to, net_tried, net_row_on, net_row_end}
 use Rattle.fill_meet.proofs.ties.tie_row.Goals as goal
@@ -22,14 +21,14 @@ loop-l-init c =
     let state = c.requires.state in
     let xs = c.args.xs.now in
     let ys = c.args.ys.now in
-    let x = get_there xs.edges.now c.args.k c.requires.within in
-    let length = c.wanted_length-wanted.ensures in
+    let there = get_there xs.edges.now c.args.k c.requires.within in
+    let x = there.0 in
+    let hx = there.1 in
     let first = first_is _ ys state.seconds c.args.node c.first.result c.requires.from.0 c.first.ensures in
     let sought = c.seek-l.ensures c.args.node 0 first in
     record {
-      state = net_row_on c.args.arena.now xs ys c.args.at c.args.k 0 c.args.net.now state x.0.from c.args.node (c.requires.from.1 x.0 x.1) c.requires.from.0 c.seek-l.result x.0 x.1
-          (λ b y low lt hy from. row_passed c.args.arena.now xs ys _ _ state.firsts state.seconds c.requires.firsts c.requires.seconds c.args.k c.wanted_length-wanted.result c.args.node x.0 c.outline.result c.args.apart x.1 c.outline.ensures
-          length.told length.length (λ yes. c.requires.apart yes x.0 x.1) b y hy from (sought.passed b y low lt hy from));
+      state = net_row_on c.args.arena.now xs ys c.args.at c.args.k 0 c.args.net.now state x.from c.args.node (c.requires.from.1 x hx) c.requires.from.0 c.seek-l.result x hx
+          (λ b y low lt hy from. c.requires.passed.apart x y b hx hy from (sought.passed b y low lt hy from));
       from = sought.here;
       width = refl;
       long = refl;
@@ -54,7 +53,6 @@ loop-l-preserved c =
     let y = get_or ys.edges.now c.loop-l.l c.index-ys-l.result in
     let hx = slice_get-get_or xs.edges.now c.args.k c.index-xs-k.result c.requires.within in
     let hy = slice_get-get_or ys.edges.now c.loop-l.l c.index-ys-l.result c.loop-l-test.true in
-    let length = c.wanted_length-wanted.ensures in
     let node : y.from ≡ c.args.node = inv.from y hy in
     let at : c.args.at ≡ x.from * c.loop-l.net.width + c.args.node = subst (λ w. c.args.at ≡ x.from * w + c.args.node) (sym inv.width) (c.requires.from.1 x hx) in
     let new : c.args.at ≡ x.from * c.tie_edges.new.net.width + c.args.node = subst (λ w. c.args.at ≡ x.from * w + c.args.node) (sym done.width) at in
@@ -66,8 +64,7 @@ loop-l-preserved c =
     let sought = c.seek-l-in-loop-l.ensures c.args.node (c.loop-l.l + 1) on in
     record {
       state = net_row_on c.args.arena.now xs ys c.args.at c.args.k (c.loop-l.l + 1) c.tie_edges.new.net state x.from c.args.node new lt c.seek-l-in-loop-l.result x hx
-          (λ b z low less hz from. row_passed c.args.arena.now xs ys _ _ state.firsts state.seconds c.requires.firsts c.requires.seconds c.args.k c.wanted_length-wanted.result c.args.node x c.outline.result c.args.apart hx c.outline.ensures
-          length.told length.length (λ yes. c.requires.apart yes x hx) b z hz from (sought.passed b z low less hz from));
+          (λ b z low less hz from. c.requires.passed.apart x z b hx hz from (sought.passed b z low less hz from));
       from = sought.here;
       width = done.width ∙ inv.width;
       long = tried_long c.args.arena.now x y c.loop-l.net c.tie_edges.new.net done.tied ∙ inv.long;
