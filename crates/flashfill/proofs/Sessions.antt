@@ -1,8 +1,11 @@
 -- How the run of a session ends.
-use Rattle.std.proofs.Common.{◌≡◌, ◌≢◌, ◌∙◌, ◌≤◌, ℕ, List, ◌⊎◌, inl, inr, Option, Some, false, true, arith, sym, subst}
+use Rattle.std.proofs.Common.{◌≡◌, ◌≢◌, ◌∙◌, ◌≤◌, ℕ, List, ◌⊎◌, inl, inr, Option, Some, false, true, arith, refl, sym, subst}
 use Rattle.std.specs.Prelude.{string_bytes}
 use Rattle.std.specs.Io.KnownBytes.{Keeps}
 use Rattle.fill_edge.specs.Outside.{Files}
+use Rattle.fill_script.specs.declared.script.Entry.{Entry}
+use Rattle.fill_space.specs.declared.ground.Ground.{Ground}
+use Rattle.fill_report.specs.Report.{Reports, ReportsPart, ReportsRecords}
 use Rattle.fill_open.specs.Command.{CommandData, command_in, made}
 use Rattle.fill_open.specs.Lines.{unread_line}
 use Rattle.fill_open.specs.Opened.{Held, Told, Opened, IsPassed, Unread, Refused, Passed}
@@ -12,8 +15,8 @@ use Rattle.fill_open.specs.declared.session.Ready.{Ready}
 use Rattle.fill_open.specs.declared.stop.Stop.{Stop}
 use Rattle.fill_open.specs.declared.stop.Stop.TheVariants as stop
 use Rattle.fill_open.proofs.Binds.{told_one}
-use Rattle.flashfill.specs.Answer.{Ends, Opens, WritesReport, WritesPart, WritesRecords, status_of}
-use Rattle.flashfill.specs.Sessions.{EndsSession}
+use Rattle.flashfill.specs.Answer.{Ends, Opens, WritesReport, WritesPart, WritesRecords, ground_of, status_of}
+use Rattle.flashfill.specs.Sessions.{EndsReport, EndsSession}
 use Rattle.flashfill.proofs.Applications.{told_all}
 
 refused_unread : (line name : List ℕ) → (let x : Opened Ready = Refused line in x ≡ Unread name) → ⊥
@@ -156,3 +159,32 @@ module _ (words : List (List ℕ)) (files : Files) (before now : Counts) (old ne
     always_refused = passed_no_refused words files r x opens;
     always_ready = told_all files AlwaysReady (λ held h. inr (inr (inr is)));
   }
+
+  -- the report was written, or a part of it
+  pub report_ends : (x : Ready) → Opens files words x → EndsReport (ground_of x) x.script.entries r old new first last → Ending
+  report_ends x opens h = elim h.one [
+    | inl none ↦ done_ends none x opens (x, opens, h.done none)
+    | inr (inl one) ↦ refusing_ends one x opens (x, opens, h.refusing one)
+    | inr (inr (inl four)) ↦ part_ends four x opens (x, opens, h.part four)
+    | inr (inr (inr six)) ↦ memory_ends six (inr (x, opens, h.memory six))
+  ]
+
+module _ (g : Ground) (entries : List Entry) (old new : Option (List ℕ)) (first last : ℕ) where
+  pub report_done : Reports g entries false old new first last → EndsReport g entries 0 old new first last
+  report_done h = record { done = λ e. h; refusing = λ e. absurd (omega arith); part = λ e. absurd (omega arith); memory = λ e. absurd (omega arith); one = inl refl }
+
+  pub report_refusing : Reports g entries true old new first last → EndsReport g entries 1 old new first last
+  report_refusing h = record { done = λ e. absurd (omega arith); refusing = λ e. h; part = λ e. absurd (omega arith); memory = λ e. absurd (omega arith); one = inr (inl refl) }
+
+  pub report_part : ReportsPart g entries old new first last → EndsReport g entries 4 old new first last
+  report_part h = record { done = λ e. absurd (omega arith); refusing = λ e. absurd (omega arith); part = λ e. h; memory = λ e. absurd (omega arith); one = inr (inr (inl refl)) }
+
+  pub report_memory : ReportsRecords g entries old new first last → EndsReport g entries 6 old new first last
+  report_memory h = record { done = λ e. absurd (omega arith); refusing = λ e. absurd (omega arith); part = λ e. absurd (omega arith); memory = λ e. h; one = inr (inr (inr refl)) }
+
+-- which statuses the writing of a report has
+pub report_status : (r : ℕ) → (r ≡ 0) ⊎ (r ≡ 1) ⊎ (r ≡ 4) ⊎ (r ≡ 6) → (r ≤ 1) ⊎ (r ≡ 4) ⊎ (r ≡ 6)
+report_status r (inl none) = inl (omega arith)
+report_status r (inr (inl one)) = inl (omega arith)
+report_status r (inr (inr (inl four))) = inr (inl four)
+report_status r (inr (inr (inr six))) = inr (inr six)

@@ -42,7 +42,7 @@ abbrev pub WritesRecords : Files → List (List ℕ) → Option (List ℕ) → O
 WritesRecords files words old new before now = (r : Ready) × Opens files words r × ReportsRecords (ground_of r) r.script.entries old new before now
 
 abbrev pub usage_line : List ℕ
-usage_line = codes "usage: flashfill replay SESSION or flashfill made N or flashfill apply SESSION PROGRAM SHEET\n"
+usage_line = codes "usage: flashfill replay SESSION or flashfill made N or flashfill apply SESSION PROGRAM SHEET or flashfill keys FILE\n"
 
 abbrev pub output_line : List ℕ
 output_line = codes "flashfill: output cannot be written\n"

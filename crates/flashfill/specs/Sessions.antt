@@ -2,11 +2,22 @@
 use Rattle.std.specs.Prelude.{◌≡◌, ◌≢◌, ◌⊎◌, ◌≤◌, ℕ, List, Option, false, true}
 use Rattle.std.specs.Io.KnownBytes.{Keeps}
 use Rattle.fill_edge.specs.Outside.{Files}
+use Rattle.fill_script.specs.declared.script.Entry.{Entry}
+use Rattle.fill_space.specs.declared.ground.Ground.{Ground}
+use Rattle.fill_report.specs.Report.{Reports, ReportsPart, ReportsRecords}
 use Rattle.fill_open.specs.Lines.{unread_line}
 use Rattle.fill_open.specs.Opened.{Told, IsPassed, Unread, Refused}
 use Rattle.fill_open.specs.Steps.{opened, opening}
 use Rattle.fill_open.specs.Stops.{Counts, IsUnread, ReadFails}
 use Rattle.flashfill.specs.Answer.{Ends, WritesReport, WritesPart, WritesRecords}
+
+-- what the writing of a report comes to, by its status
+pub record EndsReport (g : Ground) (entries : List Entry) (status : ℕ) (old new : Option (List ℕ)) (first last : ℕ) : Type 0 where
+  pub done : status ≡ 0 → Reports g entries false old new first last
+  pub refusing : status ≡ 1 → Reports g entries true old new first last
+  pub part : status ≡ 4 → ReportsPart g entries old new first last
+  pub memory : status ≡ 6 → ReportsRecords g entries old new first last
+  pub one : (status ≡ 0) ⊎ (status ≡ 1) ⊎ (status ≡ 4) ⊎ (status ≡ 6)
 
 -- how the run of a session ends, by its status: what its output got and how many steps were made, what it said, and why
 pub record EndsSession (words : List (List ℕ)) (files : Files) (status : ℕ) (before now : Counts) (old new : Option (List ℕ)) (first last : ℕ) (Said : List ℕ → Type 0) : Type 0 where

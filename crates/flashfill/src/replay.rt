@@ -1,17 +1,22 @@
 //! The run of a session.
-ghost use Rattle.std.specs.Prelude.{◌≡◌, ◌⊎◌, ◌≤◌, ℕ, List, Some};
+ghost use Rattle.std.specs.Prelude.{◌≡◌, ◌⊎◌, ◌≤◌, ℕ, All, List, Some};
 ghost use Rattle.std.specs.Io.KnownBytes.{Keeps};
 ghost use Rattle.fill_edge.specs.Outside.{Rose};
+ghost use Rattle.fill_script.specs.Entries.{IsEntry};
+ghost use Rattle.fill_session.specs.Timeline.{timeline};
+ghost use Rattle.fill_report.specs.Report.{start};
 ghost use Rattle.fill_open.specs.Command.{IsCommand, command_data, command_in, made};
 ghost use Rattle.fill_open.specs.Lines.{memory_line};
 ghost use Rattle.flashfill.specs.Answer.{Says, output_line};
-ghost use Rattle.flashfill.specs.Sessions.{EndsSession};
+ghost use Rattle.flashfill.specs.Sessions.{EndsReport, EndsSession};
 
 use crate::stop::{MEMORY_LINE, OUTPUT_LINE, say, tell};
 use fill_edge::{Cabinet, Ledger, Sink, Steps};
 use fill_open::{Command, Ready, open_session};
 use fill_report::{Halt, write_report};
+use fill_script::Entry;
 use fill_session::Session;
+use fill_text::NoMemory;
 use std::alloc::Global;
 
 /// Opens the session of a command, replays it, writes its report, and answers the status.
@@ -44,8 +49,41 @@ pub fn replay<C: Cabinet, O: Sink, E: Sink, L: Ledger>(
         sheet,
         tables,
     } = ready;
-    let mut session = Session::new(alloc, script.settings, sheet, tables);
-    match write_report(alloc, &mut session, script.entries.as_slice(), out, steps) {
+    let mut session = match Session::new(alloc, script.settings, sheet, tables) {
+        Ok(session) => session,
+        Err(NoMemory) => {
+            say(err, MEMORY_LINE);
+            return 6;
+        }
+    };
+    report(
+        alloc,
+        &mut session,
+        script.entries.as_slice(),
+        out,
+        err,
+        steps,
+    )
+}
+
+/// Writes the report of the entries over a session without examples and history, and answers the status.
+fn report<O: Sink, E: Sink, L: Ledger>(
+    alloc: Global,
+    session: &mut Session,
+    entries: &[Entry],
+    out: &mut O,
+    err: &mut E,
+    steps: &mut Steps<L>,
+) -> u8
+    requires empty { timeline session.old ≡ start }
+    requires proper { All IsEntry entries.now }
+    ensures ends { EndsReport session.old.spaces.ground entries.now result (O.written out.old) (O.written out.new) steps.old steps.new }
+    ensures silent { result ≤ 1 → Keeps (E.written err.old) (E.written err.new) }
+    ensures fault { result ≡ 4 → Rose (O.faults out.old) (O.faults out.new) }
+    ensures fault_said { result ≡ 4 → Says (E.written err.old) (E.written err.new) (E.faults err.old) (E.faults err.new) output_line }
+    ensures memory_said { result ≡ 6 → Says (E.written err.old) (E.written err.new) (E.faults err.old) (E.faults err.new) memory_line }
+{
+    match write_report(alloc, session, entries, out, steps) {
         Ok(false) => 0,
         Ok(true) => 1,
         Err(Halt::Fault) => {

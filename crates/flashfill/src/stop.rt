@@ -9,7 +9,7 @@ use fill_open::Stop;
 use std::alloc::{AllocError, Global};
 
 pub const USAGE_LINE: &[u8] =
-    b"usage: flashfill replay SESSION or flashfill made N or flashfill apply SESSION PROGRAM SHEET\n";
+    b"usage: flashfill replay SESSION or flashfill made N or flashfill apply SESSION PROGRAM SHEET or flashfill keys FILE\n";
 
 pub const OUTPUT_LINE: &[u8] = b"flashfill: output cannot be written\n";
 

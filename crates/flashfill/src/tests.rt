@@ -154,7 +154,7 @@ fn other_words_are_no_command(rt: HostRuntime) -> Result<(), Fail> {
         assert_eq!(rt; out.written(), b"".as_slice());
         assert_eq!(rt;
             err.written(),
-            b"usage: flashfill replay SESSION or flashfill made N or flashfill apply SESSION PROGRAM SHEET\n".as_slice()
+            b"usage: flashfill replay SESSION or flashfill made N or flashfill apply SESSION PROGRAM SHEET or flashfill keys FILE\n".as_slice()
         );
     }
     Ok(())

@@ -185,10 +185,15 @@ fn lines_after_begin(rt: HostRuntime) -> Result<(), Fail> {
         (b"best,1,21", BAD_ENTRY),
         (b"best,1", BAD_ENTRY),
         (b"best,1,2,3", BAD_ENTRY),
+        (b"object,0", None),
+        (b"object,01", BAD_ENTRY),
+        (b"object,1,x", BAD_ENTRY),
+        (b"undo", None),
+        (b"undo,1", BAD_ENTRY),
+        (b"redo", None),
+        (b"redo,", BAD_ENTRY),
         (b"begin", BAD_ENTRY),
         (b"header", BAD_ENTRY),
-        (b"object,1,x", BAD_ENTRY),
-        (b"redo", BAD_ENTRY),
     ] {
         assert!(rt; line_is(rt.alloc(), line, expected)?, "{line:?}");
     }
@@ -265,7 +270,10 @@ fn is_entry(place: usize, entry: &Entry) -> bool {
         6 => matches!(entry, Entry::Fill),
         7 => matches!(entry, Entry::Count),
         8 => matches!(entry, Entry::Answer { row: 7 }),
-        _ => matches!(entry, Entry::Best { branch: 8, k: 20 }),
+        9 => matches!(entry, Entry::Best { branch: 8, k: 20 }),
+        10 => matches!(entry, Entry::Object { row: 7 }),
+        11 => matches!(entry, Entry::Undo),
+        _ => matches!(entry, Entry::Redo),
     }
 }
 
@@ -275,7 +283,7 @@ fn are_entries(entries: &[Entry]) -> bool {
             return false;
         }
     }
-    entries.len() == 10
+    entries.len() == 13
 }
 
 /// Whether the script has the sheet, the columns and the settings of the whole script.
@@ -299,7 +307,7 @@ fn are_tables(tables: &[TableLine]) -> bool {
 #[test]
 fn a_whole_script(rt: HostRuntime) -> Result<(), Fail> {
     let bytes =
-        b"table,t,t.csv\nprofile,2\nkey,t,2,1\nheader\noutput,3\ndepth,3\ninputs,2,1\nconstants,separators\nsheet,s.csv\nbegin\nadd,2,x\ncorrect,2,\nretract,2\nclear\nprograms\nswitch\nfill\ncount\nanswer,7\nbest,8,20\n";
+        b"table,t,t.csv\nprofile,2\nkey,t,2,1\nheader\noutput,3\ndepth,3\ninputs,2,1\nconstants,separators\nsheet,s.csv\nbegin\nadd,2,x\ncorrect,2,\nretract,2\nclear\nprograms\nswitch\nfill\ncount\nanswer,7\nbest,8,20\nobject,7\nundo\nredo\n";
     let script = Script::read(rt.alloc(), bytes)?;
     assert!(rt; has_settings(&script));
     assert!(rt; are_tables(script.tables.as_slice()));

@@ -20,7 +20,7 @@ fn two_rows(alloc: Global) -> Result<Session, Fail> {
         constants: Constants::Any,
         profile: 1,
     };
-    Ok(Session::new(alloc, settings, sheet, Tables::new(alloc)))
+    Ok(Session::new(alloc, settings, sheet, Tables::new(alloc))?)
 }
 
 /// What three edits come to.

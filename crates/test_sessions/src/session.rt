@@ -21,7 +21,7 @@ fn session_over(alloc: Global, lines: &str, settings: Settings) -> Result<Sessio
     requires { AreSettings settings }
 {
     let sheet = Sheet::read(alloc, lines.as_bytes(), false, &[1], None)?;
-    Ok(Session::new(alloc, settings, sheet, Tables::new(alloc)))
+    Ok(Session::new(alloc, settings, sheet, Tables::new(alloc))?)
 }
 
 /// The same under the usual settings.

@@ -20,7 +20,7 @@ fn three_rows(alloc: Global) -> Result<Session, NoMemory> {
         constants: Constants::Any,
         profile: 1,
     };
-    Ok(Session::new(alloc, settings, sheet, Tables::new(alloc)))
+    Session::new(alloc, settings, sheet, Tables::new(alloc))
 }
 
 /// The branch and the state of the last row.

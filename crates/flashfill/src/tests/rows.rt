@@ -44,7 +44,7 @@ fn check(rt: &impl Abort, alloc: Global, row: Row, most: usize) -> Result<(), Fa
 
 #[test]
 fn one_branch_fills_the_sheet(rt: HostRuntime) -> Result<(), Fail> {
-    let rows: [Row; 7] = [
+    let rows: [Row; 8] = [
         // The best programs, in order.
         (
             b"John Smith\n",
@@ -58,6 +58,13 @@ fn one_branch_fills_the_sheet(rt: HostRuntime) -> Result<(), Fail> {
             b"sheet,sheet.csv\ninputs,1\nbegin\nadd,1,Cd\nadd,2,Ijk\nprograms\nfill\n",
             0,
             b"ok,add,1\nok,add,2\nbranch,1,else,\"Concat(Sub(Col(1),Pos([],[Upper],-1),CPos(-1)))\"\nrow,1,Cd,given\nrow,2,Ijk,given\nrow,3,Op,sure\nrow,4,Xy,doubt\nrow,5,Fg,doubt\nrow,6,,none\n",
+        ),
+        // Rows on which all programs agree, and on which one objects.
+        (
+            b"Ab Cd\nEfgh Ijk\nMn Op\nXy\nBc De Fg\n\"\"\n",
+            b"sheet,sheet.csv\ninputs,1\nbegin\nadd,1,Cd\nadd,2,Ijk\nobject,3\nobject,4\nobject,5\n",
+            0,
+            b"ok,add,1\nok,add,2\nobject,3,,,agreed\nobject,4,\"Concat(Sub(Col(1),Pos([Space],[],1),CPos(-1)))\",,none\nobject,5,\"Concat(Sub(Col(1),Pos([Space],[],1),CPos(-1)))\",De Fg,some\n",
         ),
         // Without an example.
         (
@@ -103,7 +110,7 @@ fn one_branch_fills_the_sheet(rt: HostRuntime) -> Result<(), Fail> {
 
 #[test]
 fn refused_edits_are_told(rt: HostRuntime) -> Result<(), Fail> {
-    let rows: [Row; 6] = [
+    let rows: [Row; 9] = [
         // No such branch.
         (
             b"John Smith\n",
@@ -117,6 +124,27 @@ fn refused_edits_are_told(rt: HostRuntime) -> Result<(), Fail> {
             b"sheet,sheet.csv\ninputs,1\nbegin\nfill\nadd,1,x\nanswer,9\n",
             1,
             b"refused,add,1,no such row\nrefused,answer,9,no such row\n",
+        ),
+        // No objection without examples.
+        (
+            b"Ab Cd\nEfgh Ijk\nMn Op\nXy\nBc De Fg\n\"\"\n",
+            b"sheet,sheet.csv\ninputs,1\nbegin\nobject,1\nobject,9\n",
+            1,
+            b"object,1,,,agreed\nrefused,object,9,no such row\n",
+        ),
+        // Edits that are undone and redone.
+        (
+            b"Ab Cd\nEfgh Ijk\nMn Op\nXy\nBc De Fg\n\"\"\n",
+            b"sheet,sheet.csv\ninputs,1\nbegin\nadd,1,Cd\nclear\nundo\nprograms\nredo\nredo\n",
+            1,
+            b"ok,add,1\nok,clear\nok,undo,clear\nbranch,1,else,\"Concat(Sub(Col(1),Pos([],[Upper],-1),CPos(-1)))\"\nok,redo,clear\nrefused,redo,nothing to redo\n",
+        ),
+        // A refused edit is none to undo.
+        (
+            b"Ab Cd\nEfgh Ijk\nMn Op\nXy\nBc De Fg\n\"\"\n",
+            b"sheet,sheet.csv\ninputs,1\nbegin\nadd,1,Cd\nadd,1,X\nundo\nundo\ncount\n",
+            1,
+            b"ok,add,1\nrefused,add,1,row has an example\nok,undo,add,1\nrefused,undo,nothing to undo\ncount,0,0,0,6,0\n",
         ),
         // Rows alike.
         (
