@@ -15,10 +15,12 @@ use std::alloc::Global;
 /// How far the spaces may grow past twice their size after the last compaction, in sets and graphs.
 const SLACK: u128 = 1024;
 
-/// Whether the spaces, of this size, are to be compacted after an edit, which may have made the history forget states that
-/// could be gone forth to. They had the last size after the last compaction.
+/// Whether the spaces, of this size, are to be compacted after an edit, which may have made the history forget undone
+/// states. They had the last size after the last compaction.
 ///
-/// An added example leaves no space behind, and where no example is left all spaces of later examples are new ones.
+/// A correction and a retraction leave spaces behind once the history forgets the state before them, and an added example
+/// where undone states are forgotten. Where it makes the history forget its oldest state, that state's spaces stay until a
+/// later compaction, as those do that a cleared session leaves behind.
 pub(crate) fn is_due(edit: &Edit, forgets: bool, size: u128, last: u128) -> bool {
     let leaves = match edit {
         Edit::Correct { .. } | Edit::Retract { .. } => true,

@@ -21,4 +21,5 @@ pub use answer::{Answer, State};
 pub use branch::Branch;
 pub use error::{EditError, Part};
 pub use fill_space::{Objection, Shapes};
+pub use fill_undo::{Done, Kind};
 pub use session::Session;

@@ -136,8 +136,8 @@ impl Session {
         }
     }
 
-    /// Does again what was undone last, if nothing was done since, and tells what that edit did. It takes no memory and no
-    /// step.
+    /// Does again what was undone last, if no edit was accepted since, and tells what that edit did. It takes no memory and
+    /// no step.
     pub fn redo(&mut self) -> Option<Done>
         ensures spaces { self.new.spaces ≡ self.old.spaces }
         ensures timeline { RedoIs (timeline self.old) result (timeline self.new) }

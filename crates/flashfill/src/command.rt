@@ -31,8 +31,8 @@ use std::alloc::Global;
 ///
 /// | status | meaning |
 /// |---|---|
-/// | 0 | the whole report was written, and no edit or query of it is refused |
-/// | 1 | the whole report was written, and some edit or query of it is refused |
+/// | 0 | the whole report was written, and nothing in it is refused |
+/// | 1 | the whole report was written, and something in it is refused |
 /// | 2 | the words are no command |
 /// | 3 | a file is not there or could not be read |
 /// | 4 | the output could not be written |

@@ -110,7 +110,7 @@ fn one_branch_fills_the_sheet(rt: HostRuntime) -> Result<(), Fail> {
 
 #[test]
 fn refused_edits_are_told(rt: HostRuntime) -> Result<(), Fail> {
-    let rows: [Row; 9] = [
+    let rows: [Row; 11] = [
         // No such branch.
         (
             b"John Smith\n",
@@ -145,6 +145,20 @@ fn refused_edits_are_told(rt: HostRuntime) -> Result<(), Fail> {
             b"sheet,sheet.csv\ninputs,1\nbegin\nadd,1,Cd\nadd,1,X\nundo\nundo\ncount\n",
             1,
             b"ok,add,1\nrefused,add,1,row has an example\nok,undo,add,1\nrefused,undo,nothing to undo\ncount,0,0,0,6,0\n",
+        ),
+        // The examples of the output column are there from the start.
+        (
+            b"Ab Cd,Cd\nEfgh Ijk,\n",
+            b"sheet,sheet.csv\ninputs,1\noutput,2\nbegin\nundo\nadd,2,Ijk\nundo\nprograms\n",
+            1,
+            b"ok,add,1\nrefused,undo,nothing to undo\nok,add,2\nok,undo,add,2\nbranch,1,else,\"Concat(Sub(Col(1),Pos([],[Upper],-1),CPos(-1)))\"\n",
+        ),
+        // After an edit there is nothing to redo.
+        (
+            b"Ab Cd\nEfgh Ijk\n",
+            b"sheet,sheet.csv\ninputs,1\nbegin\nadd,1,Cd\nundo\nadd,2,Ijk\nredo\nundo\nredo\n",
+            1,
+            b"ok,add,1\nok,undo,add,1\nok,add,2\nrefused,redo,nothing to redo\nok,undo,add,2\nok,redo,add,2\n",
         ),
         // Rows alike.
         (
