@@ -25,7 +25,7 @@ are_copies c d old new listed lent e f graphs same =
 
 module _ (c d : List Entry) (old new : List ℕ) (copies : AreCopies c d old new) where
   -- the same programs stand in a graph and in its copy
-  same_at : (i k n : ℕ) → slice_get old i ≡ Some k → slice_get new i ≡ Some n → (p : Atoms) → ProgramStands d n p ↔ ProgramStands c k p
+  pub same_at : (i k n : ℕ) → slice_get old i ≡ Some k → slice_get new i ≡ Some n → (p : Atoms) → ProgramStands d n p ↔ ProgramStands c k p
   same_at i k n hk hn = zip_at (λ k n. (p : Atoms) → ProgramStands d n p ↔ ProgramStands c k p) old new i k n copies.same hk hn
 
   module _ (i j a b x y : ℕ) (ha : slice_get old i ≡ Some a) (hb : slice_get old j ≡ Some b) (hx : slice_get new i ≡ Some x) (hy : slice_get new j ≡ Some y) where

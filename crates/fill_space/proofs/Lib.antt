@@ -1,4 +1,5 @@
 pub mod Best
+pub mod Building
 pub mod Compacted
 pub mod Copies
 pub mod Growing

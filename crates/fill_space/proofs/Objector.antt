@@ -1,6 +1,6 @@
 -- What the objection in a graph tells of the examples that its space stands for, and that there is one at most.
 use Rattle.std.proofs.Common.{◌≡◌, ℕ, List, Option, None, Some, Result, Ok, Err, refl, sym, subst}
-use Rattle.std.specs.Prelude.{◌↔◌, IfOk, MatchOption, option_map}
+use Rattle.std.specs.Prelude.{IfOk, MatchOption, option_map}
 use Rattle.fill_text.specs.declared.error.NoMemory.{NoMemory}
 use Rattle.fill_tree.specs.Meaning.{program_tree}
 use Rattle.fill_tree.specs.Tree.{Atoms}
@@ -10,7 +10,7 @@ use Rattle.fill_tree.proofs.ProgramOrder.{least_is_one}
 use Rattle.fill_arena.specs.Stands.{ProgramStands}
 use Rattle.fill_object.specs.Objector.{Answers, IsObjection}
 use Rattle.fill_object.specs.declared.graph.Objection.{Objection}
-use Rattle.fill_space.specs.Ground.{Ground, ExplainsOn}
+use Rattle.fill_space.specs.Ground.{Ground}
 use Rattle.fill_space.specs.Objector.{ObjectionIs, ObjectionTree, ObjectsOn, objection_tree}
 use Rattle.fill_space.specs.Spaces.{SpacesData, SpaceStands}
 

@@ -1,5 +1,5 @@
 -- What calls of the lower crates tell of spaces, where `s` is what the fields are seen as.
-use Rattle.std.proofs.Common.{◌≡◌, ◌≤◌, ◌^◌, ℕ, List, [], ◌∷◌, ◌++◌, length, Bool, Option, Some, None, Result, Ok, Err, subst, sym, arith}
+use Rattle.std.proofs.Common.{◌≡◌, ◌≤◌, ◌^◌, ℕ, List, ◌++◌, length, Bool, Option, Some, None, Result, Ok, Err, subst, sym, arith}
 use Rattle.std.specs.Prelude.{◌↔◌, IfOk, IfSome, IsTrue, MatchOption, OnSome}
 use Rattle.fill_text.specs.declared.error.NoMemory.{NoMemory}
 use Rattle.fill_tree.specs.Chosen.{IsLeast}
@@ -13,7 +13,6 @@ use Rattle.fill_arena.specs.Stands.{ProgramStands}
 use Rattle.fill_arena.specs.WellMade.{IsWellMade}
 use Rattle.fill_arena.specs.declared.entry.Entry.{Entry}
 use Rattle.fill_arena.proofs.Costs.{program_present}
-use Rattle.fill_build.specs.Build.{IsGraphOfExample, NoneExplains}
 use Rattle.fill_doubt.specs.Gives.{Differ}
 use Rattle.fill_meet.specs.Meet.{IsMeet, NoneInBoth}
 use Rattle.fill_split.specs.Keeping.{KeepsMarks}
@@ -21,7 +20,7 @@ use Rattle.fill_space.specs.Doubt.{IsDoubtful}
 use Rattle.fill_space.specs.Ground.{Ground, ChosenOn, ExplainsOn, FitsOn}
 use Rattle.fill_space.specs.Spaces.{SpacesData, SpaceStands, spaces_over, first_spaces}
 use Rattle.fill_space.proofs.Growing.{grown}
-use Rattle.fill_space.proofs.Joined.{of_example, of_no_example, of_both, of_neither, chosen, doubtful}
+use Rattle.fill_space.proofs.Joined.{of_both, of_neither, chosen, doubtful}
 use Rattle.fill_space.proofs.Marks.{marks_stay}
 
 module _ (g : Ground) (c d : List Entry) (s : SpacesData) (is : spaces_over g c ≡ s) where
@@ -36,13 +35,6 @@ module _ (g : Ground) (c d : List Entry) (s : SpacesData) (is : spaces_over g c 
       (λ v. KeepsMarks (λ m. m ≤ length v.arena) (λ m. m ≤ length d)
       (λ m k l. SpaceStands (first_spaces m v) k l) (λ m k l. SpaceStands (first_spaces m (spaces_over g d)) k l))
       is (marks_stay g c d on)
-
-  pub one_told : (e : Example) (r : Result (Option ℕ) NoMemory)
-      → IfOk r (λ made. MatchOption made (NoneExplains g.settings g.sheet g.tables e.row e.text) (IsGraphOfExample g.settings g.sheet g.tables e.row e.text d))
-      → IfOk r (λ made. MatchOption made (FitsOn s.ground (e ∷ []) → ⊥) (λ k. SpaceStands (spaces_over g d) k (e ∷ [])))
-  one_told e (Ok None) h = subst (λ (v : SpacesData). FitsOn v.ground (e ∷ []) → ⊥) is (of_no_example g e h)
-  one_told e (Ok (Some k)) h = of_example g e d k h
-  one_told e (Err want) h = tt
 
   pub both_told : (a b : ℕ) (r : Result (Option ℕ) NoMemory)
       → IfOk r (λ made. MatchOption made (NoneInBoth c a b) (IsMeet c a b d))

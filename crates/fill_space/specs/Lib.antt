@@ -1,4 +1,5 @@
 pub mod Best
+pub mod Built
 pub mod Doubt
 pub mod Ground
 pub mod Met

@@ -1,24 +1,30 @@
-//! What is known of graphs that were met, after their arena was copied.
+//! What is known of graphs that were met or built, after their arena was copied.
 ghost use Rattle.std.specs.Prelude.{◌≡◌, ◌<◌, ℕ, List, length, nat_eq, slice_get, Some, IfOk, IfSome, OnOk};
 ghost use Rattle.std.specs.HashMap.{get, Updates};
 ghost use Rattle.fill_arena.specs.declared.entry.Entry.{Entry};
+ghost use Rattle.fill_space.specs.Built.{AreBuilt, IsBuilt};
 ghost use Rattle.fill_space.specs.Met.{AreCopies, AreReplaced, AreTold, IsTold};
+ghost use Rattle.fill_space.specs.declared.ground.Ground.{Ground};
 
+use crate::built::{Built, BuiltFor};
 use crate::met::Met;
 use fill_arena::GraphId;
 use fill_text::NoMemory;
 use std::alloc::Global;
 use std::collections::HashMap;
 
-/// What is known of pairs of the listed graphs and of what they came to, told of the graphs that replace them. Where there
-/// is no room for it, less is known.
-pub(crate) fn carry_over(alloc: Global, met: &Met, listed: &[GraphId], new: &[GraphId]) -> Met
+/// For each listed graph the one that replaces it; nothing where there is no room for it.
+pub(crate) fn known_copies(
+    alloc: Global,
+    listed: &[GraphId],
+    new: &[GraphId],
+) -> HashMap<GraphId, GraphId>
     requires { length new.now ≡ length listed.now }
-    ensures { (c d : List Entry) → AreTold c met.now → AreCopies c d listed.now new.now → AreTold d result }
+    ensures { AreReplaced listed.now new.now result }
 {
     match copies_of(alloc, listed, new) {
-        Ok(copies) => carry_all(alloc, met, &copies),
-        Err(NoMemory) => Met::new(alloc),
+        Ok(copies) => copies,
+        Err(NoMemory) => HashMap::new(alloc),
     }
 }
 
@@ -68,8 +74,8 @@ fn copy_of(copies: &HashMap<GraphId, GraphId>, graph: GraphId) -> Option<GraphId
     }
 }
 
-/// What is known of all pairs, told of the copies.
-fn carry_all(alloc: Global, met: &Met, copies: &HashMap<GraphId, GraphId>) -> Met
+/// What is known of pairs of graphs, told of those that replace them. Where there is no room for it, less is known.
+pub(crate) fn carry_met(alloc: Global, met: &Met, copies: &HashMap<GraphId, GraphId>) -> Met
     ensures { (c d : List Entry) (old new : List ℕ) → AreTold c met.now → AreReplaced old new copies.now → AreCopies c d old new → AreTold d result }
 {
     let mut carried = Met::new(alloc);
@@ -104,4 +110,35 @@ fn carry_pair(
             carried.keep(alloc, x, y, &Some(copy));
         }
     }
+}
+
+/// What is known of graphs of single examples, told of those that replace them. Where there is no room for it, less is known.
+pub(crate) fn carry_built(
+    alloc: Global,
+    built: &Built,
+    copies: &HashMap<GraphId, GraphId>,
+) -> Built
+    ensures { (g : Ground) (c d : List Entry) (old new : List ℕ) → AreBuilt g c built.now → AreReplaced old new copies.now → AreCopies c d old new → AreBuilt g d result }
+{
+    let mut carried = Built::new(alloc);
+    for (row, found) in built.table.iter() {
+        carry_row(alloc, copies, *row, found, &mut carried);
+    }
+    carried
+}
+
+/// What is known of one row's example, if its graph was listed.
+fn carry_row(
+    alloc: Global,
+    copies: &HashMap<GraphId, GraphId>,
+    row: u32,
+    found: &BuiltFor,
+    carried: &mut Built,
+)
+    ensures { (g : Ground) (c d : List Entry) (old new : List ℕ) → IsBuilt g c row found.now.text found.now.graph → AreReplaced old new copies.now → AreCopies c d old new → AreBuilt g d carried.old → AreBuilt g d carried.new }
+{
+    let Some(copy) = copy_of(copies, found.graph) else {
+        return;
+    };
+    carried.keep(alloc, row, &found.text, copy);
 }

@@ -5,6 +5,7 @@
 //! Examples" (POPL 2011), section 4.
 #![tactic(auto)]
 
+mod built;
 mod carried;
 mod ground;
 pub mod laws;

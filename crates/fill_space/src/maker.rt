@@ -4,12 +4,12 @@ ghost use Rattle.fill_space.specs.Ground.{FitsOn, WeighsOn, MayStand};
 ghost use Rattle.fill_space.specs.Spaces.{SpaceStands, first_spaces};
 ghost use Rattle.fill_space.specs.Weights.{one_weight};
 
+use crate::built::{Built, build_once};
 use crate::ground::Ground;
 use crate::met::{Met, meet_once};
 use crate::space::Space;
 use crate::spaces::Spaces;
 use fill_arena::Mark;
-use fill_build::build;
 use fill_edge::{Ledger, Steps};
 use fill_split::Maker;
 use fill_text::NoMemory;
@@ -46,15 +46,12 @@ impl Maker for Spaces {
         steps: &mut Steps<L>,
     ) -> Result<Option<Space>, NoMemory> {
         self.arena.keeps_made();
-        let ground = &self.ground;
-        Space::of_made(build(
+        Space::of_made(build_once(
             self.alloc,
             &mut self.arena,
-            item.row,
-            &item.text,
-            &ground.sheet,
-            &ground.tables,
-            &ground.settings,
+            &mut self.built,
+            &self.ground,
+            item,
             steps,
         ))
     }
@@ -83,6 +80,7 @@ impl Maker for Spaces {
     fn cut(&mut self, mark: Mark) {
         self.arena.cut(mark);
         self.met = Met::new(self.alloc);
+        self.built = Built::new(self.alloc);
     }
 
     fn weight(&self, kept: Space) -> Result<u64, NoMemory> {

@@ -13,7 +13,8 @@ ghost use Rattle.fill_space.specs.Ground.{ChosenOn, ExplainsOn};
 ghost use Rattle.fill_space.specs.Objector.{ObjectionIs, objection_tree};
 ghost use Rattle.fill_space.specs.Spaces.{SpaceStands, Succeeds, no_spaces};
 
-use crate::carried::carry_over;
+use crate::built::Built;
+use crate::carried::{carry_built, carry_met, known_copies};
 use crate::ground::Ground;
 use crate::met::Met;
 use crate::space::{Space, graphs_of, put_graphs};
@@ -34,10 +35,12 @@ pub struct Spaces {
     pub(crate) ground: Ground,
     pub(crate) arena: Arena,
     pub(crate) met: Met,
+    pub(crate) built: Built,
 }
 
 impl Model for Spaces {
     ghost use Rattle.fill_tree.specs.Grammar.{AreSettings};
+    ghost use Rattle.fill_space.specs.Built.{AreBuilt};
     ghost use Rattle.fill_space.specs.Met.{AreTold};
     ghost use Rattle.fill_space.specs.Spaces.{SpacesData, spaces_over};
 
@@ -45,7 +48,7 @@ impl Model for Spaces {
 
     ghost view = { λ spaces. spaces_over spaces.ground spaces.arena };
 
-    ghost invariant = { λ spaces. AreSettings spaces.ground.settings × AreTold spaces.arena spaces.met };
+    ghost invariant = { λ spaces. AreSettings spaces.ground.settings × AreTold spaces.arena spaces.met × AreBuilt spaces.ground spaces.arena spaces.built };
 }
 
 impl Spaces {
@@ -63,6 +66,7 @@ impl Spaces {
             },
             arena: Arena::new(alloc),
             met: Met::new(alloc),
+            built: Built::new(alloc),
         }
     }
 
@@ -212,7 +216,9 @@ impl Spaces {
         let mut graphs = graphs_of(alloc, live)?;
         self.arena = self.arena.copy(alloc, graphs.as_mut_slice())?;
         let copies = graphs.as_slice();
-        self.met = carry_over(self.alloc, &self.met, listed.as_slice(), copies);
+        let known = known_copies(self.alloc, listed.as_slice(), copies);
+        self.met = carry_met(self.alloc, &self.met, &known);
+        self.built = carry_built(self.alloc, &self.built, &known);
         put_graphs(live, copies);
         Ok(())
     }

@@ -5,6 +5,7 @@ use Rattle.fill_tree.specs.declared.user.Example.{Example}
 use Rattle.fill_arena.specs.declared.entry.Entry.{Entry}
 use Rattle.fill_space.specs.Ground.{Ground, FitsOn}
 use Rattle.fill_space.specs.Spaces.{SpacesData, SpaceStands, spaces_over}
+use Rattle.fill_space.proofs.Building.{built_stays}
 use Rattle.fill_space.proofs.Told.{older_stay, older_marks, both_told}
 use Rattle.fill_space.proofs.maker.SpacesMaker.join.Goals as goal
 
@@ -27,3 +28,10 @@ returns-clause-both g c =
     Both : SpacesData → Ground → List Entry → ℕ → ℕ → Result (Option ℕ) NoMemory → Type 0
     Both s over d a b r = IfOk r (λ made. (l m : List Example) → SpaceStands s a l → SpaceStands s b m
         → MatchOption made (FitsOn s.ground (l ++ m) → ⊥) (λ k. SpaceStands (spaces_over over d) k (l ++ m)))
+
+pub invariant_of-self : goal.invariant_of-self
+invariant_of-self g c = (
+  c.self.invariant.0,
+  c.meet_once.ensures.told,
+  built_stays c.self.inside.ground c.self.inside.arena c.meet_once.new.arena c.keeps_made.ensures c.meet_once.ensures.kept c.self.inside.built c.self.invariant.2,
+)

@@ -16,15 +16,18 @@ copy-requires c =
 
 pub invariant_of-self : goal.invariant_of-self
 invariant_of-self c =
+    let over = c.self.inside.ground in
+    let arena = c.self.inside.arena in
     let made = c.in_ok-self-inside.field-0 in
     let graphs = c.in_ok-graphs.graphs in
     let new = c.copy.new.live in
     let lent = c.as_mut_slice.ensures.value ∙ c.in_ok-graphs.ensures in
     let listed = c.as_slice.ensures.value ∙ c.in_ok-listed.ensures in
-    let put = c.as_slice-copies.ensures.value ∙ lent_back graphs.items c.as_mut_slice.result.now new graphs.len (let len = graphs.ok.0 in omega arith) c.as_mut_slice.ensures.value c.in_ok-self-inside.ensures.length in (
+    let put = c.as_slice-copies.ensures.value ∙ lent_back graphs.items c.as_mut_slice.result.now new graphs.len (let len = graphs.ok.0 in omega arith) c.as_mut_slice.ensures.value c.in_ok-self-inside.ensures.length in
+    let copies = are_copies arena made c.as_mut_slice.result.now new c.as_slice.result.now c.as_slice-copies.result.now (lent ∙ sym listed) (sym put) c.in_ok-self-inside.ensures.graphs c.in_ok-self-inside.ensures.same in (
       c.self.invariant.0,
-      c.carry_over.ensures c.self.inside.arena made c.self.invariant.1
-          (are_copies c.self.inside.arena made c.as_mut_slice.result.now new c.as_slice.result.now c.as_slice-copies.result.now (lent ∙ sym listed) (sym put) c.in_ok-self-inside.ensures.graphs c.in_ok-self-inside.ensures.same),
+      c.carry_met.ensures arena made c.as_slice.result.now c.as_slice-copies.result.now c.self.invariant.1 c.known_copies-known.ensures copies,
+      c.carry_built.ensures over arena made c.as_slice.result.now c.as_slice-copies.result.now c.self.invariant.2 c.known_copies-known.ensures copies,
     )
 
 pub returns-clause-stand : goal.returns-clause-stand

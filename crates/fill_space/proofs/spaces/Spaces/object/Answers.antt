@@ -1,4 +1,4 @@
-use Rattle.std.proofs.Common.{ℕ, List, Option, subst}
+use Rattle.std.proofs.Common.{ℕ, List, subst}
 use Rattle.std.specs.Prelude.{IfOk, MatchOption, option_copied, option_map}
 use Rattle.fill_tree.specs.Tree.{Atoms}
 use Rattle.fill_tree.specs.declared.user.Example.{Example}

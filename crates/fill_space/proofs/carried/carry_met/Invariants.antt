@@ -3,7 +3,7 @@ use Rattle.std.specs.HashMap.{get}
 use Rattle.fill_arena.specs.declared.entry.Entry.{Entry}
 use Rattle.fill_meet.specs.Memory.{pair_eq}
 use Rattle.fill_space.specs.Met.{AreCopies, AreReplaced, AreTold}
-use Rattle.fill_space.proofs.carried.carry_all.Given as goal
+use Rattle.fill_space.proofs.carried.carry_met.Given as goal
 
 abbrev pub invariant-loop-pair : goal.invariant-loop-pair
 invariant-loop-pair l =

@@ -2,7 +2,7 @@ use Rattle.std.proofs.Common.{◌≡◌, All, Some, subst}
 use Rattle.std.specs.HashMap.{get}
 use Rattle.std.proofs.lemmas.List.Elements.{All-head, All-tail}
 use Rattle.fill_meet.specs.Memory.{pair_eq}
-use Rattle.fill_space.proofs.carried.carry_all.Goals as goal
+use Rattle.fill_space.proofs.carried.carry_met.Goals as goal
 
 pub loop-pair-preserved : goal.loop-pair-preserved
 loop-pair-preserved c =

@@ -1,0 +1,38 @@
+-- What was found of single examples stays so as the arena grows and is copied, and with one row more.
+use Rattle.std.proofs.Common.{◌≡◌, ℕ, Bool, true, false, cond, List, [], ◌∷◌, Some, slice_get, nat_eq, refl, sym, ◌∙◌, subst, rules}
+use Rattle.std.specs.HashMap.{get, Updates}
+use Rattle.fill_arena.specs.Contents.{Extends}
+use Rattle.fill_arena.specs.WellMade.{IsWellMade}
+use Rattle.fill_arena.specs.declared.entry.Entry.{Entry}
+use Rattle.fill_space.specs.Built.{AreBuilt, IsBuilt}
+use Rattle.fill_space.specs.Ground.{Ground}
+use Rattle.fill_space.specs.Met.{AreCopies}
+use Rattle.fill_space.specs.declared.built.Built.{Built}
+use Rattle.fill_space.specs.declared.built.BuiltFor.{BuiltFor}
+use Rattle.fill_space.proofs.Copies.{same_at}
+use Rattle.fill_space.proofs.Growing.{grown}
+
+pub built_stays : (g : Ground) (c d : List Entry) → IsWellMade c → Extends c d → (built : Built) → AreBuilt g c built → AreBuilt g d built
+built_stays g c d made on built b = record { each = λ row f h. grown g c d made on f.graph (record { row = row; text = f.text } ∷ []) (b.each row f h) }
+
+pub built_carried : (g : Ground) (c d : List Entry) (old new : List ℕ) → AreCopies c d old new → (row : ℕ) (text : List ℕ) (i k n : ℕ)
+    → slice_get old i ≡ Some k → slice_get new i ≡ Some n → IsBuilt g c row text k → IsBuilt g d row text n
+built_carried g c d old new copies row text i k n hk hn s = record {
+  graph = copies.graphs i n hn;
+  exact = λ p. let same = same_at c d old new copies i k n hk hn p in ((λ h. (s.exact p).0 (same.0 h)), (λ explains. same.1 ((s.exact p).1 explains)));
+  some = s.some;
+}
+
+-- what is known with one more row
+module _ (g : Ground) (c : List Entry) (old new : Built) (row : ℕ) (made : BuiltFor) where
+  put_step : (j : ℕ) (b : BuiltFor) (same : Bool) → nat_eq row j ≡ same → get nat_eq new.table j ≡ cond same (Some made) (get nat_eq old.table j) → get nat_eq new.table j ≡ Some b
+      → IsBuilt g c row made.text made.graph → AreBuilt g c old → IsBuilt g c j b.text b.graph
+  put_step j b true e u h is r =
+      let same : row ≡ j = search rules in
+      let q : Some made ≡ Some b = sym u ∙ h in
+      let kept : made ≡ b = cc in
+      subst (λ v. IsBuilt g c v b.text b.graph) same (subst (λ (f : BuiltFor). IsBuilt g c row f.text f.graph) kept is)
+  put_step j b false e u h is r = r.each j b (sym u ∙ h)
+
+  pub built_put : Updates nat_eq old.table new.table row (Some made) → IsBuilt g c row made.text made.graph → AreBuilt g c old → AreBuilt g c new
+  built_put u is r = record { each = λ j b h. put_step j b (nat_eq row j) refl (u.0 j) h is r }
