@@ -59,7 +59,11 @@ fn find_built(table: &HashMap<u32, BuiltFor>, row: u32, text: &Text) -> Option<G
     let Some(built) = table.get(&row) else {
         return None;
     };
-    if built.text.same(text) { Some(built.graph) } else { None }
+    if built.text.same(text) {
+        Some(built.graph)
+    } else {
+        None
+    }
 }
 
 fn put_built(
