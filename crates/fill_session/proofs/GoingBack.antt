@@ -1,5 +1,5 @@
--- Undo after an edit, and redo after an undo, come back to where they began.
-use Rattle.std.proofs.Common.{◌≡◌, ◌-◌, List, [], ◌∷◌, ◌++◌, length, length-append, drop, Option, Some, None, sym, ap, ◌∙◌, subst, arith}
+-- Undo after an edit, and redo after an undo, come back to where they began; and both have one answer.
+use Rattle.std.proofs.Common.{◌≡◌, ◌-◌, List, [], ◌∷◌, ◌++◌, length, length-append, drop, Option, Some, None, refl, sym, ap, ◌∙◌, subst, arith}
 use Rattle.std.proofs.lemmas.List.{drop-append-le, same_from_push}
 use Rattle.fill_tree.specs.declared.user.Edit.{Edit}
 use Rattle.fill_tree.specs.declared.user.Example.{Example}
@@ -41,4 +41,32 @@ redone_is a b c done (Some again) h k =
     let examples : c.examples ≡ a.examples = ap (λ (v : Moved (List Example)). v.state) same.1 in
     let kind : again ≡ done = ap (λ (v : Moved (List Example)). v.done) same.1 in
     let past : c.moves.past ≡ a.moves.past = k.past ∙ ap (λ (d : Done). b.moves.past ++ (record { state = b.examples; done = d }) ∷ []) kind ∙ sym h.past in
+    (ap (λ (d : Done). Some d) kind, λ i. record { examples = examples i; moves = record { past = past i; future = future i } })
+
+pub undo_is_one : (a b c : Timeline) (o p : Option Done) → UndoIs a o b → UndoIs a p c → (o ≡ p) × (b ≡ c)
+undo_is_one a b c None None h k = (refl, h.1 ∙ sym k.1)
+undo_is_one a b c None (Some p) h k = absurd (not_none c.moves.past (record { state = c.examples; done = p }) (sym k.past ∙ h.0))
+undo_is_one a b c (Some o) None h k = absurd (not_none b.moves.past (record { state = b.examples; done = o }) (sym h.past ∙ k.0))
+undo_is_one a b c (Some o) (Some p) h k =
+    let m : Moved (List Example) = record { state = b.examples; done = o } in
+    let n : Moved (List Example) = record { state = c.examples; done = p } in
+    let same = same_from_push b.moves.past c.moves.past m n (sym h.past ∙ k.past) in
+    let past : b.moves.past ≡ c.moves.past = same.0 in
+    let examples : b.examples ≡ c.examples = ap (λ (v : Moved (List Example)). v.state) same.1 in
+    let kind : o ≡ p = ap (λ (v : Moved (List Example)). v.done) same.1 in
+    let future : b.moves.future ≡ c.moves.future = h.future ∙ ap (λ (d : Done). a.moves.future ++ (record { state = a.examples; done = d }) ∷ []) kind ∙ sym k.future in
+    (ap (λ (d : Done). Some d) kind, λ i. record { examples = examples i; moves = record { past = past i; future = future i } })
+
+pub redo_is_one : (a b c : Timeline) (o p : Option Done) → RedoIs a o b → RedoIs a p c → (o ≡ p) × (b ≡ c)
+redo_is_one a b c None None h k = (refl, h.1 ∙ sym k.1)
+redo_is_one a b c None (Some p) h k = absurd (not_none c.moves.future (record { state = c.examples; done = p }) (sym k.future ∙ h.0))
+redo_is_one a b c (Some o) None h k = absurd (not_none b.moves.future (record { state = b.examples; done = o }) (sym h.future ∙ k.0))
+redo_is_one a b c (Some o) (Some p) h k =
+    let m : Moved (List Example) = record { state = b.examples; done = o } in
+    let n : Moved (List Example) = record { state = c.examples; done = p } in
+    let same = same_from_push b.moves.future c.moves.future m n (sym h.future ∙ k.future) in
+    let future : b.moves.future ≡ c.moves.future = same.0 in
+    let examples : b.examples ≡ c.examples = ap (λ (v : Moved (List Example)). v.state) same.1 in
+    let kind : o ≡ p = ap (λ (v : Moved (List Example)). v.done) same.1 in
+    let past : b.moves.past ≡ c.moves.past = h.past ∙ ap (λ (d : Done). a.moves.past ++ (record { state = a.examples; done = d }) ∷ []) kind ∙ sym k.past in
     (ap (λ (d : Done). Some d) kind, λ i. record { examples = examples i; moves = record { past = past i; future = future i } })

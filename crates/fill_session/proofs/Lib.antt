@@ -1,4 +1,5 @@
-pub mod AllAnswered
+pub mod Accepting
+pub mod AllMade
 pub mod Answering
 pub mod Applied
 pub mod BestOfBranch

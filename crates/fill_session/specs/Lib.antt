@@ -2,11 +2,11 @@ pub mod Answers
 pub mod Before
 pub mod Branches
 pub mod Change
-pub mod Edited
 pub mod Edits
 pub mod Fate
 pub mod Folded
 pub mod Laws
+pub mod Made
 pub mod Objector
 pub mod Outcome
 pub mod Renewed

@@ -1,5 +1,5 @@
 -- What an edit leads to: the examples that it leaves, or why it is refused, and how many steps it may take.
-use Rattle.std.specs.Prelude.{◌≡◌, ◌≢◌, ◌⊎◌, ℕ, ◌+◌, ◌*◌, ◌==◌, ◌&&◌, not, if◌then◌else◌, nat_le, nat_lt, Bool, List, [], ◌∷◌, length, sum_by, count_by, Option, None, Some, Result, Ok, Err, ⊤}
+use Rattle.std.specs.Prelude.{◌≡◌, ◌≢◌, ◌⊎◌, ℕ, ◌+◌, ◌*◌, ◌==◌, ◌&&◌, not, if◌then◌else◌, nat_le, nat_lt, Bool, List, length, sum_by, count_by, Option, None, Some, Result, Ok, Err, ⊤}
 use Rattle.std.specs.List.{list_any}
 use Rattle.std.specs.Option.{option_or}
 use Rattle.fill_text.specs.Data.{RowData, SheetData, nth}
@@ -80,11 +80,3 @@ term sheet examples edit = term_of (first_reason sheet examples edit) (changed e
 abbrev pub Answers : Ground → List Example → Edit → Result ⊤ EditError → List Example → Type 0
 Answers g examples edit (Ok done) after = OutcomeIs g examples edit None × (after ≡ changed examples edit)
 Answers g examples edit (Err reason) after = (reason ≢ error.NoMemory → OutcomeIs g examples edit (Some reason)) × (after ≡ examples)
-
--- edits made one after the other, with their answers and the examples that are present in the end
-abbrev pub AllAnswer : Ground → List Example → List Edit → List (Result ⊤ EditError) → List Example → Type 0
-AllAnswer g examples [] [] after = after ≡ examples
-AllAnswer g examples [] (a ∷ answers) after = ⊥
-AllAnswer g examples (e ∷ edits) [] after = ⊥
-AllAnswer g examples (e ∷ edits) (a ∷ answers) after =
-    (next : List Example) × Answers g examples e a next × AllAnswer g next edits answers after

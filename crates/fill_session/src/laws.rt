@@ -1,8 +1,8 @@
 //! Laws of the definitions that the contracts of this crate cite.
 //!
 //! Each function does nothing: what it tells is its clauses, which hold over all grounds and for all lists of examples
-//! and of edits.
-ghost use Rattle.std.specs.Prelude.{◌≡◌, ◌≢◌, ℕ, ⊤, [], All, Contains, Err, List, None, Option, Result, Some};
+//! and of moves.
+ghost use Rattle.std.specs.Prelude.{◌≡◌, ◌≢◌, ℕ, All, Contains, Err, List, None, Option, Some};
 ghost use Rattle.fill_tables.specs.Keys.{KeysDistinguish};
 ghost use Rattle.fill_tree.specs.declared.user.Edit.{Edit};
 ghost use Rattle.fill_tree.specs.declared.user.Example.{Example};
@@ -14,11 +14,15 @@ ghost use Rattle.fill_session.specs.Answers.{AnswerIs, IsBranchAt};
 ghost use Rattle.fill_session.specs.Branches.{AreBranches, BranchData};
 ghost use Rattle.fill_session.specs.Fate.{FateIs};
 ghost use Rattle.fill_session.specs.Laws.{IsGivenAs, IsReproducedBy};
+ghost use Rattle.fill_session.specs.Made.{AreMade, start};
 ghost use Rattle.fill_session.specs.Objector.{ObjectorIs};
-ghost use Rattle.fill_session.specs.Outcome.{AllAnswer, OutcomeIs};
+ghost use Rattle.fill_session.specs.Outcome.{OutcomeIs};
+ghost use Rattle.fill_session.specs.State.{AreHeld};
 ghost use Rattle.fill_session.specs.Timeline.{RedoIs, Timeline, UndoIs, edited};
 ghost use Rattle.fill_session.specs.declared.answer.Answer.{Answer};
 ghost use Rattle.fill_session.specs.declared.error.EditError.{EditError};
+ghost use Rattle.fill_session.specs.declared.moves.Move.{Move};
+ghost use Rattle.fill_session.specs.declared.moves.Reply.{Reply};
 
 /// Each example's row takes one of the branches, which reproduces the example; so the answer there is the example's
 /// text. Programs have one value where the keys of the tables distinguish their rows.
@@ -32,10 +36,13 @@ pub fn examples_are_reproduced()
         KeysDistinguish g.tables → Contains examples e → AnswerIs g examples e.row a → IsGivenAs e a }
 {}
 
-/// After any edits, refused ones and such as met want of memory among them, the examples are accepted ones.
+/// After any moves, refused edits and such as met want of memory among them, the examples are accepted ones, and so are those
+/// of each state that undo and redo come to.
 pub fn accepted_stay_accepted()
-    ensures { (g : Ground) (edits : List Edit) (answers : List (Result ⊤ EditError)) (examples : List Example) →
-        AllAnswer g [] edits answers examples → FateIs g examples None }
+    ensures present { (g : Ground) (moves : List Move) (replies : List Reply) (n : ℕ) (t : Timeline) →
+        AreMade g start moves replies n t → FateIs g t.examples None }
+    ensures others { (g : Ground) (moves : List Move) (replies : List Reply) (n : ℕ) (t : Timeline) →
+        AreMade g start moves replies n t → AreHeld (λ examples. FateIs g examples None) t.moves }
 {}
 
 /// Examples have at most one fate, and at most one list of branches.
@@ -46,14 +53,14 @@ pub fn one_fate()
         AreBranches g examples a → AreBranches g examples b → a ≡ b }
 {}
 
-/// An edit of examples has at most one outcome. So the same edits of the same examples have the same answers and leave the
-/// same examples, unless memory was wanted.
+/// An edit of examples has at most one outcome. So the same moves of the same timeline have the same replies, may take the
+/// same steps and leave the same timeline, unless memory was wanted.
 pub fn one_outcome()
     ensures outcome { (g : Ground) (examples : List Example) (edit : Edit) (a b : Option EditError) →
         OutcomeIs g examples edit a → OutcomeIs g examples edit b → a ≡ b }
-    ensures answers { (g : Ground) (examples : List Example) (edits : List Edit) (a b : List (Result ⊤ EditError)) (after other : List Example) →
-        All (λ x. x ≢ Err EditError.NoMemory) a → All (λ x. x ≢ Err EditError.NoMemory) b →
-        AllAnswer g examples edits a after → AllAnswer g examples edits b other → (a ≡ b) × (after ≡ other) }
+    ensures moves { (g : Ground) (a : Timeline) (moves : List Move) (ones others : List Reply) (n k : ℕ) (b c : Timeline) →
+        All (λ r. r ≢ Reply.Edited (Err EditError.NoMemory)) ones → All (λ r. r ≢ Reply.Edited (Err EditError.NoMemory)) others →
+        AreMade g a moves ones n b → AreMade g a moves others k c → (ones ≡ others) × (n ≡ k) × (b ≡ c) }
 {}
 
 /// Examples have at most one answer on a row.

@@ -13,7 +13,7 @@ ghost use Rattle.fill_session.specs.Answers.{AnswerIs, switch_of};
 ghost use Rattle.fill_session.specs.Branches.{AreBranches, BranchData};
 ghost use Rattle.fill_session.specs.Edits.{AreExamples};
 ghost use Rattle.fill_session.specs.Objector.{ObjectorIs};
-ghost use Rattle.fill_session.specs.Outcome.{Answers, AllAnswer, first_reason, term};
+ghost use Rattle.fill_session.specs.Outcome.{Answers, first_reason, term};
 ghost use Rattle.fill_session.specs.State.{AreShown, IsAsBefore, IsBranch};
 ghost use Rattle.fill_session.specs.Timeline.{RedoIs, UndoIs, edited_by, forgotten, timeline};
 ghost use Rattle.fill_undo.specs.Moves.{no_moves};

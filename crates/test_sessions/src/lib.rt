@@ -6,7 +6,7 @@ mod best;
 #[cfg(test)]
 mod edit;
 #[cfg(test)]
-mod edits;
+mod moves;
 #[cfg(test)]
 mod session;
 #[cfg(test)]

@@ -1,5 +1,5 @@
-use Rattle.fill_session.proofs.AllAnswered.{accepted_in_the_end}
+use Rattle.fill_session.proofs.Accepting.{others_accepted, present_accepted}
 use Rattle.fill_session.proofs.laws.accepted_stay_accepted.Goals as goal
 
 pub returns : goal.returns
-returns c = accepted_in_the_end
+returns c = record { present = present_accepted; others = others_accepted }
