@@ -1,7 +1,7 @@
 //! The best programs of a branch.
 ghost use Rattle.std.specs.Prelude.{◌≤◌};
 
-use crate::session::{Kind, accepted, edit_of, make, usual};
+use crate::session::{Kind, Work, accepted, goes, replay};
 use fill_session::Session;
 use fill_text::NoMemory;
 use std::alloc::Global;
@@ -19,35 +19,33 @@ fn found(alloc: Global, session: &Session, k: u32) -> Result<usize, NoMemory>
     Ok(programs.len())
 }
 
-/// Whether so many programs are the first `k` after the addition of the text on the first row.
-fn finds(
-    alloc: Global,
-    session: &mut Session,
-    text: &str,
+/// So many programs are the first `k`, of 1 to 20, after the addition of the text on the first row.
+#[derive(Clone, Copy)]
+struct First<'a> {
+    text: &'a str,
     k: u32,
     count: usize,
-) -> Result<bool, Fail>
-    requires some { 1 ≤ k }
-    requires few { k ≤ 20 }
-{
-    let edit = edit_of(alloc, &accepted(Kind::Add, 1, text))?;
-    let refused = make(session, &edit);
-    let programs = found(alloc, session, k)?;
-    Ok(refused == None && programs == count)
 }
 
-/// The same over a name.
-fn name_has(alloc: Global, text: &str, k: u32, count: usize) -> Result<bool, Fail>
-    requires some { 1 ≤ k }
-    requires few { k ≤ 20 }
-{
-    let mut session = usual(alloc, "John Smith\n")?;
-    finds(alloc, &mut session, text, k, count)
+impl Work for First<'_> {
+    fn goes(&self, alloc: Global, session: &mut Session) -> Result<bool, NoMemory> {
+        let (k, count) = (self.k, self.count);
+        let edits = [accepted(Kind::Add, 1, self.text)];
+        if k < 1 || 20 < k || !replay(alloc, session, &edits)? {
+            return Ok(false);
+        }
+        Ok(found(alloc, session, k)? == count)
+    }
+}
+
+/// Whether so many programs are the first `k` for this text of a name.
+fn finds(alloc: Global, text: &str, k: u32, count: usize) -> Result<bool, NoMemory> {
+    goes(alloc, "John Smith\n", &First { text, k, count })
 }
 
 #[test]
 fn the_first_programs_of_a_branch(rt: HostRuntime) -> Result<(), Fail> {
-    assert!(rt; name_has(rt.alloc(), "Smith", 3, 3)?);
-    assert!(rt; name_has(rt.alloc(), "", 20, 1)?);
+    assert!(rt; finds(rt.alloc(), "Smith", 3, 3)?);
+    assert!(rt; finds(rt.alloc(), "", 20, 1)?);
     Ok(())
 }

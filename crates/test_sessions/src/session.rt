@@ -1,12 +1,13 @@
 //! Sessions of small sheets.
-ghost use Rattle.std.specs.Prelude.{◌≡◌, ◌≤◌};
+ghost use Rattle.std.specs.Prelude.{◌≡◌, ◌≤◌, length};
+ghost use Rattle.fill_doubt.specs.Shapes.{ShapesStand};
 ghost use Rattle.fill_tree.specs.Grammar.{AreSettings};
 
 use fill_edge::{Ledger, Steps};
 use fill_session::{Answer, EditError, Session, Shapes, State};
 use fill_sheet::Sheet;
 use fill_tables::Tables;
-use fill_text::Text;
+use fill_text::{NoMemory, Text};
 use fill_tree::{Constants, Edit, Settings};
 use std::alloc::Global;
 use std::marker::Brand;
@@ -16,22 +17,35 @@ use std::test::Fail;
 /// A sheet of six rows of words.
 const WORDS: &str = "Ab Cd\nEfgh Ijk\nMn Op\nXy\nBc De Fg\n\"\"\n";
 
-/// A session over the sheet of these lines, of one input column.
-fn session_over(alloc: Global, lines: &str, settings: Settings) -> Result<Session, Fail>
+/// What is done in a session, and whether all goes as it is to.
+pub(crate) trait Work {
+    fn goes(&self, alloc: Global, session: &mut Session) -> Result<bool, NoMemory>;
+}
+
+/// Whether the work goes as it is to in a session over the sheet of these lines, of one input column.
+fn goes_under<W: Work>(
+    alloc: Global,
+    lines: &str,
+    settings: Settings,
+    work: &W,
+) -> Result<bool, NoMemory>
     requires { AreSettings settings }
 {
-    let sheet = Sheet::read(alloc, lines.as_bytes(), false, &[1], None)?;
-    Ok(Session::new(alloc, settings, sheet, Tables::new(alloc))?)
+    let Ok(sheet) = Sheet::read(alloc, lines.as_bytes(), false, &[1], None) else {
+        return Err(NoMemory);
+    };
+    let mut session = Session::new(alloc, settings, sheet, Tables::new(alloc))?;
+    work.goes(alloc, &mut session)
 }
 
 /// The same under the usual settings.
-pub(crate) fn usual(alloc: Global, lines: &str) -> Result<Session, Fail> {
+pub(crate) fn goes<W: Work>(alloc: Global, lines: &str, work: &W) -> Result<bool, NoMemory> {
     let settings = Settings {
         depth: 1,
         constants: Constants::Any,
         profile: 1,
     };
-    session_over(alloc, lines, settings)
+    goes_under(alloc, lines, settings, work)
 }
 
 /// Makes an edit, and gives the reason where it is refused.
@@ -79,7 +93,7 @@ pub(crate) fn accepted(kind: Kind, row: u32, text: &str) -> Tried<'_> {
     }
 }
 
-fn refused(kind: Kind, row: u32, text: &str, reason: EditError) -> Tried<'_> {
+pub(crate) fn refused(kind: Kind, row: u32, text: &str, reason: EditError) -> Tried<'_> {
     Tried {
         kind,
         row,
@@ -88,22 +102,44 @@ fn refused(kind: Kind, row: u32, text: &str, reason: EditError) -> Tried<'_> {
     }
 }
 
-pub(crate) fn edit_of(alloc: Global, tried: &Tried) -> Result<Edit, Fail> {
+/// The text of these characters.
+pub(crate) fn text_of(alloc: Global, characters: &str) -> Result<Text, NoMemory> {
+    match Text::from_utf8(alloc, characters.as_bytes()) {
+        Ok(text) => Ok(text),
+        Err(_) => Err(NoMemory),
+    }
+}
+
+pub(crate) fn edit_of(alloc: Global, tried: &Tried) -> Result<Edit, NoMemory> {
     let row = tried.row;
-    let text = Text::from_utf8(alloc, tried.text.as_bytes())?;
     match tried.kind {
-        Kind::Add => Ok(Edit::Add { row, text }),
-        Kind::Correct => Ok(Edit::Correct { row, text }),
+        Kind::Add => Ok(Edit::Add {
+            row,
+            text: text_of(alloc, tried.text)?,
+        }),
+        Kind::Correct => Ok(Edit::Correct {
+            row,
+            text: text_of(alloc, tried.text)?,
+        }),
         Kind::Retract => Ok(Edit::Retract { row }),
         Kind::Clear => Ok(Edit::Clear),
     }
 }
 
-/// Makes edits, and tells whether each is accepted or refused as it is to be.
-fn replay(alloc: Global, session: &mut Session, edits: &[Tried]) -> Result<bool, Fail> {
+/// Makes an edit, and tells whether it is accepted or refused as it is to be.
+fn is_as_told(alloc: Global, session: &mut Session, tried: &Tried) -> Result<bool, NoMemory> {
+    let edit = edit_of(alloc, tried)?;
+    Ok(make(session, &edit) == tried.reason)
+}
+
+/// The same for all these edits.
+pub(crate) fn replay(
+    alloc: Global,
+    session: &mut Session,
+    edits: &[Tried],
+) -> Result<bool, NoMemory> {
     for tried in edits {
-        let edit = edit_of(alloc, tried)?;
-        if make(session, &edit) != tried.reason {
+        if !is_as_told(alloc, session, tried)? {
             return Ok(false);
         }
     }
@@ -129,36 +165,64 @@ fn expected(row: u32, branch: u32, text: Option<&str>, state: State) -> Wanted<'
 }
 
 /// Whether the text is this one, or there is none as there is to be.
-fn is_text(alloc: Global, text: &Option<Text>, wanted: Option<&str>) -> Result<bool, Fail> {
+fn is_text(alloc: Global, text: &Option<Text>, wanted: Option<&str>) -> Result<bool, NoMemory> {
     match (text, wanted) {
         (None, None) => Ok(true),
-        (Some(text), Some(wanted)) => Ok(text.same(&Text::from_utf8(alloc, wanted.as_bytes())?)),
+        (Some(text), Some(wanted)) => Ok(text.same(&text_of(alloc, wanted)?)),
         (_, _) => Ok(false),
     }
 }
 
 /// Whether the answer is the one that a row is to have.
-fn is_wanted(alloc: Global, answer: &Answer, wanted: &Wanted) -> Result<bool, Fail> {
+fn is_wanted(alloc: Global, answer: &Answer, wanted: &Wanted) -> Result<bool, NoMemory> {
     let same = is_text(alloc, &answer.text, wanted.text)?;
     Ok(same && answer.branch == wanted.branch && answer.state == wanted.state)
 }
 
+/// Whether a row has the answer that it is to have, where the shapes of these texts are known.
+fn answers_with(
+    alloc: Global,
+    session: &Session,
+    shapes: &mut Shapes,
+    wanted: &Wanted,
+) -> Result<bool, NoMemory>
+    requires first { 1 ≤ wanted.now.row }
+    requires last { wanted.now.row ≤ length session.now.spaces.ground.sheet.rows }
+    requires shapes { ShapesStand session.now.spaces.arena shapes.old }
+    ensures { ShapesStand session.now.spaces.arena shapes.new }
+{
+    let answer = session.answer_with(alloc, shapes, wanted.row)?;
+    is_wanted(alloc, &answer, wanted)
+}
+
+/// The same two times, the second one with the shapes that the first one made.
+fn answers_twice(
+    alloc: Global,
+    session: &Session,
+    shapes: &mut Shapes,
+    wanted: &Wanted,
+) -> Result<bool, NoMemory>
+    requires first { 1 ≤ wanted.now.row }
+    requires last { wanted.now.row ≤ length session.now.spaces.ground.sheet.rows }
+    requires shapes { ShapesStand session.now.spaces.arena shapes.old }
+{
+    if !answers_with(alloc, session, shapes, wanted)? {
+        return Ok(false);
+    }
+    answers_with(alloc, session, shapes, wanted)
+}
+
 /// Whether a row has the answer that it is to have, and has it again where the shapes of its texts are known.
-fn answers(alloc: Global, session: &Session, wanted: &Wanted) -> Result<bool, Fail> {
+fn answers(alloc: Global, session: &Session, wanted: &Wanted) -> Result<bool, NoMemory> {
     if wanted.row < 1 || session.sheet().rows() < wanted.row {
         return Ok(false);
     }
     let mut shapes = Shapes::new(alloc);
-    let answer = session.answer_with(alloc, &mut shapes, wanted.row)?;
-    if !is_wanted(alloc, &answer, wanted)? {
-        return Ok(false);
-    }
-    let again = session.answer_with(alloc, &mut shapes, wanted.row)?;
-    is_wanted(alloc, &again, wanted)
+    answers_twice(alloc, session, &mut shapes, wanted)
 }
 
 /// Whether all these rows do.
-fn all_answer(alloc: Global, session: &Session, wanted: &[Wanted]) -> Result<bool, Fail> {
+fn all_answer(alloc: Global, session: &Session, wanted: &[Wanted]) -> Result<bool, NoMemory> {
     for one in wanted {
         if !answers(alloc, session, one)? {
             return Ok(false);
@@ -181,40 +245,21 @@ fn digits(session: &Session) -> u64 {
     digits
 }
 
-/// The digits of the branches that edits leave. None where an edit is not accepted or refused as it is to be, or a row has
-/// not the answer that it is to have.
-fn left_in(
-    alloc: Global,
-    session: &mut Session,
-    edits: &[Tried],
-    rows: &[Wanted],
-) -> Result<Option<u64>, Fail> {
-    if !replay(alloc, session, edits)? {
-        return Ok(None);
-    }
-    if !all_answer(alloc, session, rows)? {
-        return Ok(None);
-    }
-    Ok(Some(digits(session)))
+/// Edits, each accepted or refused as it is to be, the answers that rows have after them, and the digits of the branches.
+#[derive(Clone, Copy)]
+struct Course<'a> {
+    edits: &'a [Tried<'a>],
+    rows: &'a [Wanted<'a>],
+    branches: u64,
 }
 
-/// The same over a sheet under the usual settings.
-fn left(alloc: Global, lines: &str, edits: &[Tried], rows: &[Wanted]) -> Result<Option<u64>, Fail> {
-    let mut session = usual(alloc, lines)?;
-    left_in(alloc, &mut session, edits, rows)
-}
-
-/// The same under these settings.
-fn left_under(
-    alloc: Global,
-    lines: &str,
-    settings: Settings,
-    edits: &[Tried],
-) -> Result<Option<u64>, Fail>
-    requires { AreSettings settings }
-{
-    let mut session = session_over(alloc, lines, settings)?;
-    left_in(alloc, &mut session, edits, &[])
+impl Work for Course<'_> {
+    fn goes(&self, alloc: Global, session: &mut Session) -> Result<bool, NoMemory> {
+        if !replay(alloc, session, self.edits)? || !all_answer(alloc, session, self.rows)? {
+            return Ok(false);
+        }
+        Ok(digits(session) == self.branches)
+    }
 }
 
 #[test]
@@ -226,8 +271,30 @@ fn answers_after_two_examples(rt: HostRuntime) -> Result<(), Fail> {
         expected(5, 1, Some("Fg"), State::Doubt),
         expected(6, 1, None, State::Sure),
     ];
-    assert_eq!(rt; left(rt.alloc(), WORDS, &edits, &rows)?, Some(12));
+    let course = Course {
+        edits: &edits,
+        rows: &rows,
+        branches: 12,
+    };
+    assert!(rt; goes(rt.alloc(), WORDS, &course)?);
     Ok(())
+}
+
+/// Whether edits over three rows under these settings go as they are to, and leave branches of these digits.
+fn goes_in(
+    alloc: Global,
+    settings: Settings,
+    edits: &[Tried],
+    branches: u64,
+) -> Result<bool, NoMemory>
+    requires { AreSettings settings }
+{
+    let course = Course {
+        edits,
+        rows: &[],
+        branches,
+    };
+    goes_under(alloc, "A-\nk\nz\n", settings, &course)
 }
 
 #[test]
@@ -242,45 +309,57 @@ fn the_profiles_place_examples_differently(rt: HostRuntime) -> Result<(), Fail> 
         accepted(Kind::Add, 2, "k"),
         refused(Kind::Add, 3, "z", EditError::NoGuard { branch: 1 }),
     ];
-    let sheet = "A-\nk\nz\n";
-    assert_eq!(rt; left_under(rt.alloc(), sheet, settings, &edits)?, Some(102));
+    assert!(rt; goes_in(rt.alloc(), settings, &edits, 102)?);
     settings.profile = 2;
     edits[2].reason = None;
-    assert_eq!(rt;
-        left_under(rt.alloc(), sheet, settings, &edits)?,
-        Some(1023)
-    );
+    assert!(rt; goes_in(rt.alloc(), settings, &edits, 1023)?);
     Ok(())
 }
 
-/// The text of three digits, ten times in a row.
-fn ten_times(alloc: Global, number: u32) -> Result<Text, Fail> {
+/// So many times these characters.
+pub(crate) fn repeated(alloc: Global, characters: &str, times: u32) -> Result<String, NoMemory> {
     let mut spelled = String::new(alloc);
-    for _ in 0..10 {
-        write!(spelled, "{number}")?;
+    for _ in 0..times {
+        spelled.push_str(characters)?;
     }
-    Ok(Text::from_utf8(alloc, spelled.as_bytes())?)
+    Ok(spelled)
 }
 
-/// Whether one more correction of row 1 is accepted, and the spaces stay small.
-fn stays_small(alloc: Global, session: &mut Session, number: u32) -> Result<bool, Fail> {
-    let text = ten_times(alloc, number)?;
-    let edit = Edit::Correct { row: 1, text };
-    Ok(make(session, &edit).is_none() && session.spaces().size() <= 6900)
+/// Whether an edit of row 1 to ten times these digits is accepted, and the spaces are small then.
+fn stays_small(
+    alloc: Global,
+    session: &mut Session,
+    kind: Kind,
+    digits: &str,
+) -> Result<bool, NoMemory> {
+    let text = repeated(alloc, digits, 10)?;
+    Ok(
+        is_as_told(alloc, session, &accepted(kind, 1, text.as_str()))?
+            && session.spaces().size() <= 6900,
+    )
 }
 
-/// Whether 900 texts for one row are accepted one after the other, and the spaces stay small.
-fn stay_small(alloc: Global, session: &mut Session) -> Result<bool, Fail> {
-    let text = ten_times(alloc, 100)?;
-    if make(session, &Edit::Add { row: 1, text }).is_some() {
-        return Ok(false);
-    }
-    for number in 101..1000 {
-        if !stays_small(alloc, session, number)? {
+/// The same for a correction of the row to these digits, ten times.
+fn corrects(alloc: Global, session: &mut Session, number: u32) -> Result<bool, NoMemory> {
+    let digits = format!(in alloc; "{number}")?;
+    stays_small(alloc, session, Kind::Correct, digits.as_str())
+}
+
+/// 900 texts for one row, one after the other, where the spaces stay small.
+struct Corrections;
+
+impl Work for Corrections {
+    fn goes(&self, alloc: Global, session: &mut Session) -> Result<bool, NoMemory> {
+        if !stays_small(alloc, session, Kind::Add, "100")? {
             return Ok(false);
         }
+        for number in 101..1000 {
+            if !corrects(alloc, session, number)? {
+                return Ok(false);
+            }
+        }
+        Ok(true)
     }
-    Ok(true)
 }
 
 #[test]
@@ -290,7 +369,6 @@ fn many_corrections_leave_small_spaces(rt: HostRuntime) -> Result<(), Fail> {
         constants: Constants::Any,
         profile: 1,
     };
-    let mut session = session_over(rt.alloc(), "Ab\n", settings)?;
-    assert!(rt; stay_small(rt.alloc(), &mut session)?);
+    assert!(rt; goes_under(rt.alloc(), "Ab\n", settings, &Corrections)?);
     Ok(())
 }

@@ -82,11 +82,16 @@ fn keeps_the_latest(alloc: Global, history: &mut History<u32>) -> bool {
     kept && ends && history.len() == 0
 }
 
+/// Whether the history does all this.
+fn holds(alloc: Global, history: &mut History<u32>) -> bool {
+    goes_back_and_forth(alloc, history)
+        && changes_a_state(history)
+        && keeps_the_latest(alloc, history)
+}
+
 #[test]
 fn a_history(rt: HostRuntime) -> Result<(), Fail> {
     let mut history: History<u32> = History::new(rt.alloc())?;
-    assert!(rt; goes_back_and_forth(rt.alloc(), &mut history));
-    assert!(rt; changes_a_state(&mut history));
-    assert!(rt; keeps_the_latest(rt.alloc(), &mut history));
+    assert!(rt; holds(rt.alloc(), &mut history));
     Ok(())
 }

@@ -1,27 +1,12 @@
 //! Edits that meet want of memory.
 //!
 //! The test passes also where one allocation is refused, whichever it is.
-use crate::session::make;
+use crate::session::{Kind, Tried, Work, accepted, edit_of, goes, make};
 use fill_session::{EditError, Session, State};
-use fill_sheet::Sheet;
-use fill_tables::Tables;
-use fill_text::{NoMemory, Text};
-use fill_tree::{Constants, Edit, Settings};
+use fill_text::NoMemory;
+use fill_tree::Edit;
 use std::alloc::Global;
 use std::test::Fail;
-
-/// A session over a sheet of three rows.
-fn three_rows(alloc: Global) -> Result<Session, NoMemory> {
-    let Ok(sheet) = Sheet::read(alloc, b"k\n12\nA-\n", false, &[1], None) else {
-        return Err(NoMemory);
-    };
-    let settings = Settings {
-        depth: 1,
-        constants: Constants::Any,
-        profile: 1,
-    };
-    Session::new(alloc, settings, sheet, Tables::new(alloc))
-}
 
 /// The branch and the state of the last row.
 fn last_row(alloc: Global, session: &Session) -> Result<(u32, State), NoMemory> {
@@ -33,32 +18,45 @@ fn last_row(alloc: Global, session: &Session) -> Result<(u32, State), NoMemory> 
     Ok((answer.branch, answer.state))
 }
 
-/// Whether an example is taken, given once more where memory was wanted. Then the last row is answered as before.
-fn add(alloc: Global, session: &mut Session, row: u32, text: &str) -> Result<bool, NoMemory> {
+/// Whether the last row is answered as before, and the edit is accepted now.
+fn again(
+    alloc: Global,
+    session: &mut Session,
+    edit: &Edit,
+    before: (u32, State),
+) -> Result<bool, NoMemory> {
+    let after = last_row(alloc, session)?;
+    Ok(after == before && make(session, edit).is_none())
+}
+
+/// Whether an edit is accepted, given once more where memory was wanted. Then the last row is answered as before.
+fn is_accepted(alloc: Global, session: &mut Session, tried: &Tried) -> Result<bool, NoMemory> {
     let before = last_row(alloc, session)?;
-    let Ok(text) = Text::from_utf8(alloc, text.as_bytes()) else {
-        return Err(NoMemory);
-    };
-    let edit = Edit::Add { row, text };
+    let edit = edit_of(alloc, tried)?;
     match make(session, &edit) {
         None => Ok(true),
-        Some(EditError::NoMemory) => {
-            let after = last_row(alloc, session)?;
-            Ok(after == before && make(session, &edit).is_none())
-        }
+        Some(EditError::NoMemory) => again(alloc, session, &edit, before),
         Some(_) => Ok(false),
     }
 }
 
-/// Whether three examples are taken, and make two branches.
-fn two_branches(alloc: Global) -> Result<bool, NoMemory> {
-    let mut session = three_rows(alloc)?;
-    for (row, text) in [(1, "k"), (2, "12"), (3, "k")] {
-        if !add(alloc, &mut session, row, text)? {
-            return Ok(false);
+/// Three examples, which make two branches.
+struct Branches;
+
+impl Work for Branches {
+    fn goes(&self, alloc: Global, session: &mut Session) -> Result<bool, NoMemory> {
+        for (row, text) in [(1, "k"), (2, "12"), (3, "k")] {
+            if !is_accepted(alloc, session, &accepted(Kind::Add, row, text))? {
+                return Ok(false);
+            }
         }
+        Ok(session.branches().len() == 2)
     }
-    Ok(session.branches().len() == 2)
+}
+
+/// Whether they do over three rows.
+fn two_branches(alloc: Global) -> Result<bool, NoMemory> {
+    goes(alloc, "k\n12\nA-\n", &Branches)
 }
 
 #[test]
