@@ -1,23 +1,15 @@
 //! Values of programs on the rows of small sheets, worked by hand. Programs are written in the notation.
 use crate::notation::only;
+use Asked::{Atoms, Column, Lookup, Row};
 use Token::{Digits, Upper};
 use fill_eval::*;
 use fill_print::read_switch;
 use fill_sheet::Sheet;
 use fill_tables::Tables;
-use fill_text::{List, Text};
+use fill_text::{List, NoMemory, Text};
 use fill_tree::{Atom, Guard, Literal, Program, Select, Seq, Source, Switch, Token};
 use std::alloc::Global;
 use std::test::Fail;
-
-/// Three tables: months by number, prices by item and year, and which month an item is of.
-fn tables(alloc: Global) -> Result<Tables, Fail> {
-    let mut tables = Tables::new(alloc);
-    add_by_first(&mut tables, "months", "01,January\n02,February\n03,March\n")?;
-    add_prices(&mut tables)?;
-    add_by_first(&mut tables, "items", "pen,03\ncup,02\nmug,13\njar,\n")?;
-    Ok(tables)
-}
 
 /// Adds a table with its first column as its key.
 fn add_by_first(tables: &mut Tables, name: &str, lines: &str) -> Result<(), Fail> {
@@ -31,6 +23,13 @@ fn add_prices(tables: &mut Tables) -> Result<(), Fail> {
     tables.add_table("prices", lines.as_bytes())?;
     tables.add_key("prices", &[1, 2])?;
     Ok(())
+}
+
+/// Adds three tables: months by number, prices by item and year, and which month an item is of.
+fn add_tables(tables: &mut Tables) -> Result<(), Fail> {
+    add_by_first(tables, "months", "01,January\n02,February\n03,March\n")?;
+    add_prices(tables)?;
+    add_by_first(tables, "items", "pen,03\ncup,02\nmug,13\njar,\n")
 }
 
 /// Whether a value is there and has these characters, or there is none where `None!` is expected.
@@ -67,23 +66,131 @@ fn last_gives(on: On, switch: &Switch, expected: &str) -> Result<bool, Fail> {
     is(on.alloc, &value, expected)
 }
 
-/// Whether the program of these atoms gives this text on the first row, alone and as a switch without cases, and its copy too.
-fn atoms_give(on: On, atoms: &str, expected: &str) -> Result<bool, Fail> {
-    let switch = only(on.alloc, atoms)?;
+/// Whether it does, and its copy as a whole switch.
+fn both_give(on: On, switch: &Switch, expected: &str) -> Result<bool, Fail> {
+    if !last_gives(on, switch, expected)? {
+        return Ok(false);
+    }
     let copied = switch.copy(on.alloc)?;
-    Ok(last_gives(on, &switch, expected)? && switch_gives(on, &copied, 1, expected)?)
+    switch_gives(on, &copied, 1, expected)
 }
 
-/// The same on a sheet of this one cell.
-fn gives(alloc: Global, cell: &str, atoms: &str, expected: &str) -> Result<bool, Fail> {
-    let sheet = Sheet::read(alloc, cell.as_bytes(), false, &[1], None)?;
-    let tables = tables(alloc)?;
+/// Whether the program of these atoms gives this text on the first row, alone and as a copy of a switch without cases.
+fn atoms_give(on: On, atoms: &str, expected: &str) -> Result<bool, Fail> {
+    let switch = only(on.alloc, atoms)?;
+    both_give(on, &switch, expected)
+}
+
+/// The switch of the rows that are asked for.
+const SWITCH: &[u8] =
+    b"Switch(!Match(1,[Upper],1)=>Concat(Whole(Col(1)));else=>Concat(Const('k')))";
+
+/// Whether it gives this text on this row.
+fn row_gives(on: On, row: u32, expected: &str) -> Result<bool, Fail> {
+    let switch = read_switch(on.alloc, SWITCH)?;
+    switch_gives(on, &switch, row, expected)
+}
+
+/// The list of one atom.
+fn one(alloc: Global, atom: Atom) -> Result<List<Atom>, NoMemory> {
+    let mut atoms = List::new(alloc);
+    atoms.push(atom)?;
+    Ok(atoms)
+}
+
+/// The lookup of what has these numbers of a column, a table and a key, by the first column.
+fn looked_up(alloc: Global, (column, table, key): (u32, u32, u32)) -> Result<Program, Fail> {
+    let select = Select {
+        column,
+        table,
+        key,
+        conditions: one(alloc, Atom::Whole(Source::Col(1)))?,
+    };
+    let select = Box::new(alloc, select)?;
+    Ok(Program {
+        atoms: one(alloc, Atom::Whole(Source::Select(select)))?,
+    })
+}
+
+/// Whether that gives this text on the first row.
+fn lookup_gives(on: On, numbers: (u32, u32, u32), expected: &str) -> Result<bool, Fail> {
+    if on.sheet.rows() == 0 {
+        return Ok(false);
+    }
+    let program = looked_up(on.alloc, numbers)?;
+    let value = program_value(on.alloc, &program, 1, on.sheet, on.tables)?;
+    is(on.alloc, &value, expected)
+}
+
+/// Whether an atom gives this text on the first row.
+fn atom_gives(on: On, atom: &Atom, expected: &str) -> Result<bool, Fail> {
+    if on.sheet.rows() == 0 {
+        return Ok(false);
+    }
+    let value = atom_value(on.alloc, atom, 1, on.sheet, on.tables)?;
+    is(on.alloc, &value, expected)
+}
+
+/// Whether a column has this value as a source and as an atom.
+fn column_is(on: On, column: u32, expected: &str) -> Result<bool, Fail> {
+    if on.sheet.rows() == 0 {
+        return Ok(false);
+    }
+    let value = source_value(on.alloc, &Source::Col(column), 1, on.sheet, on.tables)?;
+    if !is(on.alloc, &value, expected)? {
+        return Ok(false);
+    }
+    atom_gives(on, &Atom::Whole(Source::Col(column)), expected)
+}
+
+/// What is asked for its value.
+#[derive(Clone, Copy)]
+enum Asked<'a> {
+    /// The program of these atoms, on the first row.
+    Atoms(&'a str),
+    /// The lookup of these numbers, on the first row.
+    Lookup(u32, u32, u32),
+    /// This column, on the first row.
+    Column(u32),
+    /// The switch, on this row.
+    Row(u32),
+}
+
+fn gives_on(on: On, asked: Asked, expected: &str) -> Result<bool, Fail> {
+    match asked {
+        Asked::Atoms(atoms) => atoms_give(on, atoms, expected),
+        Asked::Lookup(column, table, key) => lookup_gives(on, (column, table, key), expected),
+        Asked::Column(column) => column_is(on, column, expected),
+        Asked::Row(row) => row_gives(on, row, expected),
+    }
+}
+
+/// Adds the tables.
+fn gives_with(
+    alloc: Global,
+    sheet: &Sheet,
+    tables: &mut Tables,
+    asked: Asked,
+    expected: &str,
+) -> Result<bool, Fail> {
+    add_tables(tables)?;
     let on = On {
         alloc,
-        sheet: &sheet,
-        tables: &tables,
+        sheet,
+        tables,
     };
-    atoms_give(on, atoms, expected)
+    gives_on(on, asked, expected)
+}
+
+fn gives_in(alloc: Global, sheet: &Sheet, asked: Asked, expected: &str) -> Result<bool, Fail> {
+    let mut tables = Tables::new(alloc);
+    gives_with(alloc, sheet, &mut tables, asked, expected)
+}
+
+/// Whether this text is given on a sheet of these cells in one column.
+fn gives(alloc: Global, cells: &str, asked: Asked, expected: &str) -> Result<bool, Fail> {
+    let sheet = Sheet::read(alloc, cells.as_bytes(), false, &[1], None)?;
+    gives_in(alloc, &sheet, asked, expected)
 }
 
 #[test]
@@ -104,7 +211,7 @@ fn values_without_tables(rt: HostRuntime) -> Result<(), Fail> {
             "None!",
         ),
     ] {
-        assert!(rt; gives(rt.alloc(), cell, atoms, expected)?, "{atoms}");
+        assert!(rt; gives(rt.alloc(), cell, Atoms(atoms), expected)?, "{atoms}");
     }
     Ok(())
 }
@@ -128,36 +235,9 @@ fn values_by_tables(rt: HostRuntime) -> Result<(), Fail> {
         ("mug", month_of_item, "None!"),
         ("jar", month_of_item, "None!"),
     ] {
-        assert!(rt; gives(rt.alloc(), cell, atoms, expected)?, "{atoms}");
+        assert!(rt; gives(rt.alloc(), cell, Atoms(atoms), expected)?, "{atoms}");
     }
     Ok(())
-}
-
-/// The lookup of what has these numbers of a column, a table and a key, by the first column.
-fn looked_up(alloc: Global, column: u32, table: u32, key: u32) -> Result<Program, Fail> {
-    let mut conditions = List::new(alloc);
-    conditions.push(Atom::Whole(Source::Col(1)))?;
-    let select = Select {
-        column,
-        table,
-        key,
-        conditions,
-    };
-    let select = Box::new(alloc, select)?;
-    let mut atoms = List::new(alloc);
-    atoms.push(Atom::Whole(Source::Select(select)))?;
-    Ok(Program { atoms })
-}
-
-/// Whether the program gives this text on a sheet of one cell.
-fn gives_by_number(alloc: Global, program: &Program, expected: &str) -> Result<bool, Fail> {
-    let sheet = Sheet::read(alloc, b"01\n", false, &[1], None)?;
-    if sheet.rows() == 0 {
-        return Ok(false);
-    }
-    let tables = tables(alloc)?;
-    let value = program_value(alloc, program, 1, &sheet, &tables)?;
-    is(alloc, &value, expected)
 }
 
 #[test]
@@ -173,76 +253,54 @@ fn numbers_that_do_not_belong_to_the_tables(rt: HostRuntime) -> Result<(), Fail>
         (2, 1, 2, "None!"),
         (3, 2, 1, "None!"),
     ] {
-        let program = looked_up(rt.alloc(), column, table, key)?;
-        assert!(rt; gives_by_number(rt.alloc(), &program, expected)?);
+        let asked = Lookup(column, table, key);
+        assert!(rt; gives(rt.alloc(), "01\n", asked, expected)?, "{expected}");
     }
     Ok(())
-}
-
-/// Whether a column has this value as a source and as an atom.
-fn column_is(on: On, column: u32, expected: &str) -> Result<bool, Fail> {
-    if on.sheet.rows() == 0 {
-        return Ok(false);
-    }
-    let source = Source::Col(column);
-    let value = source_value(on.alloc, &source, 1, on.sheet, on.tables)?;
-    if !is(on.alloc, &value, expected)? {
-        return Ok(false);
-    }
-    let value = atom_value(on.alloc, &Atom::Whole(source), 1, on.sheet, on.tables)?;
-    is(on.alloc, &value, expected)
 }
 
 #[test]
 fn values_of_parts(rt: HostRuntime) -> Result<(), Fail> {
-    let alloc = rt.alloc();
-    let sheet = Sheet::read(alloc, b"abc\n", false, &[1], None)?;
-    let tables = Tables::new(alloc);
-    let on = On {
-        alloc,
-        sheet: &sheet,
-        tables: &tables,
-    };
     for (column, expected) in [(1, "abc"), (2, "None!")] {
-        assert!(rt; column_is(on, column, expected)?, "{expected}");
+        assert!(rt;
+            gives(rt.alloc(), "abc\n", Column(column), expected)?,
+            "{expected}"
+        );
     }
     Ok(())
 }
 
-/// Whether the switch gives its texts on three rows.
-fn gives_all(alloc: Global, switch: &Switch) -> Result<bool, Fail> {
-    let sheet = Sheet::read(alloc, b"k\n12\nA-\n", false, &[1], None)?;
-    let tables = Tables::new(alloc);
-    let on = On {
-        alloc,
-        sheet: &sheet,
-        tables: &tables,
-    };
+#[test]
+fn values_of_a_switch(rt: HostRuntime) -> Result<(), Fail> {
     for (row, expected) in [(1, "k"), (2, "12"), (3, "k")] {
-        if !switch_gives(on, switch, row, expected)? {
-            return Ok(false);
-        }
+        assert!(rt;
+            gives(rt.alloc(), "k\n12\nA-\n", Row(row), expected)?,
+            "{row}"
+        );
     }
-    Ok(true)
+    Ok(())
 }
 
 /// Whether the switch reads inputs alone, and the first other column that it reads.
-fn reads(switch: &Switch, sheet: &Sheet) -> (bool, Option<u32>) {
-    (
-        switch_reads_inputs(switch, sheet),
-        first_other_column(switch, sheet),
-    )
+fn reads(alloc: Global, sheet: &Sheet) -> Result<(bool, Option<u32>), Fail> {
+    let switch = read_switch(alloc, SWITCH)?;
+    Ok((
+        switch_reads_inputs(&switch, sheet),
+        first_other_column(&switch, sheet),
+    ))
 }
 
 #[test]
-fn values_of_a_switch(rt: HostRuntime) -> Result<(), Fail> {
-    let spelled = b"Switch(!Match(1,[Upper],1)=>Concat(Whole(Col(1)));else=>Concat(Const('k')))";
-    let switch = read_switch(rt.alloc(), spelled)?;
-    assert!(rt; gives_all(rt.alloc(), &switch)?);
+fn columns_that_a_switch_reads(rt: HostRuntime) -> Result<(), Fail> {
     let sheet = Sheet::read(rt.alloc(), b"k,k\n", false, &[1], None)?;
-    assert_eq!(rt; reads(&switch, &sheet), (true, None));
-    let other = Sheet::read(rt.alloc(), b"k,k\n", false, &[2], None)?;
-    assert_eq!(rt; reads(&switch, &other), (false, Some(1)));
+    assert_eq!(rt; reads(rt.alloc(), &sheet)?, (true, None));
+    Ok(())
+}
+
+#[test]
+fn other_columns_that_a_switch_reads(rt: HostRuntime) -> Result<(), Fail> {
+    let sheet = Sheet::read(rt.alloc(), b"k,k\n", false, &[2], None)?;
+    assert_eq!(rt; reads(rt.alloc(), &sheet)?, (false, Some(1)));
     Ok(())
 }
 
@@ -275,6 +333,12 @@ fn holds(sheet: &Sheet, negated: bool, token: Token, least: u8) -> (bool, bool) 
     }
 }
 
+/// Whether so many matches are there, or where not expected are not, and the other way round where negated.
+fn counts(sheet: &Sheet, token: Token, least: u8, expected: bool) -> bool {
+    holds(sheet, false, token, least) == (expected, expected)
+        && holds(sheet, true, token, least) == (!expected, !expected)
+}
+
 #[test]
 fn literals_count_matches(rt: HostRuntime) -> Result<(), Fail> {
     let sheet = Sheet::read(rt.alloc(), b"a1b22\n", false, &[1], None)?;
@@ -286,10 +350,7 @@ fn literals_count_matches(rt: HostRuntime) -> Result<(), Fail> {
         (Token::Start, 1, true),
         (Token::Start, 2, false),
     ] {
-        let plain = holds(&sheet, false, token, least);
-        assert_eq!(rt; plain, (expected, expected), "{least}");
-        let negated = holds(&sheet, true, token, least);
-        assert_eq!(rt; negated, (!expected, !expected), "{least}");
+        assert!(rt; counts(&sheet, token, least, expected), "{least}");
     }
     Ok(())
 }

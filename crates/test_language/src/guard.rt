@@ -113,58 +113,67 @@ fn gives_under(
     )
 }
 
-/// A sheet of one input column.
-fn one_column(alloc: Global, bytes: &[u8]) -> Result<Sheet, Fail> {
-    Ok(Sheet::read(alloc, bytes, false, &[1], None)?)
+/// Whether it is over a sheet of these cells, of one input column.
+fn one_column_gives(
+    alloc: Global,
+    cells: &[u8],
+    inside: &[u32],
+    outside: &[u32],
+    expected: Option<Guard>,
+) -> Result<bool, Fail> {
+    let sheet = Sheet::read(alloc, cells, false, &[1], None)?;
+    gives(alloc, &sheet, inside, outside, expected)
 }
 
-/// A sheet of two input columns.
-fn two_columns(alloc: Global, bytes: &[u8]) -> Result<Sheet, Fail> {
-    Ok(Sheet::read(alloc, bytes, false, &[1, 2], None)?)
+/// Whether it is over a sheet of these cells, of two input columns.
+fn two_columns_give(
+    alloc: Global,
+    cells: &[u8],
+    inside: &[u32],
+    outside: &[u32],
+    expected: Option<Guard>,
+) -> Result<bool, Fail> {
+    let sheet = Sheet::read(alloc, cells, false, &[1, 2], None)?;
+    gives(alloc, &sheet, inside, outside, expected)
 }
 
 #[test]
 fn one_literal_in_one_column(rt: HostRuntime) -> Result<(), Fail> {
     let alloc = rt.alloc();
-    let alike = one_column(alloc, b"ab\nab\n")?;
-    assert!(rt; gives(alloc, &alike, &[1], &[2], None)?);
-    let letter = one_column(alloc, b"a\n1\n")?;
-    assert!(rt; gives(alloc, &letter, &[1], &[2], one(literal(true, 1, Digits)))?);
-    assert!(rt; gives(alloc, &letter, &[1], &[], one(literal(false, 1, Start)))?);
-    let mixed = one_column(alloc, b"k\n12\nA-\n")?;
-    assert!(rt; gives(alloc, &mixed, &[1, 2], &[3], one(literal(true, 1, Upper)))?);
+    assert!(rt; one_column_gives(alloc, b"ab\nab\n", &[1], &[2], None)?);
+    let negated = one(literal(true, 1, Digits));
+    assert!(rt; one_column_gives(alloc, b"a\n1\n", &[1], &[2], negated)?);
+    let start = one(literal(false, 1, Start));
+    assert!(rt; one_column_gives(alloc, b"a\n1\n", &[1], &[], start)?);
+    let upper = one(literal(true, 1, Upper));
+    assert!(rt; one_column_gives(alloc, b"k\n12\nA-\n", &[1, 2], &[3], upper)?);
     Ok(())
 }
 
 #[test]
 fn literals_in_two_columns(rt: HostRuntime) -> Result<(), Fail> {
     let alloc = rt.alloc();
-    let either = two_columns(alloc, b"m,\np,\n,p\n,q\n")?;
-    assert!(rt;
-        gives(
-            alloc,
-            &either,
-            &[1, 2],
-            &[3, 4],
-            one(literal(false, 1, Lower))
-        )?
-    );
+    let lower = one(literal(false, 1, Lower));
+    assert!(rt; two_columns_give(alloc, b"m,\np,\n,p\n,q\n", &[1, 2], &[3, 4], lower)?);
     // Each other row shares a cell with the first one, so a literal tells at most one of them from it.
-    let both = two_columns(alloc, b"1,1\na,1\n1,a\n")?;
-    let expected = two(literal(false, 1, Digits), literal(false, 2, Digits));
-    assert!(rt; gives(alloc, &both, &[1], &[2, 3], expected)?);
+    let both = two(literal(false, 1, Digits), literal(false, 2, Digits));
+    assert!(rt; two_columns_give(alloc, b"1,1\na,1\n1,a\n", &[1], &[2, 3], both)?);
     Ok(())
+}
+
+/// Whether this is the least guard that tells three pieces from two, under the first profile or under the second one.
+fn third_piece_gives(alloc: Global, second: bool, expected: Option<Guard>) -> Result<bool, Fail> {
+    let sheet = Sheet::read(alloc, b"a!a!a!a\na!a!a\n", false, &[1], None)?;
+    gives_under(alloc, second, &sheet, &[1], &[2], expected)
 }
 
 #[test]
 fn a_guard_that_only_the_second_profile_has(rt: HostRuntime) -> Result<(), Fail> {
-    let alloc = rt.alloc();
-    let sheet = one_column(alloc, b"a!a!a!a\na!a!a\n")?;
-    assert!(rt; gives_under(alloc, false, &sheet, &[1], &[2], None)?);
+    assert!(rt; third_piece_gives(rt.alloc(), false, None)?);
     let thrice = Literal {
         least: 3,
         ..literal(false, 1, NonAlpha)
     };
-    assert!(rt; gives_under(alloc, true, &sheet, &[1], &[2], one(thrice))?);
+    assert!(rt; third_piece_gives(rt.alloc(), true, one(thrice))?);
     Ok(())
 }

@@ -7,42 +7,55 @@ use fill_tokens::{Place, Seq, Token, is_place, place_value};
 use std::alloc::Global;
 use std::test::Fail;
 
+/// Whether these places are listed for the empty text.
+fn empty_text_has(alloc: Global, expected: &[Place]) -> Result<bool, Fail> {
+    let places = places_of(alloc, &Text::new(alloc), 0, 1)?;
+    Ok(places.as_slice() == expected)
+}
+
 #[test]
 fn places_of_the_empty_text(rt: HostRuntime) -> Result<(), Fail> {
     let none = Seq::empty();
     let start = Seq::one(Start);
     let end = Seq::one(End);
-    let places = places_of(rt.alloc(), &Text::new(rt.alloc()), 0, 1)?;
-    assert_eq!(rt;
-        places.as_slice(),
-        [
-            Place::CPos(0),
-            Place::CPos(-1),
-            Place::Pos(none, end, 1),
-            Place::Pos(none, end, -1),
-            Place::Pos(start, none, 1),
-            Place::Pos(start, none, -1),
-            Place::Pos(start, end, 1),
-            Place::Pos(start, end, -1),
-        ]
-        .as_slice()
-    );
+    let expected = [
+        Place::CPos(0),
+        Place::CPos(-1),
+        Place::Pos(none, end, 1),
+        Place::Pos(none, end, -1),
+        Place::Pos(start, none, 1),
+        Place::Pos(start, none, -1),
+        Place::Pos(start, end, 1),
+        Place::Pos(start, end, -1),
+    ];
+    assert!(rt; empty_text_has(rt.alloc(), &expected)?);
     Ok(())
+}
+
+/// Whether of so many places this one stands there.
+fn stands_at(places: &[Place], count: usize, at: usize, place: Place) -> bool {
+    places.len() == count && at < places.len() && places[at] == place
+}
+
+/// Whether of 28 places before the one letter of a text this one stands there.
+fn is_before_a_letter(alloc: Global, at: usize, place: Place) -> Result<bool, Fail> {
+    let text = Text::from_utf8(alloc, b"a")?;
+    let places = places_of(alloc, &text, 0, 1)?;
+    Ok(stands_at(places.as_slice(), 28, at, place))
 }
 
 #[test]
 fn places_before_one_letter(rt: HostRuntime) -> Result<(), Fail> {
-    let text = Text::from_utf8(rt.alloc(), b"a")?;
-    let places = places_of(rt.alloc(), &text, 0, 1)?;
-    let places = places.as_slice();
-    assert_eq!(rt; places.len(), 28);
-    assert_eq!(rt; places[0], Place::CPos(0));
-    assert_eq!(rt; places[1], Place::CPos(-2));
-    assert_eq!(rt; places[2], Place::Pos(Seq::empty(), Seq::one(Lower), 1));
-    assert_eq!(rt;
-        places[27],
-        Place::Pos(Seq::one(Start), Seq::two(Word, End), -1)
-    );
+    let none = Seq::empty();
+    let whole = Seq::two(Word, End);
+    for (at, place) in [
+        (0, Place::CPos(0)),
+        (1, Place::CPos(-2)),
+        (2, Place::Pos(none, Seq::one(Lower), 1)),
+        (27, Place::Pos(Seq::one(Start), whole, -1)),
+    ] {
+        assert!(rt; is_before_a_letter(rt.alloc(), at, place)?, "{at}");
+    }
     Ok(())
 }
 
@@ -74,9 +87,9 @@ fn negated_runs_are_listed_under_the_second_profile(rt: HostRuntime) -> Result<(
     Ok(())
 }
 
-/// The sequences of up to three of the tokens, in order.
-fn sequences(alloc: Global, tokens: &[Token]) -> Result<Vec<Seq>, Fail> {
-    let mut all = vec![in alloc; Seq::empty()]?;
+/// Puts down the sequences of up to three of the tokens, in order.
+fn put_sequences(all: &mut Vec<Seq>, tokens: &[Token]) -> Result<(), Fail> {
+    all.push(Seq::empty())?;
     for a in tokens {
         all.push(Seq::one(*a))?;
     }
@@ -92,7 +105,7 @@ fn sequences(alloc: Global, tokens: &[Token]) -> Result<Vec<Seq>, Fail> {
             }
         }
     }
-    Ok(all)
+    Ok(())
 }
 
 /// Puts the place to the list, where it is one of the grammar and its value is `k`.
@@ -106,39 +119,65 @@ fn put_if_wanted(all: &mut Vec<Place>, place: Place, t: &Text, k: usize) -> Resu
 /// The numbers 1, -1, 2, -2 .. as far as a text of four characters has cuts.
 const COUNTS: [i32; 10] = [1, -1, 2, -2, 3, -3, 4, -4, 5, -5];
 
-/// The places between some sequences, each asked for its value.
-fn slow_listing(alloc: Global, seqs: &[Seq], t: &Text, k: usize) -> Result<Vec<Place>, Fail> {
-    let mut all = Vec::new(alloc);
-    put_if_wanted(&mut all, Place::CPos(0), t, k)?;
+/// Puts down the places between some sequences, each asked for its value.
+fn put_places(all: &mut Vec<Place>, seqs: &[Seq], t: &Text, k: usize) -> Result<(), Fail> {
+    put_if_wanted(all, Place::CPos(0), t, k)?;
     for count in COUNTS {
-        put_if_wanted(&mut all, Place::CPos(count), t, k)?;
+        put_if_wanted(all, Place::CPos(count), t, k)?;
     }
     for left in seqs {
         for right in seqs {
             for count in COUNTS {
-                put_if_wanted(&mut all, Place::Pos(*left, *right, count), t, k)?;
+                put_if_wanted(all, Place::Pos(*left, *right, count), t, k)?;
             }
         }
     }
-    Ok(all)
+    Ok(())
+}
+
+/// Whether those are these places.
+fn are_put(alloc: Global, seqs: &[Seq], t: &Text, k: usize, fast: &[Place]) -> Result<bool, Fail> {
+    let mut slow = Vec::new(alloc);
+    put_places(&mut slow, seqs, t, k)?;
+    Ok(slow.as_slice() == fast)
+}
+
+/// Whether those are the places of the text, of at most three characters, at each of its positions.
+fn are_all_put(alloc: Global, seqs: &[Seq], t: &Text) -> Result<bool, Fail> {
+    let index = PlaceIndex::new(alloc, t, 1)?;
+    for k in 0..4 {
+        if k <= t.len() {
+            let fast = index.places_at(alloc, k)?;
+            if !are_put(alloc, seqs, t, k, fast.as_slice())? {
+                return Ok(false);
+            }
+        }
+    }
+    Ok(t.len() < 4)
+}
+
+/// Whether those are the places of a text, listed between sequences of these tokens.
+fn are_listed(
+    alloc: Global,
+    seqs: &mut Vec<Seq>,
+    tokens: &[Token],
+    text: &str,
+) -> Result<bool, Fail> {
+    put_sequences(seqs, tokens)?;
+    let text = Text::from_utf8(alloc, text.as_bytes())?;
+    are_all_put(alloc, seqs, &text)
+}
+
+fn has_slow_listing(alloc: Global, tokens: &[Token], text: &str) -> Result<bool, Fail> {
+    let mut seqs = Vec::new(alloc);
+    are_listed(alloc, &mut seqs, tokens, text)
 }
 
 #[test]
 fn places_are_those_of_a_slow_listing(rt: HostRuntime) -> Result<(), Fail> {
-    let alloc = rt.alloc();
     let tokens = [Start, End, Digits, Upper, Lower, Alpha, Word, Hyphen];
-    let seqs = sequences(alloc, &tokens)?;
     for text in ["a1", "Ab-", "--", "a-a"] {
-        let text = Text::from_utf8(alloc, text.as_bytes())?;
-        let index = PlaceIndex::new(alloc, &text, 1)?;
-        assert!(rt; text.len() < 4);
-        for k in 0..4 {
-            if k <= text.len() {
-                let slow = slow_listing(alloc, &seqs, &text, k)?;
-                let fast = index.places_at(alloc, k)?;
-                assert_eq!(rt; fast.as_slice(), slow.as_slice(), "{text:?} at {k}");
-            }
-        }
+        assert!(rt; has_slow_listing(rt.alloc(), &tokens, text)?, "{text}");
     }
     Ok(())
 }

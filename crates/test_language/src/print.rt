@@ -7,11 +7,15 @@ use fill_tree::{Atom, Case, Guard, Literal, Program, Select, Source, Switch};
 use std::alloc::Global;
 use std::test::Fail;
 
+fn put_conditions(alloc: Global, conditions: &mut List<Atom>) -> Result<(), NoMemory> {
+    conditions.push(Atom::Whole(Source::Col(2)))?;
+    conditions.push(Atom::Const(Text::new(alloc)))
+}
+
 /// The lookup `Select(3,1,2,Whole(Col(2)),Const(''))`.
 fn select(alloc: Global) -> Result<Select, NoMemory> {
     let mut conditions = List::new(alloc);
-    conditions.push(Atom::Whole(Source::Col(2)))?;
-    conditions.push(Atom::Const(Text::new(alloc)))?;
+    put_conditions(alloc, &mut conditions)?;
     Ok(Select {
         column: 3,
         table: 1,
@@ -56,14 +60,24 @@ fn program_is(alloc: Global, program: &Program, expected: &str) -> Result<bool, 
     Ok(spelled.as_slice() == expected.as_bytes())
 }
 
+/// Whether the program of no atoms is.
+fn empty_is(alloc: Global, expected: &str) -> Result<bool, Fail> {
+    let empty = no_atoms(alloc);
+    Ok(program_is(alloc, &empty, expected)?)
+}
+
+/// Whether that of two is.
+fn long_is(alloc: Global, expected: &str) -> Result<bool, Fail> {
+    let long = two_atoms(alloc)?;
+    Ok(program_is(alloc, &long, expected)?)
+}
+
 #[test]
 fn programs_are_spelled(rt: HostRuntime) -> Result<(), Fail> {
-    let empty = no_atoms(rt.alloc());
-    assert!(rt; program_is(rt.alloc(), &empty, "Concat()")?);
-    let long = two_atoms(rt.alloc())?;
+    assert!(rt; empty_is(rt.alloc(), "Concat()")?);
     let expected =
         "Concat(Sub(Select(3,1,2,Whole(Col(2)),Const('')),Pos([Lower Dot],[],-2),CPos(-1)),Const('é\\'\\\\'))";
-    assert!(rt; program_is(rt.alloc(), &long, expected)?);
+    assert!(rt; long_is(rt.alloc(), expected)?);
     Ok(())
 }
 
@@ -136,12 +150,22 @@ fn switch_is(alloc: Global, switch: &Switch, expected: &str) -> Result<bool, NoM
     Ok(spelled.as_slice() == expected.as_bytes())
 }
 
+/// Whether that of one case is.
+fn one_case_is(alloc: Global, expected: &str) -> Result<bool, Fail> {
+    let switch = one_case(alloc)?;
+    Ok(switch_is(alloc, &switch, expected)?)
+}
+
+/// Whether that of none is.
+fn last_is(alloc: Global, expected: &str) -> Result<bool, Fail> {
+    let last = no_cases(alloc);
+    Ok(switch_is(alloc, &last, expected)?)
+}
+
 #[test]
 fn switches_are_spelled(rt: HostRuntime) -> Result<(), Fail> {
-    let switch = one_case(rt.alloc())?;
     let expected = "Switch(!Match(1,[Upper],1)=>Concat(Whole(Col(1)));else=>Concat(Const('k')))";
-    assert!(rt; switch_is(rt.alloc(), &switch, expected)?);
-    let last = no_cases(rt.alloc());
-    assert!(rt; switch_is(rt.alloc(), &last, "Switch(else=>Concat())")?);
+    assert!(rt; one_case_is(rt.alloc(), expected)?);
+    assert!(rt; last_is(rt.alloc(), "Switch(else=>Concat())")?);
     Ok(())
 }

@@ -22,48 +22,86 @@ fn gives(
     Ok(pieces.starts.as_slice() == starts && pieces.ends.as_slice() == ends)
 }
 
+/// Whether the token has these pieces in the text `Ab1-c23`.
+fn stand_so(alloc: Global, token: Token, starts: &[usize], ends: &[usize]) -> Result<bool, Fail> {
+    let text = Text::from_utf8(alloc, b"Ab1-c23")?;
+    gives(alloc, &text, token, starts, ends)
+}
+
 #[test]
 fn pieces_stand_in_order(rt: HostRuntime) -> Result<(), Fail> {
-    let alloc = rt.alloc();
-    let text = Text::from_utf8(alloc, b"Ab1-c23")?;
-    assert!(rt; gives(alloc, &text, Start, &[0], &[0])?);
-    assert!(rt; gives(alloc, &text, End, &[7], &[7])?);
-    assert!(rt; gives(alloc, &text, Digits, &[2, 5], &[3, 7])?);
-    assert!(rt; gives(alloc, &text, Upper, &[0], &[1])?);
-    assert!(rt; gives(alloc, &text, Lower, &[1, 4], &[2, 5])?);
-    assert!(rt; gives(alloc, &text, Alpha, &[0, 4], &[2, 5])?);
-    assert!(rt; gives(alloc, &text, Word, &[0, 4], &[3, 7])?);
-    assert!(rt; gives(alloc, &text, Hyphen, &[3], &[4])?);
-    assert!(rt; gives(alloc, &text, NonAlpha, &[2, 5], &[4, 7])?);
-    assert!(rt; gives(alloc, &text, NonSpace, &[0], &[7])?);
-    assert!(rt; gives(alloc, &text, Space, &[], &[])?);
+    let rows: [(Token, &[usize], &[usize]); 11] = [
+        (Start, &[0], &[0]),
+        (End, &[7], &[7]),
+        (Digits, &[2, 5], &[3, 7]),
+        (Upper, &[0], &[1]),
+        (Lower, &[1, 4], &[2, 5]),
+        (Alpha, &[0, 4], &[2, 5]),
+        (Word, &[0, 4], &[3, 7]),
+        (Hyphen, &[3], &[4]),
+        (NonAlpha, &[2, 5], &[4, 7]),
+        (NonSpace, &[0], &[7]),
+        (Space, &[], &[]),
+    ];
+    for (token, starts, ends) in rows {
+        assert!(rt; stand_so(rt.alloc(), token, starts, ends)?, "{token:?}");
+    }
     Ok(())
 }
 
-/// The pieces of the token, asked for from each position of the text.
-fn slow_pieces(alloc: Global, text: &Text, token: Token) -> Result<(Vec<usize>, Vec<usize>), Fail> {
-    let mut starts = Vec::new(alloc);
-    let mut ends = Vec::new(alloc);
+/// Puts down the pieces of the token, asked for from each position of the text.
+fn put_pieces(
+    starts: &mut Vec<usize>,
+    ends: &mut Vec<usize>,
+    text: &Text,
+    token: Token,
+) -> Result<(), Fail> {
     for k in 0..text.len() + 1 {
         if let Some(b) = span(token, text, k) {
             starts.push(k)?;
             ends.push(b)?;
         }
     }
-    Ok((starts, ends))
+    Ok(())
+}
+
+/// Whether those are its pieces, which the two empty lists are for.
+fn are_put(
+    alloc: Global,
+    starts: &mut Vec<usize>,
+    ends: &mut Vec<usize>,
+    text: &Text,
+    token: Token,
+) -> Result<bool, Fail> {
+    put_pieces(starts, ends, text, token)?;
+    gives(alloc, text, token, starts, ends)
+}
+
+fn begin_somewhere(alloc: Global, text: &Text, token: Token) -> Result<bool, Fail> {
+    let mut starts = Vec::new(alloc);
+    let mut ends = Vec::new(alloc);
+    are_put(alloc, &mut starts, &mut ends, text, token)
+}
+
+/// The number of the first token whose pieces in the text are others, or 29.
+fn first_other(alloc: Global, spelled: &str) -> Result<usize, Fail> {
+    let text = Text::from_utf8(alloc, spelled.as_bytes())?;
+    first_other_in(alloc, &text)
+}
+
+fn first_other_in(alloc: Global, text: &Text) -> Result<usize, Fail> {
+    for i in 0..29 {
+        if !begin_somewhere(alloc, text, token_at(i))? {
+            return Ok(i);
+        }
+    }
+    Ok(29)
 }
 
 #[test]
 fn pieces_are_those_that_begin_somewhere(rt: HostRuntime) -> Result<(), Fail> {
-    let alloc = rt.alloc();
     for spelled in ["", "a", "1-", " aB  1", "--b-", "\u{661}\u{e9}\u{c9}."] {
-        let text = Text::from_utf8(alloc, spelled.as_bytes())?;
-        for i in 0..29 {
-            let token = token_at(i);
-            let slow = slow_pieces(alloc, &text, token)?;
-            let same = gives(alloc, &text, token, slow.0.as_slice(), slow.1.as_slice())?;
-            assert!(rt; same, "{token:?} in {text:?}");
-        }
+        assert_eq!(rt; first_other(rt.alloc(), spelled)?, 29, "{spelled}");
     }
     Ok(())
 }

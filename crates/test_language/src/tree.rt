@@ -9,9 +9,8 @@ use std::alloc::Global;
 use std::cmp::Ordering;
 use std::test::Fail;
 
-/// Programs from the first to the last, each with its cost.
-fn programs(alloc: Global) -> Result<List<(Switch, u64)>, Fail> {
-    let mut programs = List::new(alloc);
+/// Puts down programs from the first to the last, each with its cost.
+fn put_programs(alloc: Global, programs: &mut List<(Switch, u64)>) -> Result<(), Fail> {
     for (atoms, cost) in [
         ("", 0),
         ("Sub(Col(1),Pos([],[Upper],-1),CPos(-1))", 16),
@@ -33,7 +32,7 @@ fn programs(alloc: Global) -> Result<List<(Switch, u64)>, Fail> {
     ] {
         programs.push((only(alloc, atoms)?, cost))?;
     }
-    Ok(programs)
+    Ok(())
 }
 
 /// Whether both have costs, and the first is before the second.
@@ -64,25 +63,40 @@ fn wrong_place(programs: &[(Switch, u64)]) -> Option<usize> {
     None
 }
 
-#[test]
-fn costs_and_order_of_programs(rt: HostRuntime) -> Result<(), Fail> {
-    let programs = programs(rt.alloc())?;
-    assert_eq!(rt; wrong_place(programs.as_slice()), None);
-    Ok(())
-}
-
 /// Whether a copy of the program equals it and has this cost.
 fn is_copied(alloc: Global, p: &Program, cost: u64) -> Result<bool, Fail> {
     let copied = p.copy(alloc)?;
     Ok(copied.compare(p) == Ordering::Equal && copied.cost() == Some(cost))
 }
 
-#[test]
-fn copies_of_programs_are_equal(rt: HostRuntime) -> Result<(), Fail> {
-    let programs = programs(rt.alloc())?;
-    for (p, cost) in programs.as_slice() {
-        assert!(rt; is_copied(rt.alloc(), &p.last, *cost)?, "{cost}");
+/// The first place of a program that is not copied so.
+fn wrong_copy(alloc: Global, programs: &[(Switch, u64)]) -> Result<Option<usize>, Fail> {
+    for (i, (p, cost)) in programs.iter().enumerate() {
+        if !is_copied(alloc, &p.last, *cost)? {
+            return Ok(Some(i));
+        }
     }
+    Ok(None)
+}
+
+/// The first wrong place and the first wrong copy of the programs, which the empty list is for.
+fn wrong_in(
+    alloc: Global,
+    programs: &mut List<(Switch, u64)>,
+) -> Result<(Option<usize>, Option<usize>), Fail> {
+    put_programs(alloc, programs)?;
+    let place = wrong_place(programs.as_slice());
+    Ok((place, wrong_copy(alloc, programs.as_slice())?))
+}
+
+fn wrong(alloc: Global) -> Result<(Option<usize>, Option<usize>), Fail> {
+    let mut programs = List::new(alloc);
+    wrong_in(alloc, &mut programs)
+}
+
+#[test]
+fn costs_and_order_and_copies_of_programs(rt: HostRuntime) -> Result<(), Fail> {
+    assert_eq!(rt; wrong(rt.alloc())?, (None, None));
     Ok(())
 }
 
@@ -116,42 +130,45 @@ fn is_only_case(cases: &[Case], cost: u64) -> bool {
     cases.len() == 1
 }
 
+/// Whether the switch has one case, of this cost, and the last program of the other.
+fn is_like(copied: &Switch, switch: &Switch, cost: u64) -> bool {
+    copied.last.compare(&switch.last) == Ordering::Equal
+        && is_only_case(copied.cases.as_slice(), cost)
+}
+
 /// Whether a copy of the switch has its one case, of this cost, and its last program.
-fn switch_is_copied(alloc: Global, switch: &Switch, cost: u64) -> Result<bool, Fail> {
+fn switch_is_copied(alloc: Global, spelled: &[u8], cost: u64) -> Result<bool, Fail> {
+    let switch = read_switch(alloc, spelled)?;
     let copied = switch.copy(alloc)?;
-    Ok(
-        copied.last.compare(&switch.last) == Ordering::Equal
-            && is_only_case(copied.cases.as_slice(), cost),
-    )
+    Ok(is_like(&copied, &switch, cost))
 }
 
 #[test]
 fn copies_of_switches_are_equal(rt: HostRuntime) -> Result<(), Fail> {
     let spelled = b"Switch(!Match(1,[Upper],1)=>Concat(Const('March'));else=>Concat(Const('k')))";
-    let switch = read_switch(rt.alloc(), spelled)?;
-    assert!(rt; switch_is_copied(rt.alloc(), &switch, 75)?);
+    assert!(rt; switch_is_copied(rt.alloc(), spelled, 75)?);
     Ok(())
 }
 
 /// Whether a copy of an example has its row and its text.
-fn example_is_copied(alloc: Global, example: &Example) -> Result<bool, Fail> {
+fn example_is_copied(alloc: Global) -> Result<bool, Fail> {
+    let text = Text::from_utf8(alloc, b"k")?;
+    let example = Example { row: 1, text };
     let copied = example.copy(alloc)?;
     Ok(copied.row == example.row && copied.text.same(&example.text))
 }
 
 /// Whether a copy of an edit adds an example to the first row.
-fn edit_is_copied(alloc: Global, edit: &Edit) -> Result<bool, Fail> {
+fn edit_is_copied(alloc: Global) -> Result<bool, Fail> {
+    let text = Text::from_utf8(alloc, b"k")?;
+    let edit = Edit::Add { row: 1, text };
     let copied = edit.copy(alloc)?;
     Ok(matches!(copied, Edit::Add { row: 1, .. }))
 }
 
 #[test]
 fn copies_of_examples_and_edits_are_equal(rt: HostRuntime) -> Result<(), Fail> {
-    let text = Text::from_utf8(rt.alloc(), b"k")?;
-    let example = Example { row: 1, text };
-    assert!(rt; example_is_copied(rt.alloc(), &example)?);
-    let text = Text::from_utf8(rt.alloc(), b"k")?;
-    let edit = Edit::Add { row: 1, text };
-    assert!(rt; edit_is_copied(rt.alloc(), &edit)?);
+    assert!(rt; example_is_copied(rt.alloc())?);
+    assert!(rt; edit_is_copied(rt.alloc())?);
     Ok(())
 }
