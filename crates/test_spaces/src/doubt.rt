@@ -109,17 +109,19 @@ fn named(alloc: Global, arena: &mut Arena) -> Result<Sets, NoMemory>
 }
 
 /// The text, or an empty one where it is too long for a constant.
-fn constant(alloc: Global, characters: &str) -> Result<Text, Fail>
+fn constant(alloc: Global, characters: &str) -> Result<Text, NoMemory>
     ensures { IfOk result (λ made. length made ≤ 100) }
 {
-    let made = Text::from_utf8(alloc, characters.as_bytes())?;
+    let Ok(made) = Text::from_utf8(alloc, characters.as_bytes()) else {
+        return Err(NoMemory);
+    };
     if made.len() > 100 {
         return Ok(Text::new(alloc));
     }
     Ok(made)
 }
 
-fn item(alloc: Global, sets: Sets, listed: Listed) -> Result<AtomItem, Fail>
+fn item(alloc: Global, sets: Sets, listed: Listed) -> Result<AtomItem, NoMemory>
     ensures { IfOk result (λ made. (c : Items Kept) → IsSourceSet c sets.column → IsSourceSet c sets.months → IsPlaceSet c sets.start → IsPlaceSet c sets.stop → IsAtomItem c (length c) made) }
 {
     match listed {
@@ -146,7 +148,7 @@ fn atoms(
     sets: Sets,
     one: Listed,
     other: Listed,
-) -> Result<AtomSet, Fail>
+) -> Result<AtomSet, NoMemory>
     requires column { IsSourceSet arena.old sets.column }
     requires months { IsSourceSet arena.old sets.months }
     requires start { IsPlaceSet arena.old sets.start }
@@ -178,11 +180,13 @@ fn edges(alloc: Global, first: AtomSet, second: AtomSet) -> Result<List<Edge>, N
     Ok(edges)
 }
 
-fn tables(alloc: Global) -> Result<Tables, Fail> {
-    let mut tables = Tables::new(alloc);
-    tables.add_table("months", b"01,Jan\n02,Feb\n")?;
-    tables.add_key("months", &[1])?;
-    Ok(tables)
+/// Adds the table of the months with its key.
+fn add_months(tables: &mut Tables) -> Result<(), NoMemory> {
+    let months = b"01,Jan\n02,Feb\n";
+    if tables.add_table("months", months).is_err() || tables.add_key("months", &[1]).is_err() {
+        return Err(NoMemory);
+    }
+    Ok(())
 }
 
 /// The graph of two edges, where nothing is counted yet.
@@ -205,23 +209,94 @@ fn graph_of<L: Ledger>(
     arena.intern_graph(3, edges(alloc, first, second)?, &mut steps)
 }
 
-/// The flag of a graph of two edges, of two atoms each, on a row of one cell; None where the sheet has no row.
-fn doubted(
+/// Whether a graph of two edges, of two atoms each, has this flag on the first row.
+fn is_flagged(
     alloc: Global,
-    cell: &str,
-    first: (Listed, Listed),
-    second: (Listed, Listed),
-) -> Result<Option<bool>, Fail> {
-    let mut arena = Arena::new(alloc);
-    let sets = named(alloc, &mut arena)?;
-    let a = atoms(alloc, &mut arena, sets, first.0, first.1)?;
-    let b = atoms(alloc, &mut arena, sets, second.0, second.1)?;
-    let graph = graph_of::<Brand>(alloc, Blank::new(1), &mut arena, a, b)?;
-    let sheet = Sheet::read(alloc, cell.as_bytes(), false, &[1], None)?;
-    if sheet.rows() == 0 {
-        return Ok(None);
+    arena: &mut Arena,
+    tables: &Tables,
+    sheet: &Sheet,
+    edges: [(Listed, Listed); 2],
+    flag: bool,
+) -> Result<bool, NoMemory>
+    requires { 1 ≤ length sheet.now.rows }
+{
+    let sets = named(alloc, arena)?;
+    let first = atoms(alloc, arena, sets, edges[0].0, edges[0].1)?;
+    let second = atoms(alloc, arena, sets, edges[1].0, edges[1].1)?;
+    let graph = graph_of::<Brand>(alloc, Blank::new(1), arena, first, second)?;
+    Ok(doubt(alloc, arena, graph, 1, sheet, tables)? == flag)
+}
+
+/// Whether the values are these, and whether some atom has none.
+fn are(alloc: Global, found: &ValueSet, texts: &[&str], none: bool) -> Result<bool, NoMemory> {
+    if found.texts.len() != texts.len() || found.none != none {
+        return Ok(false);
     }
-    Ok(Some(doubt(alloc, &arena, graph, 1, &sheet, &tables(alloc)?)?))
+    for (text, characters) in found.texts.as_slice().iter().zip(texts) {
+        if !text.same(&constant(alloc, characters)?) {
+            return Ok(false);
+        }
+    }
+    Ok(true)
+}
+
+/// Whether a set of two atoms has these values on the first row, one after the other, and whether one of them has none.
+fn has_values(
+    alloc: Global,
+    arena: &mut Arena,
+    tables: &Tables,
+    sheet: &Sheet,
+    pair: (Listed, Listed),
+    texts: &[&str],
+    none: bool,
+) -> Result<bool, NoMemory>
+    requires { 1 ≤ length sheet.now.rows }
+{
+    let sets = named(alloc, arena)?;
+    let set = atoms(alloc, arena, sets, pair.0, pair.1)?;
+    let found = values(alloc, arena, set, 1, sheet, tables)?;
+    are(alloc, &found, texts, none)
+}
+
+/// What is to be so.
+#[derive(Clone, Copy)]
+enum Task<'a> {
+    /// The flag of a graph of two edges, of two atoms each.
+    Flag((Listed, Listed), (Listed, Listed), bool),
+    /// The values of a set of two atoms, and whether one of them has none.
+    Values((Listed, Listed), &'a [&'a str], bool),
+}
+
+/// Whether it is so on the first row, with the table of the months.
+fn holds(
+    alloc: Global,
+    arena: &mut Arena,
+    tables: &mut Tables,
+    sheet: &Sheet,
+    task: Task,
+) -> Result<bool, NoMemory> {
+    if sheet.rows() == 0 {
+        return Ok(false);
+    }
+    add_months(tables)?;
+    match task {
+        Task::Flag(first, second, flag) => {
+            is_flagged(alloc, arena, tables, sheet, [first, second], flag)
+        }
+        Task::Values(pair, texts, none) => {
+            has_values(alloc, arena, tables, sheet, pair, texts, none)
+        }
+    }
+}
+
+/// The same on a row of one cell.
+fn holds_on(alloc: Global, cell: &str, task: Task) -> Result<bool, NoMemory> {
+    let Ok(sheet) = Sheet::read(alloc, cell.as_bytes(), false, &[1], None) else {
+        return Err(NoMemory);
+    };
+    let mut arena = Arena::new(alloc);
+    let mut tables = Tables::new(alloc);
+    holds(alloc, &mut arena, &mut tables, &sheet, task)
 }
 
 #[test]
@@ -236,7 +311,7 @@ fn equal_answers_are_no_doubt(rt: HostRuntime) -> Result<(), Fail> {
         ("a", (Piece, Piece), z),
         ("a", (Piece, Piece), (Constant("a"), Constant("b"))),
     ] {
-        assert_eq!(rt; doubted(rt.alloc(), cell, first, second)?, Some(false));
+        assert!(rt; holds_on(rt.alloc(), cell, Task::Flag(first, second, false))?);
     }
     Ok(())
 }
@@ -254,59 +329,17 @@ fn different_answers_are_doubt(rt: HostRuntime) -> Result<(), Fail> {
         ("a", z, (Piece, Constant("a"))),
         ("x", (Constant("a"), Constant("ab")), lengths),
     ] {
-        assert_eq!(rt; doubted(rt.alloc(), cell, first, second)?, Some(true));
+        assert!(rt; holds_on(rt.alloc(), cell, Task::Flag(first, second, true))?);
     }
     Ok(())
-}
-
-/// The values of a set of two atoms on a row of one cell, one after the other, and whether one of them has none.
-fn row_values(
-    alloc: Global,
-    cell: &str,
-    one: Listed,
-    other: Listed,
-) -> Result<Option<ValueSet>, Fail> {
-    let mut arena = Arena::new(alloc);
-    let sets = named(alloc, &mut arena)?;
-    let s = atoms(alloc, &mut arena, sets, one, other)?;
-    let sheet = Sheet::read(alloc, cell.as_bytes(), false, &[1], None)?;
-    if sheet.rows() == 0 {
-        return Ok(None);
-    }
-    Ok(Some(values(alloc, &arena, s, 1, &sheet, &tables(alloc)?)?))
-}
-
-/// Whether the values are these, and whether some atom has none.
-fn are(alloc: Global, found: &ValueSet, texts: &[&str], none: bool) -> Result<bool, Fail> {
-    if found.texts.len() != texts.len() || found.none != none {
-        return Ok(false);
-    }
-    for (text, characters) in found.texts.as_slice().iter().zip(texts) {
-        if !text.same(&constant(alloc, characters)?) {
-            return Ok(false);
-        }
-    }
-    Ok(true)
-}
-
-/// Whether two atoms have these values on a row of the cell `a`.
-fn have(
-    alloc: Global,
-    (one, other): (Listed, Listed),
-    texts: &[&str],
-    none: bool,
-) -> Result<bool, Fail> {
-    match row_values(alloc, "a", one, other)? {
-        Some(found) => are(alloc, &found, texts, none),
-        None => Ok(false),
-    }
 }
 
 #[test]
 fn values_of_sets(rt: HostRuntime) -> Result<(), Fail> {
     use Listed::{Constant, Piece, Whole};
-    let both = ["a", "b"];
-    assert!(rt; have(rt.alloc(), (Constant("b"), Whole), both.as_slice(), false)?);
-    assert!(rt; have(rt.alloc(), (Constant("a"), Piece), ["a"].as_slice(), true)?);
+    let both = Task::Values((Constant("b"), Whole), ["a", "b"].as_slice(), false);
+    let one = Task::Values((Constant("a"), Piece), ["a"].as_slice(), true);
+    assert!(rt; holds_on(rt.alloc(), "a", both)?);
+    assert!(rt; holds_on(rt.alloc(), "a", one)?);
     Ok(())
 }

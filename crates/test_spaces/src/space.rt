@@ -18,17 +18,6 @@ use std::marker::Brand;
 use std::sync::ledger::Blank;
 use std::test::Fail;
 
-/// Spaces over the sheet of these lines.
-fn spaces_over(alloc: Global, lines: &str) -> Result<Spaces, Fail> {
-    let sheet = Sheet::read(alloc, lines.as_bytes(), false, &[1], None)?;
-    let settings = Settings {
-        depth: 1,
-        constants: Constants::Any,
-        profile: 1,
-    };
-    Ok(Spaces::new(alloc, sheet, Tables::new(alloc), settings))
-}
-
 /// The space of one example. None where the sheet lacks the row, the text is too long or nothing explains the example.
 fn space_of<L: Ledger>(
     alloc: Global,
@@ -36,12 +25,14 @@ fn space_of<L: Ledger>(
     row: u32,
     text: &str,
     steps: &mut Steps<L>,
-) -> Result<Option<Space>, Fail>
+) -> Result<Option<Space>, NoMemory>
     ensures stands { IfOk result (λ made. IfSome made (λ s. (l : List Given) × SpaceStands spaces.new s l)) }
     ensures older { Keeps (SpaceStands spaces.old) (SpaceStands spaces.new) }
     ensures longer { length spaces.old.arena ≤ length spaces.new.arena }
 {
-    let text = Text::from_utf8(alloc, text.as_bytes())?;
+    let Ok(text) = Text::from_utf8(alloc, text.as_bytes()) else {
+        return Err(NoMemory);
+    };
     if row < 1 || spaces.sheet().rows() < row || text.len() > 100 {
         return Ok(None);
     }
@@ -55,14 +46,14 @@ fn joined<L: Ledger>(
     first: &str,
     second: &str,
     steps: &mut Steps<L>,
-) -> Result<Option<Space>, Fail>
+) -> Result<Option<Space>, NoMemory>
     ensures { IfOk result (λ made. IfSome made (λ s. (l : List Given) × SpaceStands spaces.new s l)) }
 {
     let Some(one) = space_of(alloc, spaces, 1, first, steps)? else {
-        return Err(Fail::from(NoMemory));
+        return Err(NoMemory);
     };
     let Some(other) = space_of(alloc, spaces, 2, second, steps)? else {
-        return Err(Fail::from(NoMemory));
+        return Err(NoMemory);
     };
     Ok(spaces.join(one, other, steps)?)
 }
@@ -76,110 +67,69 @@ fn last_word(alloc: Global) -> Result<Program, NoMemory> {
 }
 
 /// Whether the last word is the space's least program, and one of its programs.
-fn learned_last_word(alloc: Global, spaces: &Spaces, space: Space) -> Result<bool, Fail>
+fn learned_last_word(alloc: Global, spaces: &Spaces, space: Space) -> Result<bool, NoMemory>
     requires { (l : List Given) × SpaceStands spaces.now space l }
 {
+    let weight = spaces.weight(space)?;
     let program = last_word(alloc)?;
     let least = spaces.least(alloc, space)?;
     Ok(
         least.compare(&program) == Ordering::Equal
             && spaces.holds(space, &program)
             && spaces.arena().holds(spaces.graph(space), &program)
-            && spaces.weight(space)? == 16,
+            && weight == 16,
     )
 }
 
-/// The flags of the rows 3 to 5. None where the sheet lacks them.
-fn flags(alloc: Global, spaces: &Spaces, space: Space) -> Result<Option<(bool, bool, bool)>, Fail>
+/// Whether the rows 3 to 5 have these flags.
+fn have_flags(
+    alloc: Global,
+    spaces: &Spaces,
+    space: Space,
+    flags: [bool; 3],
+) -> Result<bool, NoMemory>
     requires { (l : List Given) × SpaceStands spaces.now space l }
 {
     if spaces.sheet().rows() < 5 {
-        return Ok(None);
+        return Ok(false);
     }
-    let third = spaces.doubt(alloc, space, 3)?;
-    let fourth = spaces.doubt(alloc, space, 4)?;
-    let fifth = spaces.doubt(alloc, space, 5)?;
-    Ok(Some((third, fourth, fifth)))
+    Ok(
+        spaces.doubt(alloc, space, 3)? == flags[0]
+            && spaces.doubt(alloc, space, 4)? == flags[1]
+            && spaces.doubt(alloc, space, 5)? == flags[2],
+    )
 }
 
-/// What is learned from two rows of words: whether it is the last word, and the flags of three more rows.
-fn words<L: Ledger>(
+/// Whether the last word is learned from two rows of words, and three more rows have the flags that they are to have.
+fn learns<L: Ledger>(
     alloc: Global,
-    blank: Blank,
-) -> Result<Option<(bool, Option<(bool, bool, bool)>)>, Fail>
-    requires name { blank.name ≡ L.name }
-    requires parts { blank.parts ≡ L.parts }
-    requires one { blank.parts ≡ 1 }
-{
-    let (book, share) = blank.open::<L>();
-    let mut steps: Steps<L> = Steps::new(book, share);
-    let mut spaces = spaces_over(alloc, "Ab Cd\nEfgh Ijk\nMn Op\nXy\nBc De Fg\n\"\"\n")?;
-    let Some(space) = joined(alloc, &mut spaces, "Cd", "Ijk", &mut steps)? else {
-        return Ok(None);
+    spaces: &mut Spaces,
+    steps: &mut Steps<L>,
+) -> Result<bool, NoMemory> {
+    let Some(space) = joined(alloc, spaces, "Cd", "Ijk", steps)? else {
+        return Ok(false);
     };
-    let learned = learned_last_word(alloc, &spaces, space)?;
-    Ok(Some((learned, flags(alloc, &spaces, space)?)))
-}
-
-#[test]
-fn the_last_word_is_learned(rt: HostRuntime) -> Result<(), Fail> {
-    let found = words::<Brand>(rt.alloc(), Blank::new(1))?;
-    assert_eq!(rt; found, Some((true, Some((false, true, true)))));
-    Ok(())
-}
-
-/// Whether one program gives `a` of both of two rows that are alike, or `a` of the one and `b` of the other.
-fn alike_give<L: Ledger>(alloc: Global, blank: Blank, same: bool) -> Result<bool, Fail>
-    requires name { blank.name ≡ L.name }
-    requires parts { blank.parts ≡ L.parts }
-    requires one { blank.parts ≡ 1 }
-{
-    let (book, share) = blank.open::<L>();
-    let mut steps: Steps<L> = Steps::new(book, share);
-    let mut spaces = spaces_over(alloc, "ab\nab\n")?;
-    let second = if same { "a" } else { "b" };
-    Ok(joined(alloc, &mut spaces, "a", second, &mut steps)?.is_some())
-}
-
-/// The same, where nothing is counted yet.
-fn both_give(alloc: Global, same: bool) -> Result<bool, Fail> {
-    alike_give::<Brand>(alloc, Blank::new(1), same)
-}
-
-#[test]
-fn rows_that_are_alike_give_one_text(rt: HostRuntime) -> Result<(), Fail> {
-    assert!(rt; both_give(rt.alloc(), true)?);
-    assert!(rt; !both_give(rt.alloc(), false)?);
-    Ok(())
+    Ok(
+        learned_last_word(alloc, spaces, space)?
+            && have_flags(alloc, spaces, space, [false, true, true])?,
+    )
 }
 
 /// Whether a cut leaves nothing of a space.
-fn is_cut_away<L: Ledger>(alloc: Global, blank: Blank) -> Result<bool, Fail>
-    requires name { blank.name ≡ L.name }
-    requires parts { blank.parts ≡ L.parts }
-    requires one { blank.parts ≡ 1 }
-{
-    let (book, share) = blank.open::<L>();
-    let mut steps: Steps<L> = Steps::new(book, share);
-    let mut spaces = spaces_over(alloc, "ab\n")?;
+fn is_cut_away<L: Ledger>(
+    alloc: Global,
+    spaces: &mut Spaces,
+    steps: &mut Steps<L>,
+) -> Result<bool, NoMemory> {
     let mark = spaces.mark();
-    let made = space_of(alloc, &mut spaces, 1, "a", &mut steps)?.is_some();
+    let made = space_of(alloc, spaces, 1, "a", steps)?.is_some();
     let grown = spaces.size() > 0;
     spaces.cut(mark);
     Ok(made && grown && spaces.size() == 0 && spaces.settings().depth == 1)
 }
 
-#[test]
-fn a_cut_takes_spaces_away(rt: HostRuntime) -> Result<(), Fail> {
-    laws::spaces_tell_of_their_ground();
-    laws::spaces_stand_for_the_same();
-    laws::one_weight();
-    assert!(rt; is_cut_away::<Brand>(rt.alloc(), Blank::new(1))?);
-    Ok(())
-}
-
 /// The space in place of the given one where all others are forgotten.
-fn alone(alloc: Global, spaces: &mut Spaces, space: Space) -> Result<Space, Fail>
+fn alone(alloc: Global, spaces: &mut Spaces, space: Space) -> Result<Space, NoMemory>
     requires { (l : List Given) × SpaceStands spaces.old space l }
     ensures { IfOk result (λ s. (l : List Given) × SpaceStands spaces.new s l) }
 {
@@ -189,24 +139,105 @@ fn alone(alloc: Global, spaces: &mut Spaces, space: Space) -> Result<Space, Fail
 }
 
 /// Whether the last word is learned from the space of two rows as before, where all others are forgotten.
-fn learns_alone<L: Ledger>(alloc: Global, blank: Blank) -> Result<bool, Fail>
+fn learns_alone<L: Ledger>(
+    alloc: Global,
+    spaces: &mut Spaces,
+    steps: &mut Steps<L>,
+) -> Result<bool, NoMemory> {
+    let Some(space) = joined(alloc, spaces, "Cd", "Ijk", steps)? else {
+        return Ok(false);
+    };
+    let size = spaces.size();
+    let space = alone(alloc, spaces, space)?;
+    Ok(learned_last_word(alloc, spaces, space)? && spaces.size() < size)
+}
+
+/// What spaces are to do.
+#[derive(Clone, Copy)]
+enum Task {
+    /// To learn the last word of two rows.
+    Learn,
+    /// The same, where all other spaces are forgotten.
+    LearnAlone,
+    /// To find a program that gives `a` of the first row and this of the second one, or none.
+    Join(&'static str, bool),
+    /// To forget a space.
+    Cut,
+}
+
+/// Whether the spaces do what they are to do.
+fn holds<L: Ledger>(
+    alloc: Global,
+    spaces: &mut Spaces,
+    steps: &mut Steps<L>,
+    task: Task,
+) -> Result<bool, NoMemory> {
+    match task {
+        Task::Learn => learns(alloc, spaces, steps),
+        Task::LearnAlone => learns_alone(alloc, spaces, steps),
+        Task::Join(second, found) => {
+            Ok(joined(alloc, spaces, "a", second, steps)?.is_some() == found)
+        }
+        Task::Cut => is_cut_away(alloc, spaces, steps),
+    }
+}
+
+/// The same, where nothing is counted yet.
+fn counted<L: Ledger>(
+    alloc: Global,
+    blank: Blank,
+    spaces: &mut Spaces,
+    task: Task,
+) -> Result<bool, NoMemory>
     requires name { blank.name ≡ L.name }
     requires parts { blank.parts ≡ L.parts }
     requires one { blank.parts ≡ 1 }
 {
     let (book, share) = blank.open::<L>();
     let mut steps: Steps<L> = Steps::new(book, share);
-    let mut spaces = spaces_over(alloc, "Ab Cd\nEfgh Ijk\n")?;
-    let Some(space) = joined(alloc, &mut spaces, "Cd", "Ijk", &mut steps)? else {
-        return Ok(false);
+    holds(alloc, spaces, &mut steps, task)
+}
+
+/// Whether spaces over the sheet of these lines do what they are to do.
+fn done(alloc: Global, lines: &str, task: Task) -> Result<bool, NoMemory> {
+    let Ok(sheet) = Sheet::read(alloc, lines.as_bytes(), false, &[1], None) else {
+        return Err(NoMemory);
     };
-    let size = spaces.size();
-    let space = alone(alloc, &mut spaces, space)?;
-    Ok(learned_last_word(alloc, &spaces, space)? && spaces.size() < size)
+    let settings = Settings {
+        depth: 1,
+        constants: Constants::Any,
+        profile: 1,
+    };
+    let mut spaces = Spaces::new(alloc, sheet, Tables::new(alloc), settings);
+    counted::<Brand>(alloc, Blank::new(1), &mut spaces, task)
+}
+
+#[test]
+fn the_last_word_is_learned(rt: HostRuntime) -> Result<(), Fail> {
+    let lines = "Ab Cd\nEfgh Ijk\nMn Op\nXy\nBc De Fg\n\"\"\n";
+    assert!(rt; done(rt.alloc(), lines, Task::Learn)?);
+    Ok(())
+}
+
+#[test]
+fn rows_that_are_alike_give_one_text(rt: HostRuntime) -> Result<(), Fail> {
+    for task in [Task::Join("a", true), Task::Join("b", false)] {
+        assert!(rt; done(rt.alloc(), "ab\nab\n", task)?);
+    }
+    Ok(())
+}
+
+#[test]
+fn a_cut_takes_spaces_away(rt: HostRuntime) -> Result<(), Fail> {
+    laws::spaces_tell_of_their_ground();
+    laws::spaces_stand_for_the_same();
+    laws::one_weight();
+    assert!(rt; done(rt.alloc(), "ab\n", Task::Cut)?);
+    Ok(())
 }
 
 #[test]
 fn a_space_stays_alone(rt: HostRuntime) -> Result<(), Fail> {
-    assert!(rt; learns_alone::<Brand>(rt.alloc(), Blank::new(1))?);
+    assert!(rt; done(rt.alloc(), "Ab Cd\nEfgh Ijk\n", Task::LearnAlone)?);
     Ok(())
 }

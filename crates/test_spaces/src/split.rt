@@ -303,6 +303,39 @@ const BY_FIRST: [Row; 3] = [
     },
 ];
 
+/// One branch of three items.
+const ALL_IN_ONE: &[&[usize]] = &[&[0, 1, 2]];
+
+/// Five, four and three at the end in turn.
+const THREE: [Row; 3] = [
+    Row {
+        edit: Edit::Insert(0, 5),
+        branches: &[&[0]],
+        firsts: 1,
+        joins: 0,
+    },
+    Row {
+        edit: Edit::Insert(1, 4),
+        branches: &[&[0, 1]],
+        firsts: 1,
+        joins: 1,
+    },
+    Row {
+        edit: Edit::Insert(2, 3),
+        branches: &[&[0, 1], &[2]],
+        firsts: 1,
+        joins: 1,
+    },
+];
+
+/// And then two in place of the four.
+const REPLACED: Row = Row {
+    edit: Edit::Replace(1, 2),
+    branches: ALL_IN_ONE,
+    firsts: 1,
+    joins: 2,
+};
+
 /// Makes a row's change, and again where the call that is to find no memory is one of it: whether all is as it was after
 /// that, and the branches and the calls are the row's in the end.
 fn holds<L: Ledger>(
@@ -311,7 +344,7 @@ fn holds<L: Ledger>(
     before: &'static [&'static [usize]],
     row: Row,
     steps: &mut Steps<L>,
-) -> Result<bool, Fail>
+) -> Result<bool, NoMemory>
     requires { (items : Listed ℕ) × FoldsStand ⟦<Sums as Maker>⟧ sums.old items held.old.folds × (length items ≡ held.old.count) }
     ensures { (items : Listed ℕ) × FoldsStand ⟦<Sums as Maker>⟧ sums.new items held.new.folds × (length items ≡ held.new.count) }
 {
@@ -325,12 +358,12 @@ fn holds<L: Ledger>(
         ),
         Err(FoldError::NoMemory) => {
             if sums.firsts.wrapping_add(sums.joins) != sums.fails_at {
-                return Err(Fail::from(NoMemory));
+                return Err(NoMemory);
             }
             let as_before = sums.kept.len() == live && are(held.folds.branches(), before);
             match apply(sums, held, row.edit, steps) {
                 Ok(()) => Ok(as_before && are(held.folds.branches(), row.branches)),
-                Err(FoldError::NoMemory) => Err(Fail::from(NoMemory)),
+                Err(FoldError::NoMemory) => Err(NoMemory),
                 Err(_other) => Ok(false),
             }
         }
@@ -338,14 +371,115 @@ fn holds<L: Ledger>(
     }
 }
 
-/// Whether all rows hold, and how many calls are made in all, where the call of this number finds no memory.
+/// Whether all rows hold.
 fn rows_hold<L: Ledger>(
+    sums: &mut Sums,
+    held: &mut Held,
+    rows: &[Row],
+    steps: &mut Steps<L>,
+) -> Result<bool, NoMemory>
+    requires { (items : Listed ℕ) × FoldsStand ⟦<Sums as Maker>⟧ sums.old items held.old.folds × (length items ≡ held.old.count) }
+    ensures { (items : Listed ℕ) × FoldsStand ⟦<Sums as Maker>⟧ sums.new items held.new.folds × (length items ≡ held.new.count) }
+{
+    let mut before = NO_BRANCHES;
+    for i in 0..rows.len() {
+        let row = rows[i];
+        match holds(sums, held, before, row, steps) {
+            Ok(true) => before = row.branches,
+            Ok(false) => return Ok(false),
+            Err(e) => return Err(e),
+        }
+    }
+    Ok(true)
+}
+
+/// Whether an item that is too large by itself is refused, and all is as before but for the call that was made for it.
+fn refuses<L: Ledger>(
+    sums: &mut Sums,
+    held: &mut Held,
+    branches: &'static [&'static [usize]],
+    steps: &mut Steps<L>,
+) -> Result<bool, NoMemory>
+    requires { (items : Listed ℕ) × FoldsStand ⟦<Sums as Maker>⟧ sums.old items held.old.folds × (length items ≡ held.old.count) }
+    ensures { (items : Listed ℕ) × FoldsStand ⟦<Sums as Maker>⟧ sums.new items held.new.folds × (length items ≡ held.new.count) }
+{
+    let live = sums.kept.len();
+    let (firsts, joins) = (sums.firsts, sums.joins);
+    match apply(sums, held, Edit::Insert(3, 11), steps) {
+        Err(FoldError::Alone { item: 3 }) => Ok(
+            sums.kept.len() == live
+                && are(held.folds.branches(), branches)
+                && sums.firsts == firsts.wrapping_add(1)
+                && sums.joins == joins,
+        ),
+        Err(FoldError::NoMemory) => Err(NoMemory),
+        _ => Ok(false),
+    }
+}
+
+/// Whether folds are the same after they are renewed by what they have, and empty once they are cleared.
+fn renews(alloc: Global, folds: &mut Folds<Sums>) -> Result<bool, NoMemory> {
+    let mut kept: List<usize> = List::new(alloc);
+    kept.append(folds.kept())?;
+    folds.renew(kept.as_slice());
+    let renewed = folds.kept() == kept.as_slice() && are(folds.branches(), ALL_IN_ONE);
+    folds.clear();
+    Ok(renewed && folds.branches().is_empty() && folds.kept().is_empty())
+}
+
+/// Whether the folds refuse an item after the rows, take another one for one of theirs, and are renewed and cleared.
+fn changes_hold<L: Ledger>(
+    alloc: Global,
+    sums: &mut Sums,
+    held: &mut Held,
+    steps: &mut Steps<L>,
+) -> Result<bool, NoMemory>
+    requires { (items : Listed ℕ) × FoldsStand ⟦<Sums as Maker>⟧ sums.old items held.old.folds × (length items ≡ held.old.count) }
+{
+    let branches = THREE[2].branches;
+    Ok(
+        rows_hold(sums, held, THREE.as_slice(), steps)?
+            && refuses(sums, held, branches, steps)?
+            && holds(sums, held, branches, REPLACED, steps)?
+            && renews(alloc, &mut held.folds)?,
+    )
+}
+
+/// What folds of no items are to do.
+#[derive(Clone, Copy)]
+enum Task<'a> {
+    Rows(&'a [Row]),
+    Changes,
+}
+
+/// Whether the folds do what they are to do, and how many calls are made in all.
+fn does<L: Ledger>(
+    alloc: Global,
+    sums: &mut Sums,
+    held: &mut Held,
+    task: Task,
+    steps: &mut Steps<L>,
+) -> Result<Option<u64>, NoMemory>
+    requires { (items : Listed ℕ) × FoldsStand ⟦<Sums as Maker>⟧ sums.old items held.old.folds × (length items ≡ held.old.count) }
+{
+    let done = match task {
+        Task::Rows(rows) => rows_hold(sums, held, rows, steps)?,
+        Task::Changes => changes_hold(alloc, sums, held, steps)?,
+    };
+    if !done {
+        return Ok(None);
+    }
+    Ok(Some(sums.firsts.wrapping_add(sums.joins)))
+}
+
+/// Whether new folds under the rule do, where the call of this number finds no memory.
+fn counted<L: Ledger>(
     alloc: Global,
     blank: Blank,
     rule: Placing,
     fails_at: u64,
-    rows: &[Row],
-) -> Result<Option<u64>, Fail>
+    task: Task,
+) -> Result<Option<u64>, NoMemory>
     requires name { blank.name ≡ L.name }
     requires parts { blank.parts ≡ L.parts }
     requires one { blank.parts ≡ 1 }
@@ -357,115 +491,46 @@ fn rows_hold<L: Ledger>(
         folds: Folds::new(alloc, rule),
         count: 0,
     };
-    let mut before = NO_BRANCHES;
-    for i in 0..rows.len() {
-        let row = rows[i];
-        match holds(&mut sums, &mut held, before, row, &mut steps) {
-            Ok(true) => before = row.branches,
-            Ok(false) => return Ok(None),
-            Err(fail) => return Err(fail),
-        }
-    }
-    Ok(Some(sums.firsts.wrapping_add(sums.joins)))
+    does(alloc, &mut sums, &mut held, task, &mut steps)
+}
+
+/// The same, with steps of its own.
+fn calls(alloc: Global, rule: Placing, fails_at: u64, task: Task) -> Result<Option<u64>, NoMemory> {
+    counted::<Brand>(alloc, Blank::new(1), rule, fails_at, task)
 }
 
 #[test]
 fn the_first_branch_that_fits_takes_an_item(rt: HostRuntime) -> Result<(), Fail> {
-    let calls = rows_hold::<Brand>(
-        rt.alloc(),
-        Blank::new(1),
-        Placing::First,
-        0,
-        FIRST.as_slice(),
-    )?;
-    assert_eq!(rt; calls, Some(10));
+    let rows = Task::Rows(FIRST.as_slice());
+    assert_eq!(rt; calls(rt.alloc(), Placing::First, 0, rows)?, Some(10));
     Ok(())
 }
 
 #[test]
 fn the_lightest_branch_takes_an_item(rt: HostRuntime) -> Result<(), Fail> {
-    let lightest = rows_hold::<Brand>(
-        rt.alloc(),
-        Blank::new(1),
-        Placing::Lightest,
-        0,
-        LIGHTEST.as_slice(),
-    )?;
-    assert_eq!(rt; lightest, Some(6));
-    let first = rows_hold::<Brand>(
-        rt.alloc(),
-        Blank::new(1),
-        Placing::First,
-        0,
-        BY_FIRST.as_slice(),
-    )?;
-    assert_eq!(rt; first, Some(5));
+    for (rule, rows, wanted) in [
+        (Placing::Lightest, LIGHTEST.as_slice(), 6),
+        (Placing::First, BY_FIRST.as_slice(), 5),
+    ] {
+        assert_eq!(rt; calls(rt.alloc(), rule, 0, Task::Rows(rows))?, Some(wanted));
+    }
     Ok(())
 }
 
 #[test]
 fn a_call_without_memory_changes_nothing(rt: HostRuntime) -> Result<(), Fail> {
     for call in 1..11u64 {
-        let rows = FIRST.as_slice();
-        let calls = rows_hold::<Brand>(rt.alloc(), Blank::new(1), Placing::First, call, rows)?;
-        assert!(rt; calls.is_some());
+        let rows = Task::Rows(FIRST.as_slice());
+        assert!(rt; calls(rt.alloc(), Placing::First, call, rows)?.is_some());
     }
     Ok(())
 }
 
-/// One branch of three items.
-const ALL_IN_ONE: &[&[usize]] = &[&[0, 1, 2]];
-
-/// Whether the folds after the rows refuse an item and take another one for one of theirs, and whether renewed and cleared
-/// folds are as they should be.
-fn changes_hold<L: Ledger>(alloc: Global, blank: Blank) -> Result<bool, Fail>
-    requires name { blank.name ≡ L.name }
-    requires parts { blank.parts ≡ L.parts }
-    requires one { blank.parts ≡ 1 }
-{
-    let (book, share) = blank.open::<L>();
-    let mut steps: Steps<L> = Steps::new(book, share);
-    let mut sums = Sums::new(alloc, 0);
-    let mut held = Held {
-        folds: Folds::new(alloc, Placing::First),
-        count: 0,
-    };
-    for (at, item) in [5, 4, 3].iter().enumerate() {
-        if let Err(refusal) = apply(&mut sums, &mut held, Edit::Insert(at, *item), &mut steps) {
-            return Err(Fail::from(refusal));
-        }
-    }
-    let live = sums.kept.len();
-    let calls = (sums.firsts, sums.joins);
-    let refused = apply(&mut sums, &mut held, Edit::Insert(3, 11), &mut steps);
-    let alone = match refused {
-        Err(FoldError::Alone { item: 3 }) => sums.kept.len() == live,
-        Err(FoldError::NoMemory) => return Err(Fail::from(NoMemory)),
-        _ => false,
-    };
-    let alone = alone
-        && are(held.folds.branches(), FIRST[4].branches)
-        && (sums.firsts, sums.joins) == (calls.0.wrapping_add(1), calls.1);
-    let calls = (sums.firsts, sums.joins);
-    if let Err(refusal) = apply(&mut sums, &mut held, Edit::Replace(1, 2), &mut steps) {
-        return Err(Fail::from(refusal));
-    }
-    let replaced = are(held.folds.branches(), ALL_IN_ONE)
-        && (sums.firsts, sums.joins) == (calls.0.wrapping_add(1), calls.1.wrapping_add(2));
-    let mut kept: List<usize> = List::new(alloc);
-    kept.append(held.folds.kept())?;
-    let mut folds = held.folds;
-    folds.renew(kept.as_slice());
-    let renewed = folds.kept() == kept.as_slice() && are(folds.branches(), ALL_IN_ONE);
-    folds.clear();
+#[test]
+fn branches_follow_changes(rt: HostRuntime) -> Result<(), Fail> {
     folds_stay::<Sums>();
     renewed_folds_stand::<Sums>();
     placed_once::<Sums>();
-    Ok(alone && replaced && renewed && folds.branches().is_empty() && folds.kept().is_empty())
-}
-
-#[test]
-fn branches_follow_changes(rt: HostRuntime) -> Result<(), Fail> {
-    assert!(rt; changes_hold::<Brand>(rt.alloc(), Blank::new(1))?);
+    assert!(rt; calls(rt.alloc(), Placing::First, 0, Task::Changes)?.is_some());
     Ok(())
 }

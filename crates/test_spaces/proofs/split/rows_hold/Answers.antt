@@ -1,5 +1,4 @@
-use Rattle.std.proofs.Common.{[], refl}
 use Rattle.test_spaces.proofs.split.rows_hold.Goals as goal
 
 pub loop-i-init : goal.loop-i-init
-loop-i-init g c = ([], c.new.ensures.stands c.new-sums.result, refl)
+loop-i-init g c = c.requires

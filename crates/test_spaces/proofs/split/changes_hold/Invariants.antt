@@ -1,8 +1,0 @@
-use Rattle.std.proofs.Common.{◌≡◌, ◌≤◌, ◌-◌, List, ℕ, Some, sum, length}
-use Rattle.std.specs.Prelude.{slice_get}
-use Rattle.fill_split.specs.Standing.{StandsBy}
-use Rattle.test_spaces.proofs.split.changes_hold.Given as goal
-
-abbrev pub invariant-loop-at : goal.invariant-loop-at
-invariant-loop-at g l =
-    (items : List ℕ) × StandsBy (λ k xs. (slice_get l.sums k ≡ Some (sum xs)) × (sum xs ≤ 10)) (λ xs. sum xs ≤ 10) (λ xs n. n ≡ 10 - sum xs) items l.held.folds × (length items ≡ l.held.count)
