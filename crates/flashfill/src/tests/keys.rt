@@ -1,29 +1,36 @@
 //! Runs of the keys of tables.
-use super::{PLENTY, status, words};
-use fill_edge::{MemoryCabinet, MemorySink};
-use fill_text::NoMemory;
+use super::{Ending, Given, ending_after, ends, plain};
 use std::alloc::Global;
 use std::test::Fail;
 
-const PRICES: &[u8] = b"pen,2011,$1\npen,2012,$2\ncup,2011,$5\ncup,2012,$7\n";
+const FILES: &[(&str, &[u8])] = &[
+    (
+        "prices.csv",
+        b"pen,2011,$1\npen,2012,$2\ncup,2011,$5\ncup,2012,$7\n",
+    ),
+    // A record of 33 empty fields.
+    ("wide.csv", b",,,,,,,,,,,,,,,,,,,,,,,,,,,,,,,,\n"),
+    ("empty.csv", b""),
+    ("bad.csv", b"a,b\nc,\xff\n"),
+];
 
-/// A record of 33 empty fields.
-const WIDE: &[u8] = b",,,,,,,,,,,,,,,,,,,,,,,,,,,,,,,,\n";
+const REPORT: &[u8] = b"key,3\nkey,1,2\n";
 
-fn files(alloc: Global, most: usize) -> Result<MemoryCabinet, NoMemory> {
-    let mut cabinet = MemoryCabinet::new(alloc, most.max(1));
-    cabinet.put("prices.csv", PRICES)?;
-    cabinet.put("wide.csv", WIDE)?;
-    cabinet.put("empty.csv", b"")?;
-    cabinet.put("bad.csv", b"a,b\nc,\xff\n")?;
-    Ok(cabinet)
+/// Whether a run over the file, with reads and writes of seven bytes, ends so.
+fn keys_end(alloc: Global, file: &str, ending: Ending) -> Result<bool, Fail> {
+    let words = ["keys", file];
+    let given = Given {
+        read: 7,
+        write: 7,
+        ..plain(&words, FILES)
+    };
+    ends(alloc, given, ending)
 }
 
 #[test]
 fn keys_are_listed(rt: HostRuntime) -> Result<(), Fail> {
-    let alloc = rt.alloc();
     let rows: [(&str, u8, &[u8], &[u8]); 5] = [
-        ("prices.csv", 0, b"key,3\nkey,1,2\n", b""),
+        ("prices.csv", 0, REPORT, b""),
         ("empty.csv", 0, b"", b""),
         (
             "wide.csv",
@@ -39,36 +46,31 @@ fn keys_are_listed(rt: HostRuntime) -> Result<(), Fail> {
         ),
         ("gone.csv", 3, b"", b"flashfill: gone.csv: cannot be read\n"),
     ];
-    for (file, wanted, report, line) in rows {
-        let words = words(alloc, &["keys", file])?;
-        let mut cabinet = files(alloc, 7)?;
-        let mut out = MemorySink::new(alloc, PLENTY, 7)?;
-        let mut err = MemorySink::new(alloc, PLENTY, 7)?;
-        assert_eq!(rt;
-            status(alloc, &words, &mut cabinet, &mut out, &mut err),
-            wanted
-        );
-        assert_eq!(rt; out.written(), report);
-        assert_eq!(rt; err.written(), line);
+    for (file, status, report, line) in rows {
+        let ending = Ending {
+            status,
+            report,
+            line,
+        };
+        assert!(rt; keys_end(rt.alloc(), file, ending)?, "{file}");
     }
     Ok(())
+}
+
+/// Whether so many bytes of the keys are written where this write fails.
+fn writes_until(alloc: Global, failing_write: u64, written: usize) -> Result<bool, Fail> {
+    let given = Given {
+        failing_write,
+        ..plain(&["keys", "prices.csv"], FILES)
+    };
+    ends(alloc, given, ending_after(REPORT, written))
 }
 
 /// Each write fails in turn: the records have 6 and 8 bytes.
 #[test]
 fn a_failed_write_leaves_the_front_of_the_keys(rt: HostRuntime) -> Result<(), Fail> {
-    let alloc = rt.alloc();
-    let words = words(alloc, &["keys", "prices.csv"])?;
-    for (call, wanted, written) in [(1, 4, 0), (2, 4, 6), (3, 0, 14)] {
-        let mut cabinet = files(alloc, PLENTY)?;
-        let mut out = MemorySink::new(alloc, PLENTY, PLENTY)?;
-        out.fail_at(call)?;
-        let mut err = MemorySink::new(alloc, PLENTY, PLENTY)?;
-        assert_eq!(rt;
-            status(alloc, &words, &mut cabinet, &mut out, &mut err),
-            wanted
-        );
-        assert_eq!(rt; out.written().len(), written);
+    for (call, written) in [(1, 0), (2, 6), (3, 14)] {
+        assert!(rt; writes_until(rt.alloc(), call, written)?, "{call}");
     }
     Ok(())
 }

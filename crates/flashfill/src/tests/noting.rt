@@ -1,8 +1,9 @@
 //! Files in memory that note which names they are asked for.
-ghost use Rattle.std.specs.Prelude.{◌≡◌, Some};
+ghost use Rattle.std.specs.Prelude.{◌≡◌, ◌<◌, Some};
 ghost use Rattle.fill_edge.specs.Memory.{held};
 
 use fill_edge::{Cabinet, MemoryCabinet, ReadRefusal};
+use fill_text::NoMemory;
 use std::alloc::{AllocError, Global};
 
 #[derive(Drop)]
@@ -13,20 +14,31 @@ pub struct NotingCabinet {
 }
 
 impl NotingCabinet {
-    pub fn new(alloc: Global, files: MemoryCabinet) -> NotingCabinet {
+    /// No files, with reads of at most so many bytes.
+    pub fn new(alloc: Global, most: usize) -> NotingCabinet
+        requires { 0 < most }
+    {
         NotingCabinet {
-            files,
+            files: MemoryCabinet::new(alloc, most),
             asked: String::new(alloc),
             is_noted: true,
         }
     }
 
-    /// The name of each read, in their order and each ended by a line feed.
-    pub fn asked(&self) -> Result<&str, AllocError> {
-        if self.is_noted {
-            Ok(self.asked.as_str())
-        } else {
-            Err(AllocError)
+    pub fn put(&mut self, name: &str, bytes: &[u8]) -> Result<(), NoMemory> {
+        self.files.put(name, bytes)
+    }
+
+    /// Makes the read of this number fail. Reads count from 1.
+    pub fn fail_at(&mut self, call: u64) -> Result<(), NoMemory> {
+        self.files.fail_at(call)
+    }
+
+    /// Whether these are the names of all reads, in their order and each ended by a line feed, if any are wanted.
+    pub fn was_asked(&self, names: Option<&str>) -> bool {
+        match names {
+            Some(names) => self.is_noted && self.asked.as_str() == names,
+            None => true,
         }
     }
 

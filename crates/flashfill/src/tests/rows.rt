@@ -1,9 +1,6 @@
 //! Whole sessions and their reports.
-use super::{PLENTY, status, words};
-use fill_edge::{MemoryCabinet, MemorySink};
-use fill_text::NoMemory;
+use super::{Ending, Given, PLENTY, ends, plain};
 use std::alloc::Global;
-use std::process::Abort;
 use std::test::Fail;
 
 const MONTHS: &[u8] =
@@ -12,34 +9,27 @@ const MONTHS: &[u8] =
 const PRICES: &[u8] = b"pen,2011,$1\npen,2012,$2\ncup,2011,$5\ncup,2012,$7\n";
 
 /// A sheet, the whole session over it, and its status and report.
-type Row = (&'static [u8], &'static [u8], u8, &'static [u8]);
+type Row = (&'static [u8], &'static str, u8, &'static [u8]);
 
-fn files(
-    alloc: Global,
-    sheet: &[u8],
-    session: &[u8],
-    most: usize,
-) -> Result<MemoryCabinet, NoMemory> {
-    let mut cabinet = MemoryCabinet::new(alloc, most.max(1));
-    cabinet.put("sheet.csv", sheet)?;
-    cabinet.put("s.csv", session)?;
-    cabinet.put("months.csv", MONTHS)?;
-    cabinet.put("prices.csv", PRICES)?;
-    Ok(cabinet)
-}
-
-/// Runs the row, with reads and writes of so many bytes.
-fn check(rt: &impl Abort, alloc: Global, row: Row, most: usize) -> Result<(), Fail> {
-    let (sheet, session, wanted, report) = row;
-    let words = words(alloc, &["replay", "s.csv"])?;
-    let mut cabinet = files(alloc, sheet, session, most)?;
-    let mut out = MemorySink::new(alloc, PLENTY, most.max(1))?;
-    let mut err = MemorySink::new(alloc, PLENTY, PLENTY)?;
-    let status = status(alloc, &words, &mut cabinet, &mut out, &mut err);
-    assert_eq!(rt; out.written(), report);
-    assert_eq!(rt; status, wanted);
-    assert_eq!(rt; err.written(), b"".as_slice());
-    Ok(())
+/// Whether the session of the row ends as it says, with reads and writes of so many bytes.
+fn holds(alloc: Global, (sheet, session, status, report): Row, most: usize) -> Result<bool, Fail> {
+    let files = [
+        ("sheet.csv", sheet),
+        ("s.csv", session.as_bytes()),
+        ("months.csv", MONTHS),
+        ("prices.csv", PRICES),
+    ];
+    let given = Given {
+        read: most,
+        write: most,
+        ..plain(&["replay", "s.csv"], &files)
+    };
+    let ending = Ending {
+        status,
+        report,
+        line: b"",
+    };
+    ends(alloc, given, ending)
 }
 
 #[test]
@@ -48,62 +38,62 @@ fn one_branch_fills_the_sheet(rt: HostRuntime) -> Result<(), Fail> {
         // The best programs, in order.
         (
             b"John Smith\n",
-            b"sheet,sheet.csv\ninputs,1\nbegin\nadd,1,Smith\nbest,1,3\n",
+            "sheet,sheet.csv\ninputs,1\nbegin\nadd,1,Smith\nbest,1,3\n",
             0,
             b"ok,add,1\nbest,1,1,\"Concat(Sub(Col(1),Pos([],[Upper],-1),CPos(-1)))\"\nbest,1,2,\"Concat(Sub(Col(1),Pos([],[Alpha],-1),CPos(-1)))\"\nbest,1,3,\"Concat(Sub(Col(1),Pos([],[Word],-1),CPos(-1)))\"\n",
         ),
         // A pattern that no constant follows.
         (
             b"Ab Cd\nEfgh Ijk\nMn Op\nXy\nBc De Fg\n\"\"\n",
-            b"sheet,sheet.csv\ninputs,1\nbegin\nadd,1,Cd\nadd,2,Ijk\nprograms\nfill\n",
+            "sheet,sheet.csv\ninputs,1\nbegin\nadd,1,Cd\nadd,2,Ijk\nprograms\nfill\n",
             0,
             b"ok,add,1\nok,add,2\nbranch,1,else,\"Concat(Sub(Col(1),Pos([],[Upper],-1),CPos(-1)))\"\nrow,1,Cd,given\nrow,2,Ijk,given\nrow,3,Op,sure\nrow,4,Xy,doubt\nrow,5,Fg,doubt\nrow,6,,none\n",
         ),
         // Rows on which all programs agree, and on which one objects.
         (
             b"Ab Cd\nEfgh Ijk\nMn Op\nXy\nBc De Fg\n\"\"\n",
-            b"sheet,sheet.csv\ninputs,1\nbegin\nadd,1,Cd\nadd,2,Ijk\nobject,3\nobject,4\nobject,5\n",
+            "sheet,sheet.csv\ninputs,1\nbegin\nadd,1,Cd\nadd,2,Ijk\nobject,3\nobject,4\nobject,5\n",
             0,
             b"ok,add,1\nok,add,2\nobject,3,,,agreed\nobject,4,\"Concat(Sub(Col(1),Pos([Space],[],1),CPos(-1)))\",,none\nobject,5,\"Concat(Sub(Col(1),Pos([Space],[],1),CPos(-1)))\",De Fg,some\n",
         ),
         // Without an example.
         (
             b"Ab Cd\nEfgh Ijk\nMn Op\nXy\nBc De Fg\n\"\"\n",
-            b"sheet,sheet.csv\ninputs,1\nbegin\nprograms\nswitch\nanswer,1\n",
+            "sheet,sheet.csv\ninputs,1\nbegin\nprograms\nswitch\nanswer,1\n",
             0,
             b"switch,\nrow,1,,none\n",
         ),
         // A retracted example.
         (
             b"Ab Cd\nEfgh Ijk\nMn Op\nXy\nBc De Fg\n\"\"\n",
-            b"sheet,sheet.csv\ninputs,1\nbegin\nadd,1,Cd\nadd,2,Ijk\nretract,1\nprograms\nanswer,1\n",
+            "sheet,sheet.csv\ninputs,1\nbegin\nadd,1,Cd\nadd,2,Ijk\nretract,1\nprograms\nanswer,1\n",
             0,
             b"ok,add,1\nok,add,2\nok,retract,1\nbranch,1,else,\"Concat(Sub(Col(1),Pos([],[Upper],-1),CPos(-1)))\"\nrow,1,Cd,doubt\n",
         ),
         // No value on a row.
         (
             b"Ab Cd\nEfgh Ijk\nxy zw\n\"\"\n",
-            b"sheet,sheet.csv\ninputs,1\nbegin\nadd,1,Cd\nadd,2,Ijk\nanswer,3\nanswer,4\n",
+            "sheet,sheet.csv\ninputs,1\nbegin\nadd,1,Cd\nadd,2,Ijk\nanswer,3\nanswer,4\n",
             0,
             b"ok,add,1\nok,add,2\nrow,3,,none doubt\nrow,4,,none\n",
         ),
         // A mark at the front of the file.
         (
             b"\xef\xbb\xbf\xc3\xa9t\xc3\xa9 5\n",
-            b"sheet,sheet.csv\ninputs,1\nbegin\nadd,1,5\nprograms\n",
+            "sheet,sheet.csv\ninputs,1\nbegin\nadd,1,5\nprograms\n",
             0,
             b"ok,add,1\nbranch,1,else,\"Concat(Sub(Col(1),Pos([],[Digits],1),CPos(-1)))\"\n",
         ),
         // A header.
         (
             b"Name,Last\nJohn Smith,Smith\nAda Byron,\n",
-            b"sheet,sheet.csv\nheader\ninputs,1\noutput,2\nbegin\nprograms\nfill\n",
+            "sheet,sheet.csv\nheader\ninputs,1\noutput,2\nbegin\nprograms\nfill\n",
             0,
             b"ok,add,1\nbranch,1,else,\"Concat(Sub(Col(1),Pos([],[Upper],-1),CPos(-1)))\"\nrow,1,Smith,given\nrow,2,Byron,doubt\n",
         ),
     ];
     for row in rows {
-        check(&rt, rt.alloc(), row, PLENTY)?;
+        assert!(rt; holds(rt.alloc(), row, PLENTY)?, "{}", row.1);
     }
     Ok(())
 }
@@ -114,83 +104,83 @@ fn refused_edits_are_told(rt: HostRuntime) -> Result<(), Fail> {
         // No such branch.
         (
             b"John Smith\n",
-            b"sheet,sheet.csv\ninputs,1\nbegin\nadd,1,\nbest,1,20\nbest,2,1\nbest,0,1\n",
+            "sheet,sheet.csv\ninputs,1\nbegin\nadd,1,\nbest,1,20\nbest,2,1\nbest,0,1\n",
             1,
             b"ok,add,1\nbest,1,1,Concat()\nrefused,best,2,no such branch\nrefused,best,0,no such branch\n",
         ),
         // No row.
         (
             b"",
-            b"sheet,sheet.csv\ninputs,1\nbegin\nfill\nadd,1,x\nanswer,9\n",
+            "sheet,sheet.csv\ninputs,1\nbegin\nfill\nadd,1,x\nanswer,9\n",
             1,
             b"refused,add,1,no such row\nrefused,answer,9,no such row\n",
         ),
         // No objection without examples.
         (
             b"Ab Cd\nEfgh Ijk\nMn Op\nXy\nBc De Fg\n\"\"\n",
-            b"sheet,sheet.csv\ninputs,1\nbegin\nobject,1\nobject,9\n",
+            "sheet,sheet.csv\ninputs,1\nbegin\nobject,1\nobject,9\n",
             1,
             b"object,1,,,agreed\nrefused,object,9,no such row\n",
         ),
         // Edits that are undone and redone.
         (
             b"Ab Cd\nEfgh Ijk\nMn Op\nXy\nBc De Fg\n\"\"\n",
-            b"sheet,sheet.csv\ninputs,1\nbegin\nadd,1,Cd\nclear\nundo\nprograms\nredo\nredo\n",
+            "sheet,sheet.csv\ninputs,1\nbegin\nadd,1,Cd\nclear\nundo\nprograms\nredo\nredo\n",
             1,
             b"ok,add,1\nok,clear\nok,undo,clear\nbranch,1,else,\"Concat(Sub(Col(1),Pos([],[Upper],-1),CPos(-1)))\"\nok,redo,clear\nrefused,redo,nothing to redo\n",
         ),
         // A refused edit is none to undo.
         (
             b"Ab Cd\nEfgh Ijk\nMn Op\nXy\nBc De Fg\n\"\"\n",
-            b"sheet,sheet.csv\ninputs,1\nbegin\nadd,1,Cd\nadd,1,X\nundo\nundo\ncount\n",
+            "sheet,sheet.csv\ninputs,1\nbegin\nadd,1,Cd\nadd,1,X\nundo\nundo\ncount\n",
             1,
             b"ok,add,1\nrefused,add,1,row has an example\nok,undo,add,1\nrefused,undo,nothing to undo\ncount,0,0,0,6,0\n",
         ),
         // The examples of the output column are there from the start.
         (
             b"Ab Cd,Cd\nEfgh Ijk,\n",
-            b"sheet,sheet.csv\ninputs,1\noutput,2\nbegin\nundo\nadd,2,Ijk\nundo\nprograms\n",
+            "sheet,sheet.csv\ninputs,1\noutput,2\nbegin\nundo\nadd,2,Ijk\nundo\nprograms\n",
             1,
             b"ok,add,1\nrefused,undo,nothing to undo\nok,add,2\nok,undo,add,2\nbranch,1,else,\"Concat(Sub(Col(1),Pos([],[Upper],-1),CPos(-1)))\"\n",
         ),
         // After an edit there is nothing to redo.
         (
             b"Ab Cd\nEfgh Ijk\n",
-            b"sheet,sheet.csv\ninputs,1\nbegin\nadd,1,Cd\nundo\nadd,2,Ijk\nredo\nundo\nredo\n",
+            "sheet,sheet.csv\ninputs,1\nbegin\nadd,1,Cd\nundo\nadd,2,Ijk\nredo\nundo\nredo\n",
             1,
             b"ok,add,1\nok,undo,add,1\nok,add,2\nrefused,redo,nothing to redo\nok,undo,add,2\nok,redo,add,2\n",
         ),
         // Rows alike.
         (
             b"ab\nab\n",
-            b"sheet,sheet.csv\ninputs,1\nbegin\nadd,1,a\nadd,2,b\nprograms\n",
+            "sheet,sheet.csv\ninputs,1\nbegin\nadd,1,a\nadd,2,b\nprograms\n",
             1,
             b"ok,add,1\nrefused,add,2,no guard for branch 1\nbranch,1,else,\"Concat(Sub(Col(1),CPos(0),CPos(1)))\"\n",
         ),
         // Constants of separators.
         (
             b"Smith\n",
-            b"sheet,sheet.csv\ninputs,1\nconstants,separators\nbegin\nadd,1,Mr Smith\nprograms\nfill\n",
+            "sheet,sheet.csv\ninputs,1\nconstants,separators\nbegin\nadd,1,Mr Smith\nprograms\nfill\n",
             1,
             b"refused,add,1,no program for row 1\nrow,1,,none\n",
         ),
         // Examples that are there or not.
         (
             b"Ab Cd\nEfgh Ijk\nMn Op\nXy\nBc De Fg\n\"\"\n",
-            b"sheet,sheet.csv\ninputs,1\nbegin\nadd,1,Cd\ncorrect,1,Cd\ncorrect,3,Op\nadd,1,X\nretract,3\n",
+            "sheet,sheet.csv\ninputs,1\nbegin\nadd,1,Cd\ncorrect,1,Cd\ncorrect,3,Op\nadd,1,X\nretract,3\n",
             1,
             b"ok,add,1\nok,correct,1\nrefused,correct,3,row has no example\nrefused,add,1,row has an example\nrefused,retract,3,row has no example\n",
         ),
         // Nine branches.
         (
             b"-\n.\n;\n:\n/\n_\n@\n#\n&\n",
-            b"sheet,sheet.csv\ninputs,1\nbegin\nadd,1,a\nadd,2,b\nadd,3,c\nadd,4,d\nadd,5,e\nadd,6,f\nadd,7,g\nadd,8,h\nadd,9,i\n",
+            "sheet,sheet.csv\ninputs,1\nbegin\nadd,1,a\nadd,2,b\nadd,3,c\nadd,4,d\nadd,5,e\nadd,6,f\nadd,7,g\nadd,8,h\nadd,9,i\n",
             1,
             b"ok,add,1\nok,add,2\nok,add,3\nok,add,4\nok,add,5\nok,add,6\nok,add,7\nok,add,8\nrefused,add,9,too many branches at row 9\n",
         ),
     ];
     for row in rows {
-        check(&rt, rt.alloc(), row, PLENTY)?;
+        assert!(rt; holds(rt.alloc(), row, PLENTY)?, "{}", row.1);
     }
     Ok(())
 }
@@ -201,34 +191,34 @@ fn branches_have_guards(rt: HostRuntime) -> Result<(), Fail> {
         // An empty text.
         (
             b"a\n1\n",
-            b"sheet,sheet.csv\ninputs,1\nbegin\nadd,1,a\nadd,2,\nprograms\nanswer,2\n",
+            "sheet,sheet.csv\ninputs,1\nbegin\nadd,1,a\nadd,2,\nprograms\nanswer,2\n",
             0,
             b"ok,add,1\nok,add,2\nbranch,1,\"!Match(1,[Digits],1)\",Concat(Whole(Col(1)))\nbranch,2,else,Concat()\nrow,2,,given\n",
         ),
         // A corrected example.
         (
             b"k\n12\nA-\n",
-            b"sheet,sheet.csv\ninputs,1\nbegin\nadd,1,k\nadd,2,12\nadd,3,k\nprograms\nswitch\ncorrect,2,k\nprograms\n",
+            "sheet,sheet.csv\ninputs,1\nbegin\nadd,1,k\nadd,2,12\nadd,3,k\nprograms\nswitch\ncorrect,2,k\nprograms\n",
             0,
             b"ok,add,1\nok,add,2\nok,add,3\nbranch,1,\"!Match(1,[Upper],1)\",Concat(Whole(Col(1)))\nbranch,2,else,Concat(Const('k'))\nswitch,\"Switch(!Match(1,[Upper],1)=>Concat(Whole(Col(1)));else=>Concat(Const('k')))\"\nok,correct,2\nbranch,1,else,Concat(Const('k'))\n",
         ),
         // Two input columns.
         (
             b"m,\np,\n,p\n,q\n",
-            b"sheet,sheet.csv\ninputs,1,2\nbegin\nadd,1,m\nadd,2,p\nadd,3,p\nadd,4,q\nprograms\nretract,1\nclear\nprograms\n",
+            "sheet,sheet.csv\ninputs,1,2\nbegin\nadd,1,m\nadd,2,p\nadd,3,p\nadd,4,q\nprograms\nretract,1\nclear\nprograms\n",
             1,
             b"ok,add,1\nok,add,2\nok,add,3\nok,add,4\nbranch,1,\"Match(1,[Lower],1)\",Concat(Whole(Col(1)))\nbranch,2,else,Concat(Whole(Col(2)))\nrefused,retract,1,no guard for branch 1\nok,clear\n",
         ),
         // A usual sheet.
         (
             b"Ada Byron,ada@lyra.org,555-0101,London,Byron (London)\nMax Planck,max.p@quanta.de,555-0102,Kiel,\nLise Meitner,lise@fission.at,555-0103,Wien,Meitner Wien\nEmmy A Noether,emmy.n@ring.de,555-0104,Erlangen,\nCarl Gauss,carl@curve.de,555-0105,Kiel,\nAda Byron,ada@lyra.org,555-0101,London,\n",
-            b"sheet,sheet.csv\ninputs,1,2,3,4\noutput,5\nbegin\nadd,3,Meitner (Wien)\nprograms\nfill\ncount\n",
+            "sheet,sheet.csv\ninputs,1,2,3,4\noutput,5\nbegin\nadd,3,Meitner (Wien)\nprograms\nfill\ncount\n",
             1,
             b"ok,add,1\nrefused,add,3,no guard for branch 1\nok,add,3\nbranch,1,else,\"Concat(Sub(Col(1),Pos([],[Upper],-1),CPos(-1)),Const(' ('),Whole(Col(4)),Const(')'))\"\nrow,1,Byron (London),given\nrow,2,Planck (Kiel),doubt\nrow,3,Meitner (Wien),given\nrow,4,Noether (Erlangen),doubt\nrow,5,Gauss (Kiel),doubt\nrow,6,Byron (London),sure\ncount,2,1,3,0,0\n",
         ),
     ];
     for row in rows {
-        check(&rt, rt.alloc(), row, PLENTY)?;
+        assert!(rt; holds(rt.alloc(), row, PLENTY)?, "{}", row.1);
     }
     Ok(())
 }
@@ -239,44 +229,39 @@ fn tables_are_looked_up(rt: HostRuntime) -> Result<(), Fail> {
         // A month by its number.
         (
             b"2012-03-11\n1999-07-30\n",
-            b"sheet,sheet.csv\ninputs,1\ntable,months,months.csv\nkey,months,1\nbegin\nadd,1,March\nprograms\nanswer,2\n",
+            "sheet,sheet.csv\ninputs,1\ntable,months,months.csv\nkey,months,1\nbegin\nadd,1,March\nprograms\nanswer,2\n",
             0,
             b"ok,add,1\nbranch,1,else,\"Concat(Whole(Select(2,1,1,Sub(Col(1),Pos([Hyphen],[],1),Pos([],[Hyphen],-1)))))\"\nrow,2,July,doubt\n",
         ),
         // Without lookups.
         (
             b"2012-03-11\n1999-07-30\n",
-            b"sheet,sheet.csv\ninputs,1\ntable,months,months.csv\nkey,months,1\ndepth,0\nbegin\nadd,1,March\nprograms\nanswer,2\n",
+            "sheet,sheet.csv\ninputs,1\ntable,months,months.csv\nkey,months,1\ndepth,0\nbegin\nadd,1,March\nprograms\nanswer,2\n",
             0,
             b"ok,add,1\nbranch,1,else,Concat(Const('March'))\nrow,2,March,sure\n",
         ),
         // A price by two cells.
         (
             b"pen\ncup\n",
-            b"sheet,sheet.csv\ninputs,1\ntable,prices,prices.csv\nkey,prices,1,2\nbegin\nadd,1,$2\nprograms\nadd,2,$7\nprograms\ncorrect,2,$5\n",
+            "sheet,sheet.csv\ninputs,1\ntable,prices,prices.csv\nkey,prices,1,2\nbegin\nadd,1,$2\nprograms\nadd,2,$7\nprograms\ncorrect,2,$5\n",
             1,
             b"ok,add,1\nbranch,1,else,Concat(Const('$2'))\nok,add,2\nbranch,1,else,\"Concat(Whole(Select(3,1,1,Whole(Col(1)),Const('2012'))))\"\nrefused,correct,2,no guard for branch 1\n",
         ),
     ];
     for row in rows {
-        check(&rt, rt.alloc(), row, PLENTY)?;
-        check(&rt, rt.alloc(), row, 1)?;
+        assert!(rt; holds(rt.alloc(), row, PLENTY)?, "{}", row.1);
+        assert!(rt; holds(rt.alloc(), row, 1)?, "{}", row.1);
     }
     Ok(())
 }
 
 #[test]
 fn a_generated_session_is_filled(rt: HostRuntime) -> Result<(), Fail> {
-    let alloc = rt.alloc();
-    let words = words(alloc, &["made", "500"])?;
-    let mut cabinet = MemoryCabinet::new(alloc, PLENTY);
-    let mut out = MemorySink::new(alloc, PLENTY, PLENTY)?;
-    let mut err = MemorySink::new(alloc, PLENTY, PLENTY)?;
-    let status = status(alloc, &words, &mut cabinet, &mut out, &mut err);
-    assert_eq!(rt;
-        out.written(),
-        b"ok,add,1\nok,add,2\nbranch,1,else,\"Concat(Sub(Col(1),Pos([],[Upper],-1),CPos(-1)))\"\ncount,2,448,50,0,0\n".as_slice()
-    );
-    assert_eq!(rt; status, 0);
+    let ending = Ending {
+        status: 0,
+        report: b"ok,add,1\nok,add,2\nbranch,1,else,\"Concat(Sub(Col(1),Pos([],[Upper],-1),CPos(-1)))\"\ncount,2,448,50,0,0\n",
+        line: b"",
+    };
+    assert!(rt; ends(rt.alloc(), plain(&["made", "500"], &[]), ending)?);
     Ok(())
 }
