@@ -2,11 +2,11 @@
 ghost use Rattle.std.specs.Prelude.{◌≡◌, ◌≤◌, [], ◌∷◌, length, IfOk};
 ghost use Rattle.fill_arena.specs.Contents.{IsAtomSet, IsGraph, IsPlaceSet, IsSourceSet};
 
+use crate::notation::stands;
 use fill_arena::*;
 use fill_edge::{Ledger, Steps};
 use fill_text::{List, NoMemory, Text};
 use fill_tokens::Place;
-use fill_tree::{Atom, Program, Source};
 use std::alloc::Global;
 use std::marker::Brand;
 use std::sync::ledger::Blank;
@@ -83,62 +83,22 @@ fn fill<L: Ledger>(
     })
 }
 
-/// An atom in a few words.
-#[derive(Clone, Copy)]
-enum Part<'a> {
-    Constant(&'a str),
-    Column(u32),
-    /// The piece of column 1 between two counted positions.
-    Piece(i32, i32),
-}
-
-fn atom_of(alloc: Global, part: Part) -> Result<Atom, Fail> {
-    match part {
-        Part::Constant(characters) => Ok(Atom::Const(Text::from_utf8(
-            alloc,
-            characters.as_bytes(),
-        )?)),
-        Part::Column(column) => Ok(Atom::Whole(Source::Col(column))),
-        Part::Piece(left, right) => Ok(Atom::Sub(
-            Source::Col(1),
-            Place::CPos(left),
-            Place::CPos(right),
-        )),
-    }
-}
-
-fn program_of(alloc: Global, parts: &[Part]) -> Result<Program, Fail> {
-    let mut atoms = List::new(alloc);
-    for i in 0..parts.len() {
-        atoms.push(atom_of(alloc, parts[i])?)?;
-    }
-    Ok(Program { atoms })
-}
-
-/// Whether the program of these atoms stands in the graph.
-fn stands(alloc: Global, arena: &Arena, g: GraphId, parts: &[Part]) -> Result<bool, Fail>
-    requires { IsGraph arena.now g }
-{
-    let program = program_of(alloc, parts)?;
-    Ok(arena.holds(g, &program))
-}
-
 /// Whether those programs stand in the graph that stand in the graph of the text `ab`, and no others.
 fn stand(alloc: Global, arena: &Arena, g: GraphId) -> Result<bool, Fail>
     requires { IsGraph arena.now g }
 {
-    for (parts, expected) in [
-        (&[Part::Constant("ab")][..], true),
-        (&[Part::Column(1)], true),
-        (&[Part::Piece(0, -1)], true),
-        (&[Part::Constant("a")], false),
-        (&[Part::Column(2)], false),
-        (&[Part::Piece(-1, 0)], false),
-        (&[Part::Piece(0, 1)], false),
-        (&[], false),
-        (&[Part::Constant("ab"), Part::Constant("ab")], false),
+    for (atoms, expected) in [
+        ("Const('ab')", true),
+        ("Whole(Col(1))", true),
+        ("Sub(Col(1),CPos(0),CPos(-1))", true),
+        ("Const('a')", false),
+        ("Whole(Col(2))", false),
+        ("Sub(Col(1),CPos(-1),CPos(0))", false),
+        ("Sub(Col(1),CPos(0),CPos(1))", false),
+        ("", false),
+        ("Const('ab'),Const('ab')", false),
     ] {
-        if stands(alloc, arena, g, parts)? != expected {
+        if stands(alloc, arena, g, atoms)? != expected {
             return Ok(false);
         }
     }

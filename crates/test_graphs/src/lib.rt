@@ -8,7 +8,11 @@ mod best;
 #[cfg(test)]
 mod build;
 #[cfg(test)]
+mod learn;
+#[cfg(test)]
 mod meet;
+#[cfg(test)]
+mod notation;
 #[cfg(test)]
 mod rank;
 #[cfg(test)]

@@ -2,11 +2,11 @@
 ghost use Rattle.std.specs.Prelude.{◌≡◌, ◌≤◌, [], ◌∷◌, length, IfOk};
 ghost use Rattle.fill_arena.specs.Contents.{Extends, IsGraph};
 
+use crate::notation::stands;
 use fill_arena::{Arena, AtomItem, AtomSet, Edge, GraphId, SourceItem, SourceSet};
 use fill_edge::{Ledger, Steps};
 use fill_meet::meet::meet;
 use fill_text::{List, NoMemory, Text};
-use fill_tree::{Atom, Program, Source};
 use std::alloc::Global;
 use std::marker::Brand;
 use std::sync::ledger::Blank;
@@ -60,13 +60,6 @@ fn graph<L: Ledger>(
     arena.intern_graph(2, edges(alloc, all)?, steps)
 }
 
-/// The program of one atom.
-fn program(alloc: Global, atom: Atom) -> Result<Program, NoMemory> {
-    let mut atoms = List::new(alloc);
-    atoms.push(atom)?;
-    Ok(Program { atoms })
-}
-
 /// The text, or an empty one where it is too long for a constant.
 fn constant(alloc: Global, characters: &str) -> Result<Text, Fail>
     ensures { IfOk result (λ made. length made ≤ 100) }
@@ -78,8 +71,38 @@ fn constant(alloc: Global, characters: &str) -> Result<Text, Fail>
     Ok(made)
 }
 
-/// Whether the text `a`, and whether the whole of column 1, stands in the graph of `a` and column 1 and in that of the
-/// text and the column. None where no program does, and the arena is as it was.
+/// Whether the text `a`, and whether the whole of column 1, stands in the graph.
+fn both_stand(alloc: Global, arena: &Arena, g: GraphId) -> Result<(bool, bool), Fail>
+    requires { IsGraph arena.now g }
+{
+    Ok((
+        stands(alloc, arena, g, "Const('a')")?,
+        stands(alloc, arena, g, "Whole(Col(1))")?,
+    ))
+}
+
+/// Whether they stand in the graph of `a` and column 1 and in that of the text and the column. None where no program does,
+/// and the arena is as it was.
+fn met_in<L: Ledger>(
+    alloc: Global,
+    arena: &mut Arena,
+    text: Text,
+    column: u32,
+    steps: &mut Steps<L>,
+) -> Result<Option<(bool, bool)>, Fail>
+    requires { length text ≤ 100 }
+{
+    let first = graph(alloc, arena, constant(alloc, "a")?, 1, steps)?;
+    let second = graph(alloc, arena, text, column, steps)?;
+    let before = arena.mark();
+    match meet(alloc, arena, first, second, steps)? {
+        Some(made) => Ok(Some(both_stand(alloc, arena, made)?)),
+        None if arena.mark() == before => Ok(None),
+        None => Ok(Some((true, true))),
+    }
+}
+
+/// The same in a fresh arena.
 fn met<L: Ledger>(
     alloc: Global,
     blank: Blank,
@@ -94,19 +117,7 @@ fn met<L: Ledger>(
     let (book, share) = blank.open::<L>();
     let mut steps: Steps<L> = Steps::new(book, share);
     let mut arena = Arena::new(alloc);
-    let first = graph(alloc, &mut arena, constant(alloc, "a")?, 1, &mut steps)?;
-    let second = graph(alloc, &mut arena, text, column, &mut steps)?;
-    let before = arena.mark();
-    let Some(made) = meet(alloc, &mut arena, first, second, &mut steps)? else {
-        return Ok(if arena.mark() == before {
-            None
-        } else {
-            Some((true, true))
-        });
-    };
-    let text = program(alloc, Atom::Const(constant(alloc, "a")?))?;
-    let whole = program(alloc, Atom::Whole(Source::Col(1)))?;
-    Ok(Some((arena.holds(made, &text), arena.holds(made, &whole))))
+    met_in(alloc, &mut arena, text, column, &mut steps)
 }
 
 /// The same, where nothing is counted yet.
@@ -117,15 +128,18 @@ fn both(alloc: Global, characters: &str, column: u32) -> Result<Option<(bool, bo
 
 #[test]
 fn what_stands_in_both_stays(rt: HostRuntime) -> Result<(), Fail> {
-    let alloc = rt.alloc();
-    assert_eq!(rt; both(alloc, "a", 1)?, Some((true, true)));
-    assert_eq!(rt; both(alloc, "b", 1)?, Some((false, true)));
-    assert_eq!(rt; both(alloc, "a", 2)?, Some((true, false)));
-    Ok(())
-}
-
-#[test]
-fn nothing_is_made_where_nothing_stands_in_both(rt: HostRuntime) -> Result<(), Fail> {
-    assert_eq!(rt; both(rt.alloc(), "b", 2)?, None);
+    for (characters, column, expected) in [
+        ("a", 1, Some((true, true))),
+        ("b", 1, Some((false, true))),
+        ("a", 2, Some((true, false))),
+        // Nothing is made where nothing stands in both.
+        ("b", 2, None),
+    ] {
+        assert_eq!(rt;
+            both(rt.alloc(), characters, column)?,
+            expected,
+            "{characters} {column}"
+        );
+    }
     Ok(())
 }

@@ -4,12 +4,11 @@ ghost use Rattle.fill_arena.specs.Contents.{IsGraph};
 
 use fill_arena::{Arena, AtomItem, AtomSet, Edge, GraphId, PlaceSet, SourceItem, SourceSet};
 use fill_edge::{Ledger, Steps};
+use fill_print::print_program;
 use fill_rank::least;
 use fill_text::{List, NoMemory, Text};
 use fill_tokens::Place;
-use fill_tree::{Atom, Program, Source};
 use std::alloc::Global;
-use std::cmp::Ordering;
 use std::marker::Brand;
 use std::sync::ledger::Blank;
 use std::test::Fail;
@@ -65,7 +64,7 @@ fn edges(alloc: Global, first: AtomSet, second: AtomSet) -> Result<List<Edge>, N
     Ok(edges)
 }
 
-pub(crate) fn fill<L: Ledger>(
+fn fill<L: Ledger>(
     alloc: Global,
     arena: &mut Arena,
     text: Text,
@@ -83,6 +82,22 @@ pub(crate) fn fill<L: Ledger>(
 }
 
 /// Whether the least program of the graph, whose first edge has the text `ab`, is the whole of column 1.
+fn finds_whole_in<L: Ledger>(
+    alloc: Global,
+    arena: &mut Arena,
+    steps: &mut Steps<L>,
+) -> Result<bool, Fail> {
+    let text = Text::from_utf8(alloc, b"ab")?;
+    if text.len() > 100 {
+        return Ok(false);
+    }
+    let graph = fill(alloc, arena, text, steps)?;
+    let program = least(alloc, arena, graph)?;
+    let spelled = print_program(alloc, &program)?;
+    Ok(spelled.as_slice() == b"Concat(Whole(Col(1)))".as_slice())
+}
+
+/// The same in a fresh arena.
 fn finds_whole<L: Ledger>(alloc: Global, blank: Blank) -> Result<bool, Fail>
     requires name { blank.name ≡ L.name }
     requires parts { blank.parts ≡ L.parts }
@@ -91,15 +106,7 @@ fn finds_whole<L: Ledger>(alloc: Global, blank: Blank) -> Result<bool, Fail>
     let (book, share) = blank.open::<L>();
     let mut steps: Steps<L> = Steps::new(book, share);
     let mut arena = Arena::new(alloc);
-    let text = Text::from_utf8(alloc, b"ab")?;
-    if text.len() > 100 {
-        return Ok(false);
-    }
-    let graph = fill(alloc, &mut arena, text, &mut steps)?;
-    let mut atoms = List::new(alloc);
-    atoms.push(Atom::Whole(Source::Col(1)))?;
-    let expected = Program { atoms };
-    Ok(least(alloc, &arena, graph)?.compare(&expected) == Ordering::Equal)
+    finds_whole_in(alloc, &mut arena, &mut steps)
 }
 
 /// A text of two letters costs 34, a piece 13 and a whole 2.

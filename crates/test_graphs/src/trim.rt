@@ -28,12 +28,17 @@ fn constant(alloc: Global, characters: &str) -> Result<Text, Fail>
     Ok(made)
 }
 
+/// Two sets of the arena.
+fn two_sets_in(alloc: Global, arena: &mut Arena) -> Result<(AtomSet, AtomSet), Fail> {
+    let first = set_of(alloc, arena, constant(alloc, "a")?)?;
+    let second = set_of(alloc, arena, constant(alloc, "b")?)?;
+    Ok((first, second))
+}
+
 /// Two sets of one arena.
 fn two_sets(alloc: Global) -> Result<(AtomSet, AtomSet), Fail> {
     let mut arena = Arena::new(alloc);
-    let first = set_of(alloc, &mut arena, constant(alloc, "a")?)?;
-    let second = set_of(alloc, &mut arena, constant(alloc, "b")?)?;
-    Ok((first, second))
+    two_sets_in(alloc, &mut arena)
 }
 
 fn edge(from: usize, to: usize, atoms: AtomSet) -> Edge {

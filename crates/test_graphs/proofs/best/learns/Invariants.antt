@@ -1,4 +1,0 @@
-use Rattle.test_graphs.proofs.best.learns.Given as goal
-
-abbrev pub ghosts-learn : goal.ghosts-learn
-ghosts-learn a = record { name = a.blank.name; parts = a.blank.parts }
