@@ -11,7 +11,6 @@ use crate::entry::{AtomItem, ConditionItem, Edge, SelectItem, SourceItem};
 use crate::numbers::{AtomSet, GraphId, PlaceSet, SourceSet};
 use fill_tokens::Place;
 use fill_tree::{Atom, Program, Select, Source, has_part};
-use std::cmp::Ordering;
 
 impl Arena {
     /// Whether the program stands in the graph.
@@ -125,7 +124,7 @@ fn has_place(places: &[Place], place: &Place) -> bool
     ensures { IsTrue result ↔ In place.now places.now }
 {
     for i in 0..places.len() {
-        if places[i].compare(place) == Ordering::Equal {
+        if places[i].same(place) {
             return true;
         }
     }

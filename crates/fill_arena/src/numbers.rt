@@ -28,7 +28,8 @@ impl PlaceSet {
         PlaceSet { number }
     }
 
-    pub(crate) fn index(self) -> usize
+    /// The number itself, by which tables may be kept of sets.
+    pub fn index(self) -> usize
         ensures { result ≡ self }
     {
         self.number

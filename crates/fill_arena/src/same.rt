@@ -7,7 +7,6 @@ use crate::entry::{AtomItem, ConditionItem, Edge, Entry, SelectItem, SourceItem}
 use crate::numbers::AtomSet;
 use fill_text::Text;
 use fill_tokens::Place;
-use std::cmp::Ordering;
 
 /// Whether both are of one kind and list the same.
 pub(crate) fn same_entry(a: Content<'_>, b: &Entry) -> bool
@@ -34,17 +33,11 @@ fn same_places(xs: &[Place], ys: &[Place]) -> bool
         return false;
     }
     for i in 0..xs.len() {
-        if !same_place(xs[i], ys[i]) {
+        if !xs[i].same(&ys[i]) {
             return false;
         }
     }
     true
-}
-
-fn same_place(x: Place, y: Place) -> bool
-    ensures { IsTrue result ↔ (x ≡ y) }
-{
-    x.compare(&y) == Ordering::Equal
 }
 
 fn same_sources(xs: &[SourceItem], ys: &[SourceItem]) -> bool

@@ -1,5 +1,5 @@
 //! Places.
-ghost use Rattle.std.specs.Prelude.{◌≡◌};
+ghost use Rattle.std.specs.Prelude.{◌≡◌, ◌↔◌, IsTrue};
 ghost use Rattle.fill_tokens.specs.Place.{place_cost, place_cmp, signed_cmp};
 
 use crate::seq::Seq;
@@ -38,7 +38,8 @@ impl Place {
         }
     }
 
-    /// The total order of places: `CPos` before `Pos`, each by its parts from the left.
+    /// The total order of places: `CPos` before `Pos`, each by its parts from the left. It looks at no more parts than it
+    /// takes.
     pub fn compare(&self, other: &Place) -> Ordering
         ensures { result ≡ place_cmp self.now other.now }
     {
@@ -47,8 +48,32 @@ impl Place {
             (Place::CPos(_), Place::Pos(_, _, _)) => Ordering::Less,
             (Place::Pos(_, _, _), Place::CPos(_)) => Ordering::Greater,
             (Place::Pos(a, b, c), Place::Pos(d, e, f)) => {
-                a.compare(d).then(b.compare(e)).then(compare_signed(*c, *f))
+                let by_left = a.compare(d);
+                if by_left != Ordering::Equal {
+                    return by_left;
+                }
+                let by_right = b.compare(e);
+                if by_right != Ordering::Equal {
+                    return by_right;
+                }
+                compare_signed(*c, *f)
             }
+        }
+    }
+
+    /// Whether the two are one place. Their counts, which tell most places apart, are looked at first.
+    pub fn same(&self, other: &Place) -> bool
+        ensures { IsTrue result ↔ (self.now ≡ other.now) }
+    {
+        match (self, other) {
+            (Place::CPos(a), Place::CPos(b)) => *a == *b,
+            (Place::Pos(a, b, c), Place::Pos(d, e, f)) => {
+                if *c != *f {
+                    return false;
+                }
+                a.same(d) && b.same(e)
+            }
+            _ => false,
         }
     }
 }

@@ -33,6 +33,13 @@ impl Model for Seq {
     ghost inverse = { λ tokens. record { tokens = tokens_from tokens } };
 }
 
+/// Whether the two are one token.
+fn is_same(a: Token, b: Token) -> bool
+    ensures { IsTrue result ↔ (a ≡ b) }
+{
+    a == b
+}
+
 impl Seq {
     /// The sequence of no token, which spans the empty piece at every position.
     pub fn empty() -> Seq
@@ -125,6 +132,21 @@ impl Seq {
                 .then(b.number().cmp(&e.number()))
                 .then(c.number().cmp(&f.number())),
             _ => self.len().cmp(&other.len()),
+        }
+    }
+
+    /// Whether the two are one sequence.
+    pub fn same(&self, other: &Seq) -> bool
+        ensures { IsTrue result ↔ (self.now ≡ other.now) }
+    {
+        match (self.tokens, other.tokens) {
+            (Tokens::None, Tokens::None) => true,
+            (Tokens::One(a), Tokens::One(b)) => is_same(a, b),
+            (Tokens::Two(a, b), Tokens::Two(c, d)) => is_same(a, c) && is_same(b, d),
+            (Tokens::Three(a, b, c), Tokens::Three(d, e, f)) => {
+                is_same(a, d) && is_same(b, e) && is_same(c, f)
+            }
+            _ => false,
         }
     }
 }
