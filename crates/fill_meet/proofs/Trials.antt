@@ -1,5 +1,5 @@
 -- Sets that are apart, by what they list.
-use Rattle.std.proofs.Common.{◌≡◌, ◌⊎◌, inl, inr, ℕ, zero, suc, List, [], ◌∷◌, ◌++◌, take, drop, set, subst, Some, Result, Ok, Err, slice_get, sym, ◌∙◌}
+use Rattle.std.proofs.Common.{◌≡◌, ◌⊎◌, inl, inr, ℕ, zero, suc, List, [], ◌∷◌, ◌++◌, take, drop, set, replicate, subst, Some, Result, Ok, Err, slice_get, sym, ◌∙◌}
 use Rattle.std.specs.Prelude.{IfOk}
 use Rattle.fill_text.specs.declared.error.NoMemory.{NoMemory}
 use Rattle.std.proofs.lemmas.Bool.{cases_eq}
@@ -76,3 +76,9 @@ each_lent P n m new old a b k x h = elim (in_append new (drop m old) k x (get_of
   | inl q ↦ a q.0 x q.1
   | inr q ↦ (let r = in_drop m old q.0 x q.1 in b r.0 x r.1)
 ]
+
+-- what is put down many times is the same at each place
+pub each_same : {A : Type 0} (n : ℕ) (x : A) → EachIn (λ y. y ≡ x) (replicate n x)
+each_same zero x k y there = absurd cc
+each_same (suc n) x zero y there = cc
+each_same (suc n) x (suc k) y there = each_same n x k y there

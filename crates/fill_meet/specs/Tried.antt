@@ -21,14 +21,14 @@ SourcesTried c s t may = may ≡ false → AreApart SourceStands c s t
 abbrev pub AtomsTried : List Entry → ℕ → ℕ → Bool → Type 0
 AtomsTried c s t may = may ≡ false → AreApart AtomStands c s t
 
--- what was last told is so
+-- what was told last in a slot is so
 abbrev pub IsTold : List Entry → Option Told → Type 0
 IsTold c r = IfSome r (λ told. PlacesTried c told.s told.t told.may)
 
 -- what the tables tell is so in the arena
 pub record AreTried (c : List Entry) (tried : Tried) : Type 0 where
   pub recent : EachIn (IsTold c) tried.recent.items
-  pub places : AreRight (PlacesTried c) tried.places
+  pub places : EachIn (IsTold c) tried.places.items
   pub sources : AreRight (SourcesTried c) tried.sources
   pub atoms : AreRight (AtomsTried c) tried.atoms
 

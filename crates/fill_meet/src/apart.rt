@@ -7,12 +7,10 @@ ghost use Rattle.fill_meet.specs.Meet.{AreApart};
 ghost use Rattle.fill_meet.specs.Sets.{AtomIn};
 ghost use Rattle.fill_meet.specs.Tried.{AreAlike, AreTried, PlacesTried};
 
-use crate::places::order;
 use crate::sets::have_same_numbers;
 use crate::ties::Tie;
 use crate::tried::{
-    Told, Tried, keep, recall, tell_atoms, tell_places, tell_sources, told_atoms, told_places,
-    told_sources,
+    Told, Tried, keep, recall, slot_of, tell_atoms, tell_sources, told_atoms, told_sources,
 };
 use fill_arena::{Arena, AtomItem, AtomSet, PlaceSet, SourceItem, SourceSet};
 use fill_text::NoMemory;
@@ -117,10 +115,10 @@ fn pair_may_meet(
         (AtomItem::Const(u), AtomItem::Const(v)) => Ok(u.same(v)),
         (AtomItem::Whole(s), AtomItem::Whole(t)) => sources_may_meet(arena, tried, *s, *t),
         (AtomItem::Sub(s, p, q), AtomItem::Sub(t, u, v)) => {
-            if !places_may_meet(arena, tried, tie.from as usize, *p, *u)? {
+            if !places_may_meet(arena, tried, tie.from as usize, *p, *u) {
                 return Ok(false);
             }
-            if !places_may_meet(arena, tried, tie.to as usize, *q, *v)? {
+            if !places_may_meet(arena, tried, tie.to as usize, *q, *v) {
                 return Ok(false);
             }
             sources_may_meet(arena, tried, *s, *t)
@@ -130,50 +128,40 @@ fn pair_may_meet(
 }
 
 /// Whether some place stands in both sets, which are asked for at a pair of nodes.
-fn places_may_meet(
-    arena: &Arena,
-    tried: &mut Tried,
-    at: usize,
-    s: PlaceSet,
-    t: PlaceSet,
-) -> Result<bool, NoMemory>
+fn places_may_meet(arena: &Arena, tried: &mut Tried, at: usize, s: PlaceSet, t: PlaceSet) -> bool
     requires tried { AreTried arena.now tried.old }
     requires first { IsPlaceSet arena.now s }
     requires second { IsPlaceSet arena.now t }
-    ensures tried { OnOk result (AreTried arena.now tried.new) }
-    ensures apart { IfOk result (λ may. PlacesTried arena.now s t may) }
+    ensures tried { AreTried arena.now tried.new }
+    ensures apart { PlacesTried arena.now s t result }
 {
     if s == t {
-        return Ok(true);
+        return true;
     }
     if let Some(may) = recall(tried.recent.as_slice(), at, s, t) {
-        return Ok(may);
+        return may;
     }
-    let may = places_looked_up(arena, tried, s, t)?;
+    let may = places_looked_up(arena, tried, s, t);
     keep(tried.recent.as_mut_slice(), at, Told { s, t, may });
-    Ok(may)
+    may
 }
 
 /// The same, by the table of all pairs.
-fn places_looked_up(
-    arena: &Arena,
-    tried: &mut Tried,
-    s: PlaceSet,
-    t: PlaceSet,
-) -> Result<bool, NoMemory>
+fn places_looked_up(arena: &Arena, tried: &mut Tried, s: PlaceSet, t: PlaceSet) -> bool
     requires tried { AreTried arena.now tried.old }
     requires first { IsPlaceSet arena.now s }
     requires second { IsPlaceSet arena.now t }
-    ensures tried { OnOk result (AreTried arena.now tried.new) }
-    ensures apart { IfOk result (λ may. PlacesTried arena.now s t may) }
+    ensures tried { AreTried arena.now tried.new }
+    ensures apart { PlacesTried arena.now s t result }
 {
-    if let Some(may) = told_places(&tried.places, s, t) {
-        return Ok(may);
+    let slot = slot_of(s, t, tried.places.len());
+    if let Some(may) = recall(tried.places.as_slice(), slot, s, t) {
+        return may;
     }
     arena.keeps_made();
     let may = share_place(arena.places(s), arena.places(t));
-    tell_places(&mut tried.places, s, t, may)?;
-    Ok(may)
+    keep(tried.places.as_mut_slice(), slot, Told { s, t, may });
+    may
 }
 
 /// Whether some place is in both lists, found by one merge.
@@ -185,7 +173,7 @@ fn share_place(xs: &[Place], ys: &[Place]) -> bool
     let mut i = 0;
     let mut j = 0;
     while i < xs.len() && j < ys.len() {
-        match order(&xs[i], &ys[j]) {
+        match xs[i].compare(&ys[j]) {
             Ordering::Less => i += 1,
             Ordering::Greater => j += 1,
             Ordering::Equal => return true,

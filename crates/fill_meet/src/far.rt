@@ -9,6 +9,7 @@ ghost use Rattle.fill_meet.specs.Seen.{AreSeen};
 ghost use Rattle.fill_meet.specs.Starts.{HasFar, IsFarFrom};
 ghost use Rattle.fill_meet.specs.Tried.{AreTried};
 
+use crate::outlines::NONE_WANTED;
 use crate::outs::Outs;
 use crate::starts::Start;
 use crate::tried::{Tried, told_places};
@@ -40,7 +41,7 @@ fn first_length(items: &[AtomItem]) -> usize {
             return text.len();
         }
     }
-    usize::MAX - 1
+    NONE_WANTED
 }
 
 fn are_far(tried: &Tried, places: PlaceSet, length: usize, items: &[AtomItem]) -> bool
@@ -78,7 +79,7 @@ fn share_nothing(tried: &Tried, s: PlaceSet, t: PlaceSet) -> bool
 fn are_told_apart(tried: &Tried, s: PlaceSet, t: PlaceSet) -> bool
     ensures { IsTrue result → (c : List Entry) → AreTried c tried.now → AreApart PlaceStands c s t }
 {
-    match told_places(&tried.places, s, t) {
+    match told_places(tried.places.as_slice(), s, t) {
         Some(may) => !may,
         None => false,
     }

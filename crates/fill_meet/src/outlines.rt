@@ -14,6 +14,12 @@ use fill_arena::{Arena, AtomItem, AtomSet, Edge, PlaceSet};
 use fill_text::{NoMemory, Text};
 use std::alloc::Global;
 
+/// The length that stands for an outline without a constant, which no text has.
+const NO_CONSTANT: usize = usize::MAX;
+
+/// The length that is looked for where there is no constant. Neither a text nor an outline has it.
+pub(crate) const NONE_WANTED: usize = usize::MAX - 1;
+
 /// What tells most texts apart: how many characters a text has, and the first of them.
 #[derive(Clone, Copy)]
 pub(crate) struct Label {
@@ -142,7 +148,7 @@ pub(crate) fn find_lengths(
 {
     let mut lengths = Vec::with_capacity(alloc, outlines.len())?;
     for i in 0..outlines.len() {
-        lengths.push(constant_length(outlines[i], usize::MAX))?;
+        lengths.push(constant_length(outlines[i], NO_CONSTANT))?;
     }
     Ok(lengths)
 }

@@ -13,7 +13,7 @@ ghost use Rattle.fill_meet.specs.Sets.{IsWithin, PlaceSetsMeet};
 use crate::memo::{Memo, find_places, put_places};
 use fill_arena::{Arena, PlaceSet};
 use fill_text::{List, NoMemory};
-use fill_tokens::{Place, Seq};
+use fill_tokens::Place;
 use std::alloc::Global;
 use std::cmp::Ordering;
 
@@ -99,7 +99,7 @@ fn find_from(xs: &[Place], from: usize, place: &Place) -> Option<usize>
     ensures { IfSome result (λ k. slice_get xs.now k ≡ Some place.now) }
 {
     for k in from..xs.len() {
-        if is_same(&xs[k], place) {
+        if xs[k].same(place) {
             return Some(k);
         }
         if is_past(&xs[k], place) {
@@ -112,28 +112,6 @@ fn find_from(xs: &[Place], from: usize, place: &Place) -> Option<usize>
 /// Whether the first place comes after all fixed ones, of which the second one is.
 fn is_past(x: &Place, place: &Place) -> bool {
     matches!((x, place), (Place::Pos(_, _, _), Place::CPos(_)))
-}
-
-/// Whether the two are one place. Their counts, which tell most places apart, are looked at first.
-fn is_same(x: &Place, y: &Place) -> bool
-    ensures { IsTrue result → x.now ≡ y.now }
-{
-    match (x, y) {
-        (Place::CPos(k), Place::CPos(m)) => *k == *m,
-        (Place::Pos(r, s, k), Place::Pos(u, v, m)) => {
-            if *k != *m {
-                return false;
-            }
-            is_same_seq(r, u) && is_same_seq(s, v)
-        }
-        _ => false,
-    }
-}
-
-fn is_same_seq(x: &Seq, y: &Seq) -> bool
-    ensures { IsTrue result → x.now ≡ y.now }
-{
-    x.compare(y) == Ordering::Equal
 }
 
 /// The set of the places that stand in both sets, made from their lists.
@@ -156,24 +134,6 @@ fn intern_common(
     Ok(Some(arena.intern_places(both.as_slice())?))
 }
 
-/// The order of places. It looks at no more parts of them than it takes.
-pub(crate) fn order(x: &Place, y: &Place) -> Ordering
-    ensures { result ≡ place_cmp x.now y.now }
-{
-    let (Place::Pos(r, s, _), Place::Pos(u, v, _)) = (x, y) else {
-        return x.compare(y);
-    };
-    let by_left = r.compare(u);
-    if by_left != Ordering::Equal {
-        return by_left;
-    }
-    let by_right = s.compare(v);
-    if by_right != Ordering::Equal {
-        return by_right;
-    }
-    x.compare(y)
-}
-
 /// The places of both lists, found by one merge.
 fn common_places(alloc: Global, xs: &[Place], ys: &[Place]) -> Result<List<Place>, NoMemory>
     requires first { ArePlaces xs.now }
@@ -186,7 +146,7 @@ fn common_places(alloc: Global, xs: &[Place], ys: &[Place]) -> Result<List<Place
     let mut i = 0;
     let mut j = 0;
     while i < xs.len() && j < ys.len() {
-        match order(&xs[i], &ys[j]) {
+        match xs[i].compare(&ys[j]) {
             Ordering::Less => i += 1,
             Ordering::Greater => j += 1,
             Ordering::Equal => {

@@ -12,7 +12,7 @@ ghost use Rattle.fill_meet.specs.declared.starts.Start.{Start as Begins};
 
 use crate::apart::may_meet;
 use crate::far::{far_length, see};
-use crate::outlines::{Outline, are_told_apart, constant_length};
+use crate::outlines::{NONE_WANTED, Outline, are_told_apart, constant_length};
 use crate::outs::Outs;
 use crate::starts::begin_apart;
 use crate::tried::Tried;
@@ -67,10 +67,11 @@ pub(crate) fn find_ties(
     let mut seen = vec![in alloc; 0; ys.len()]?;
     let room = seen.as_mut_slice();
     let tried = Tried::new(alloc, nodes)?;
+    let ties = List::with_capacity(alloc, xs.len())?;
     let mut net = Net {
         width,
         reached,
-        ties: List::new(alloc),
+        ties,
         tried,
     };
     for at in 0..nodes {
@@ -170,7 +171,7 @@ fn wanted_length(apart: bool, outline: Option<Outline>) -> usize
     if !apart {
         return 0;
     }
-    constant_length(outline, usize::MAX - 1)
+    constant_length(outline, NONE_WANTED)
 }
 
 /// Ties the edge at place `k` of the first graph with those out of a node of the second that have the wanted length, or the

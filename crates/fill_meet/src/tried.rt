@@ -11,8 +11,11 @@ use fill_text::NoMemory;
 use std::alloc::Global;
 use std::collections::HashMap;
 
-/// How many places of recent answers are kept at most.
-const MOST_RECENT: usize = 262_144;
+/// How many answers a table keeps at most.
+const MOST: usize = 262_144;
+
+/// How many answers about pairs of sets are kept for each pair of nodes.
+const SETS_A_NODE: usize = 4;
 
 /// What was told of a pair of sets of places.
 #[derive(Clone, Copy)]
@@ -24,23 +27,24 @@ pub(crate) struct Told {
 
 /// For each pair of sets that was tried, whether they may have something in common.
 ///
-/// The last answer at a pair of nodes is kept apart, since what is asked there is mostly the same.
+/// Of sets of places a table keeps the last answer in each of its slots; the last one at a pair of nodes is kept apart, since
+/// what is asked there is mostly the same. An answer that gave way to another is found again.
 #[derive(Drop)]
 pub(crate) struct Tried {
     pub(crate) recent: Vec<Option<Told>>,
-    pub(crate) places: HashMap<(PlaceSet, PlaceSet), bool>,
+    pub(crate) places: Vec<Option<Told>>,
     pub(crate) sources: HashMap<(SourceSet, SourceSet), bool>,
     pub(crate) atoms: HashMap<(AtomSet, AtomSet), bool>,
 }
 
 impl Tried {
-    /// Tables that tell nothing yet, with room for recent answers at so many pairs of nodes.
+    /// Tables that tell nothing yet, with room for the answers at so many pairs of nodes.
     pub(crate) fn new(alloc: Global, nodes: usize) -> Result<Tried, NoMemory>
         ensures { IfOk result (λ tried. (c : List Entry) → AreTried c tried) }
     {
         Ok(Tried {
-            recent: blanks(alloc, nodes.min(MOST_RECENT))?,
-            places: HashMap::new(alloc),
+            recent: blanks(alloc, nodes.min(MOST))?,
+            places: blanks(alloc, nodes.saturating_mul(SETS_A_NODE).min(MOST))?,
             sources: HashMap::new(alloc),
             atoms: HashMap::new(alloc),
         })
@@ -48,13 +52,12 @@ impl Tried {
 }
 
 /// So many places where nothing was told yet.
+#[tactic(auto, using(crate::proofs::Trials::each_same))]
 fn blanks(alloc: Global, count: usize) -> Result<Vec<Option<Told>>, NoMemory>
     ensures { IfOk result (λ made. EachIn (λ r. r ≡ None) made.items) }
 {
-    let mut made = Vec::new(alloc);
-    for _i in 0..count {
-        made.push(None)?;
-    }
+    let none: Option<Told> = None;
+    let made = vec![in alloc; none; count]?;
     Ok(made)
 }
 
@@ -86,32 +89,19 @@ pub(crate) fn keep(recent: &mut [Option<Told>], at: usize, told: Told)
     }
 }
 
-/// What was told of the pair.
-pub(crate) fn told_places(
-    table: &HashMap<(PlaceSet, PlaceSet), bool>,
-    s: PlaceSet,
-    t: PlaceSet,
-) -> Option<bool>
-    ensures { IfSome result (λ may. get pair_eq table.now (s, t) ≡ Some may) }
-{
-    match table.get(&(s, t)) {
-        Some(may) => Some(*may),
-        None => None,
-    }
+/// The slot that the pair has in a table of this length.
+pub(crate) fn slot_of(s: PlaceSet, t: PlaceSet, length: usize) -> usize {
+    let first = (s.index() as u64).wrapping_mul(0x9E37_79B9_7F4A_7C15);
+    let both = first.wrapping_add(t.index() as u64);
+    let mixed = both.wrapping_mul(0x9E37_79B9_7F4A_7C15) >> 32;
+    (mixed.wrapping_mul(length as u64) >> 32) as usize
 }
 
-pub(crate) fn tell_places(
-    table: &mut HashMap<(PlaceSet, PlaceSet), bool>,
-    s: PlaceSet,
-    t: PlaceSet,
-    may: bool,
-) -> Result<(), NoMemory>
-    ensures { OnOk result (Updates pair_eq table.old table.new (s, t) (Some may)) }
+/// What was told of the pair, if no other one took its slot.
+pub(crate) fn told_places(places: &[Option<Told>], s: PlaceSet, t: PlaceSet) -> Option<bool>
+    ensures { IfSome result (λ may. In (Some (record { s = s; t = t; may = may })) places.now) }
 {
-    match table.insert((s, t), may) {
-        Ok(_) => Ok(()),
-        Err(_) => Err(NoMemory),
-    }
+    recall(places, slot_of(s, t, places.len()), s, t)
 }
 
 /// What was told of the pair.

@@ -7,13 +7,13 @@ use Rattle.fill_meet.proofs.AtomPairs as atoms
 use Rattle.fill_meet.proofs.Trials.{ok_map}
 use Rattle.fill_meet.proofs.apart.pair_may_meet.Goals as goal
 
-pub returns-then-not-branch-clause-apart : goal.returns-then-not-branch-clause-apart
-returns-then-not-branch-clause-apart c = λ e.
-    rw (c.in-Sub-Sub.is-0, c.in-Sub-Sub.is-1) (atoms.sub_apart_left _ _ _ _ _ _ _ (c.in_ok-places_may_meet-in-Sub-Sub.ensures.apart c.if-not-branch.true))
+pub returns-then-not-places_may_meet-clause-apart : goal.returns-then-not-places_may_meet-clause-apart
+returns-then-not-places_may_meet-clause-apart c = λ e.
+    rw (c.in-Sub-Sub.is-0, c.in-Sub-Sub.is-1) (atoms.sub_apart_left _ _ _ _ _ _ _ (c.places_may_meet.ensures.apart c.if-not-places_may_meet.true))
 
-pub returns-then-not-branch-2-clause-apart : goal.returns-then-not-branch-2-clause-apart
-returns-then-not-branch-2-clause-apart c = λ e.
-    rw (c.in-Sub-Sub.is-0, c.in-Sub-Sub.is-1) (atoms.sub_apart_right _ _ _ _ _ _ _ (c.in_ok-places_may_meet-in-Sub-Sub-2.ensures.apart c.if-not-branch-2.true))
+pub returns-then-not-places_may_meet-2-clause-apart : goal.returns-then-not-places_may_meet-2-clause-apart
+returns-then-not-places_may_meet-2-clause-apart c = λ e.
+    rw (c.in-Sub-Sub.is-0, c.in-Sub-Sub.is-1) (atoms.sub_apart_right _ _ _ _ _ _ _ (c.places_may_meet-in-Sub-Sub.ensures.apart c.if-not-places_may_meet-2.true))
 
 pub returns-in-Const-Const-clause-apart : goal.returns-in-Const-Const-clause-apart
 returns-in-Const-Const-clause-apart c = λ e.
@@ -24,8 +24,8 @@ returns-in-Whole-Whole-clause-apart c =
     ok_map c.sources_may_meet.result (SourcesTried c.args.arena.now c.in-Whole-Whole.s c.in-Whole-Whole.t) (λ may. may ≡ false → AreApart AtomIn c.args.arena.now c.args.x.now c.args.y.now)
     (λ may apart e. rw (c.in-Whole-Whole.is-0, c.in-Whole-Whole.is-1) (atoms.whole_apart _ _ _ (apart e))) c.sources_may_meet.ensures.apart
 
-pub returns-else-not-branch-2-clause-apart : goal.returns-else-not-branch-2-clause-apart
-returns-else-not-branch-2-clause-apart c =
+pub returns-else-not-places_may_meet-2-clause-apart : goal.returns-else-not-places_may_meet-2-clause-apart
+returns-else-not-places_may_meet-2-clause-apart c =
     ok_map c.sources_may_meet-in-Sub-Sub.result (SourcesTried c.args.arena.now c.in-Sub-Sub.s c.in-Sub-Sub.t) (λ may. may ≡ false → AreApart AtomIn c.args.arena.now c.args.x.now c.args.y.now)
     (λ may apart e. rw (c.in-Sub-Sub.is-0, c.in-Sub-Sub.is-1) (atoms.sub_apart_source _ _ _ _ _ _ _ (apart e))) c.sources_may_meet-in-Sub-Sub.ensures.apart
 

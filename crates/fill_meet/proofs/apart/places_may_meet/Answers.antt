@@ -13,12 +13,12 @@ returns-in-Some-clause-apart c =
 
 pub returns-clause-tried : goal.returns-clause-tried
 returns-clause-tried c =
-    let told : Told = record { s = c.args.s; t = c.args.t; may = c.in_ok-may.may } in
-    let tried = c.in_ok-may.ensures.tried in
+    let told : Told = record { s = c.args.s; t = c.args.t; may = c.places_looked_up-may.result } in
+    let tried = c.places_looked_up-may.ensures.tried in
     let old = subst (EachIn (IsTold c.args.arena.now)) (sym c.as_mut_slice.ensures.value) tried.recent in
     record {
       recent = each_lent (IsTold c.args.arena.now) _ _ c.keep.new.recent _
-          (kept_told (IsTold c.args.arena.now) c.as_mut_slice.result.now c.keep.new.recent c.args.at (Some told) c.keep.ensures c.in_ok-may.ensures.apart old) tried.recent;
+          (kept_told (IsTold c.args.arena.now) c.as_mut_slice.result.now c.keep.new.recent c.args.at (Some told) c.keep.ensures c.places_looked_up-may.ensures.apart old) tried.recent;
       places = tried.places;
       sources = tried.sources;
       atoms = tried.atoms;

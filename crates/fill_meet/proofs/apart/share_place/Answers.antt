@@ -6,16 +6,16 @@ use Rattle.fill_meet.proofs.apart.share_place.Goals as goal
 
 pub loop-i-preserved-in-Less : goal.loop-i-preserved-in-Less
 loop-i-preserved-in-Less c =
-    merged_left _ _ _ _ _ _ _ (here _ _ _ c.loop-i-test.true c.index-xs-i.is) (here _ _ _ c.if-j-ys.true c.index-ys-j.is) c.loop-i.invariant c.requires.second.rising (sym c.order.ensures ∙ c.in-Less.is)
+    merged_left _ _ _ _ _ _ _ (here _ _ _ c.loop-i-test.true c.index-xs-i.is) (here _ _ _ c.if-j-ys.true c.index-ys-j.is) c.loop-i.invariant c.requires.second.rising (sym c.compare.ensures ∙ c.in-Less.is)
 
 pub loop-i-preserved : goal.loop-i-preserved
 loop-i-preserved c =
     merged_right _ _ _ _ _ _ _ (here _ _ _ c.loop-i-test.true c.index-xs-i.is) (here _ _ _ c.if-j-ys.true c.index-ys-j.is) c.loop-i.invariant c.requires.first.rising
-    (is_after c.index-xs-i.result c.index-ys-j.result (sym c.order.ensures ∙ c.in-Greater.is))
+    (is_after c.index-xs-i.result c.index-ys-j.result (sym c.compare.ensures ∙ c.in-Greater.is))
 
 pub returns-in-Equal : goal.returns-in-Equal
 returns-in-Equal c = (
-  λ h. shared_place _ _ _ _ _ _ (here _ _ _ c.loop-i-test.true c.index-xs-i.is) (here _ _ _ c.if-j-ys.true c.index-ys-j.is) (sym c.order.ensures ∙ c.in-Equal.is),
+  λ h. shared_place _ _ _ _ _ _ (here _ _ _ c.loop-i-test.true c.index-xs-i.is) (here _ _ _ c.if-j-ys.true c.index-ys-j.is) (sym c.compare.ensures ∙ c.in-Equal.is),
   λ s. refl,
 )
 

@@ -7,17 +7,17 @@ use Rattle.fill_meet.proofs.places.common_places.Goals.{then-loop-i-test+else-j-
 
 pub loop-i-preserved-in-Less : goal.loop-i-preserved-in-Less
 loop-i-preserved-in-Less c =
-    merged_left _ _ _ _ _ _ _ (here _ _ _ c.loop-i-test.true c.index-xs-i.is) (here _ _ _ c.if-j-ys.true c.index-ys-j.is) c.loop-i.invariant c.requires.second.rising (sym c.order.ensures ∙ c.in-Less.is)
+    merged_left _ _ _ _ _ _ _ (here _ _ _ c.loop-i-test.true c.index-xs-i.is) (here _ _ _ c.if-j-ys.true c.index-ys-j.is) c.loop-i.invariant c.requires.second.rising (sym c.compare.ensures ∙ c.in-Less.is)
 
 pub loop-i-preserved-in-Greater : goal.loop-i-preserved-in-Greater
 loop-i-preserved-in-Greater c =
     merged_right _ _ _ _ _ _ _ (here _ _ _ c.loop-i-test.true c.index-xs-i.is) (here _ _ _ c.if-j-ys.true c.index-ys-j.is) c.loop-i.invariant c.requires.first.rising
-    (is_after c.index-xs-i.result c.index-ys-j.result (sym c.order.ensures ∙ c.in-Greater.is))
+    (is_after c.index-xs-i.result c.index-ys-j.result (sym c.compare.ensures ∙ c.in-Greater.is))
 
 pub loop-i-preserved : goal.loop-i-preserved
 loop-i-preserved c =
     let again = same_value c.args.xs.now c.loop-i.i c.loop-i.i _ _ refl (here _ _ _ c.loop-i-test.true c.index-xs-i-in-Equal.is) (here _ _ _ c.loop-i-test.true c.index-xs-i.is) in
-    merged_both _ _ _ _ _ _ _ (here _ _ _ c.loop-i-test.true c.index-xs-i.is) (here _ _ _ c.if-j-ys.true c.index-ys-j.is) c.loop-i.invariant _ c.requires.first.rising (sym c.order.ensures ∙ c.in-Equal.is)
+    merged_both _ _ _ _ _ _ _ (here _ _ _ c.loop-i-test.true c.index-xs-i.is) (here _ _ _ c.if-j-ys.true c.index-ys-j.is) c.loop-i.invariant _ c.requires.first.rising (sym c.compare.ensures ∙ c.in-Equal.is)
     (subst (λ p. c.push.new.self ≡ c.loop-i.both ++ p ∷ []) again c.in_ok-push-in-Equal.ensures.ok)
 
 pub returns-clause-both : goal.returns-clause-both

@@ -21,7 +21,7 @@ loop-at-init c =
         firsts = c.in_ok-firsts.ensures.outs;
         seconds = c.in_ok-seconds.ensures.outs;
         told = c.in_ok-tried.ensures c.args.arena.now;
-        tied = tied_start c.args.arena.now c.in_ok-firsts.firsts.edges.now c.in_ok-seconds.seconds.edges.now c.args.height c.args.width able marks c.new-4.result (wide ∙ c.requires.nodes) c.new-4.ensures
+        tied = tied_start c.args.arena.now c.in_ok-firsts.firsts.edges.now c.in_ok-seconds.seconds.edges.now c.args.height c.args.width able marks c.in_ok-ties.ties (wide ∙ c.requires.nodes) c.in_ok-ties.ensures
             (set_same c.in_ok-reached.reached.items 0 true (subst (λ n. 0 < n) (sym long) c.requires.some));
       };
       room = ap length c.as_mut_slice-room.ensures.value ∙ count ∙ sym (ap length c.in_ok-seconds.ensures.edges);

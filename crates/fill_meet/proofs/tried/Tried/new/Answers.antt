@@ -6,7 +6,7 @@ pub returns : goal.returns
 returns c = λ d.
     record {
       recent = λ k r at. subst (IsTold d) (sym (c.in_ok-blanks.ensures k r at)) tt;
-      places = search rules;
+      places = λ k r at. subst (IsTold d) (sym (c.in_ok-blanks-2.ensures k r at)) tt;
       sources = search rules;
       atoms = search rules;
     }
