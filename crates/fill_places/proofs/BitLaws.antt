@@ -1,5 +1,5 @@
 -- Bits of words, and how many of them are set.
-use Rattle.std.proofs.Common.{◌≡◌, ℕ, zero, suc, ◌+◌, ◌-◌, ◌*◌, ◌/◌, ◌%◌, ◌^◌, ◌==◌, ◌<◌, ◌≤◌, ◌⊎◌, ◌↔◌, inl, inr, List, Bool, true, false, length, get_or, slice_get, Some, refl, sym, ap, ◌∙◌, subst, arith, min, bit_and, w64, eqb-true}
+use Rattle.std.proofs.Common.{◌≡◌, ℕ, zero, suc, ◌+◌, ◌-◌, ◌*◌, ◌/◌, ◌%◌, ◌^◌, ◌==◌, ◌<◌, ◌≤◌, ◌⊎◌, ◌↔◌, inl, inr, List, ◌∷◌, Bool, true, false, length, get_or, slice_get, Some, refl, sym, ap, ◌∙◌, subst, arith, min, bit_and, w64, eqb-true}
 use Rattle.std.specs.Int.{bit_at}
 use Rattle.std.specs.Int.RustNames.{bit_or}
 use Rattle.std.specs.Int.Count.{ones, ones_in}
@@ -288,3 +288,78 @@ none_set words m n are = all_flags words n false (λ k lt. ap (λ z. z == 1) (ap
 pub all_set : (words : List ℕ) (m n : ℕ) → AreEqual (2 ^ 64 - 1) m words → n ≤ 64 * m → AreAll true n (flags_of words n)
 all_set words m n are le = all_flags words n true (λ k lt.
     bit_flag words k (ap (λ z. bit_at z (k % 64)) (word_at words (2 ^ 64 - 1) m (k / 64) are (omega arith)) ∙ bit_at_ones 64 (k % 64) (small_bit k)))
+
+-- a word in front of the others
+pub flag_first : (w : ℕ) (words : List ℕ) (k : ℕ) → k < 64 → (bit_at w k == 1) ≡ flag_of (w ∷ words) k
+flag_first w words k lt =
+    let q : 0 ≡ k / 64 = omega arith in
+    let r : k ≡ k % 64 = omega arith in
+    ap (λ z. bit_at w z == 1) r ∙ ap (λ z. bit_at (get_or (w ∷ words) z 0) (k % 64) == 1) q
+
+flag_after : (w : ℕ) (words : List ℕ) (j k : ℕ) → k ≡ 64 + j → flag_of words j ≡ flag_of (w ∷ words) k
+flag_after w words j k e =
+    let q : suc (j / 64) ≡ k / 64 = omega arith in
+    let r : j % 64 ≡ k % 64 = omega arith in
+    ap (λ z. bit_at (get_or words (j / 64) 0) z == 1) r ∙ ap (λ z. bit_at (get_or (w ∷ words) z 0) (k % 64) == 1) q
+
+pub flag_later : (w : ℕ) (words : List ℕ) (k : ℕ) → 64 ≤ k → flag_of words (k - 64) ≡ flag_of (w ∷ words) k
+flag_later w words k le = flag_after w words (k - 64) k (omega arith)
+
+-- one flag more in the first word
+pub first_here : (w : ℕ) (words : List ℕ) (k : ℕ) → k < 64 → flag_of (bit_or w (1 * 2 ^ k % 2 ^ 64) ∷ words) k ≡ true
+first_here w words k lt = sym (flag_first (bit_or w (1 * 2 ^ k % 2 ^ 64)) words k lt) ∙ ap (λ z. z == 1) (bit_at_set_same w64 w k lt)
+
+pub first_elsewhere : (w : ℕ) (words : List ℕ) (k j : ℕ) → k < 64 → (j ≡ k → ⊥) → flag_of (bit_or w (1 * 2 ^ k % 2 ^ 64) ∷ words) j ≡ flag_of (w ∷ words) j
+first_elsewhere w words k j lt other = elim (cases_lt j 64) [
+  | inl l ↦
+      sym (flag_first (bit_or w (1 * 2 ^ k % 2 ^ 64)) words j l) ∙ ap (λ z. z == 1) (bit_at_set_other w64 w k lt j other) ∙ flag_first w words j l
+  | inr g ↦ sym (flag_later (bit_or w (1 * 2 ^ k % 2 ^ 64)) words j g) ∙ flag_later w words j g
+]
+
+-- one flag more behind the first word
+pub later_here : (w : ℕ) (words : List ℕ) (k : ℕ) → 64 ≤ k → flag_of words (k - 64) ≡ true → flag_of (w ∷ words) k ≡ true
+later_here w words k le h = sym (flag_later w words k le) ∙ h
+
+pub later_elsewhere : (w : ℕ) (old new : List ℕ) (k j : ℕ) → 64 ≤ k → ((i : ℕ) → (i ≡ k - 64 → ⊥) → flag_of new i ≡ flag_of old i) → (j ≡ k → ⊥) → flag_of (w ∷ new) j ≡ flag_of (w ∷ old) j
+later_elsewhere w old new k j le others other = elim (cases_lt j 64) [
+  | inl l ↦ sym (flag_first w new j l) ∙ flag_first w old j l
+  | inr g ↦ sym (flag_later w new j g) ∙ others (j - 64) (λ e. other (omega arith)) ∙ flag_later w old j g
+]
+
+-- how many are flagged in both first words, and behind them
+pub first_common : (a b : ℕ) (more_a more_b : List ℕ) (m c : ℕ) → m ≤ 64 → IsCount (IsSetBit (bit_and a b)) m c → IsCount (BothSet (a ∷ more_a) (b ∷ more_b)) m c
+first_common a b more_a more_b m c le is =
+    count_alike (λ j. BothSet (a ∷ more_a) (b ∷ more_b) (64 * 0 + j)) (BothSet (a ∷ more_a) (b ∷ more_b)) m c
+    (λ j l h. subst (BothSet (a ∷ more_a) (b ∷ more_b)) (same j) h)
+    (λ j l h. subst (BothSet (a ∷ more_a) (b ∷ more_b)) (sym (same j)) h)
+    (word_flags (a ∷ more_a) (b ∷ more_b) 0 c m le is)
+  where
+    same : (j : ℕ) → 64 * 0 + j ≡ j
+    same j = omega arith
+
+later_common : (a b : ℕ) (more_a more_b : List ℕ) (k c d n : ℕ) → n ≡ 64 → 64 ≤ k → IsCount (IsSetBit (bit_and a b)) n c → IsCount (BothSet more_a more_b) (k - 64) d → IsCount (BothSet (a ∷ more_a) (b ∷ more_b)) k (c + d)
+later_common a b more_a more_b k c d n e le here rest =
+    let f : n + (k - 64) ≡ k = omega arith in
+    subst (λ m. IsCount (BothSet (a ∷ more_a) (b ∷ more_b)) m (c + d)) f
+    (count_join (BothSet (a ∷ more_a) (b ∷ more_b)) n (k - 64) c d (first_common a b more_a more_b n c (omega arith) here)
+    (count_alike (BothSet more_a more_b) (λ j. BothSet (a ∷ more_a) (b ∷ more_b) (n + j)) (k - 64) d to from rest))
+  where
+    at : (w : ℕ) (words : List ℕ) (j : ℕ) → flag_of words j ≡ flag_of (w ∷ words) (n + j)
+    at w words j = flag_after w words j (n + j) (omega arith)
+
+    to : (j : ℕ) → j < k - 64 → BothSet more_a more_b j → BothSet (a ∷ more_a) (b ∷ more_b) (n + j)
+    to j l h = (sym (at a more_a j) ∙ h.0, sym (at b more_b j) ∙ h.1)
+
+    from : (j : ℕ) → j < k - 64 → BothSet (a ∷ more_a) (b ∷ more_b) (n + j) → BothSet more_a more_b j
+    from j l h = (at a more_a j ∙ h.0, at b more_b j ∙ h.1)
+
+pub all_common : (a b : ℕ) (more_a more_b : List ℕ) (k c d : ℕ) → 64 ≤ k → ((m : ℕ) → m ≡ 64 → IsCount (IsSetBit (bit_and a b)) m c) → IsCount (BothSet more_a more_b) (k - 64) d → IsCount (BothSet (a ∷ more_a) (b ∷ more_b)) k (c + d)
+all_common a b more_a more_b k c d le here rest = later_common a b more_a more_b k c d (variable 64).0 (variable 64).1 le (here (variable 64).0 (variable 64).1) rest
+
+-- a word more of those that are all the same
+pub equal_more : (word m : ℕ) (words : List ℕ) → AreEqual word m words → AreEqual word (suc m) (word ∷ words)
+equal_more word m words are = record { long = ap suc are.long; same = same }
+  where
+    same : (i : ℕ) → i < suc m → slice_get (word ∷ words) i ≡ Some word
+    same zero lt = refl
+    same (suc i) lt = are.same i (omega arith)

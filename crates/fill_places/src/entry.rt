@@ -131,6 +131,11 @@ pub fn empty_entry(alloc: Global, n: usize) -> Result<Entry, NoMemory>
     })
 }
 
+/// How many entries the list of one token more has room for from its start. For short texts it is about twice as long.
+pub fn room_after(layer: &[Entry]) -> usize {
+    2 * layer.len() + 8
+}
+
 /// Puts the entry at the end.
 pub fn push_entry(out: &mut Vec<Entry>, e: Entry) -> Result<(), NoMemory>
     ensures { OnOk result (out.new.items ≡ out.old.items ++ e ∷ []) }

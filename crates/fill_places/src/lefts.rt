@@ -6,7 +6,7 @@ ghost use Rattle.fill_places.specs.Marks.{AreMarks};
 ghost use Rattle.fill_places.specs.Sides.{LeftAt, MayEnd};
 ghost use Rattle.fill_places.specs.Entries.{Entries, AddsEntries, HasLength, IsOnly, EndsWithOne, AreLefts};
 
-use crate::entry::{Entry, empty_entry, join, push_entry, reached, reaches};
+use crate::entry::{Entry, empty_entry, join, push_entry, reached, reaches, room_after};
 use fill_spans::{Spans, token_at};
 use fill_text::{NoMemory, Text};
 use fill_tokens::{Seq, Token, token_count};
@@ -115,7 +115,7 @@ fn longer_lefts(
     ensures { IfOk result (λ v. Entries (LeftAt profile t.now) (length t.now) (HasLength (j + 1)) v.items) }
 {
     let _tokens = j;
-    let mut out = Vec::new(alloc);
+    let mut out = Vec::with_capacity(alloc, room_after(layer))?;
     for e in layer {
         push_lefts_after(alloc, &mut out, e, spans, t, profile)?;
     }

@@ -18,6 +18,9 @@ use std::alloc::Global;
 /// How many places a list has room for from its start. Most positions of short texts have some sixty.
 const ROOM: usize = 128;
 
+/// How many numbers a list has room for from its start. At most positions of short texts fewer sequences begin.
+const ROW_ROOM: usize = 16;
+
 /// Puts the number of the entry to the list, where it is marked at the position.
 fn push_number(
     numbers: &mut List<usize>,
@@ -55,7 +58,7 @@ fn marked_at(
     ensures { IfOk result (Lists nat_cmp (IsMarkedAt entries.now k)) }
 {
     let _text = t;
-    let mut numbers = List::new(alloc);
+    let mut numbers = List::with_capacity(alloc, ROW_ROOM)?;
     for i in 0..entries.len() {
         push_number(&mut numbers, entries, i, t, k, profile)?;
     }

@@ -6,7 +6,7 @@ ghost use Rattle.fill_places.specs.Marks.{AreMarks};
 ghost use Rattle.fill_places.specs.Sides.{RightAt, MayBegin};
 ghost use Rattle.fill_places.specs.Entries.{Entries, AddsEntries, HasLength, IsOnly, BeginsWithIt, AreRights};
 
-use crate::entry::{Entry, empty_entry, join, push_entry, reached, reaches};
+use crate::entry::{Entry, empty_entry, join, push_entry, reached, reaches, room_after};
 use fill_spans::{Spans, token_at};
 use fill_text::{NoMemory, Text};
 use fill_tokens::{Seq, Token, token_count};
@@ -118,7 +118,7 @@ fn longer_rights(
     requires spans { spans.now ≡ record { text = t.now; profile = profile } }
     ensures { IfOk result (λ v. Entries (RightAt profile t.now) (length t.now) (HasLength (j + 1)) v.items) }
 {
-    let mut out = Vec::new(alloc);
+    let mut out = Vec::with_capacity(alloc, room_after(layer))?;
     for i in 0..token_count(profile) {
         push_rights_behind(alloc, &mut out, token_at(i), layer, j, spans, t, profile)?;
     }

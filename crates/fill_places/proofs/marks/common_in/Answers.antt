@@ -1,21 +1,9 @@
-use Rattle.std.proofs.Common.{◌≡◌, ◌*◌, ◌/◌, ◌%◌, arith, subst}
-use Rattle.fill_tokens.specs.Value.{IsCount}
-use Rattle.fill_places.specs.Bits.{BothSet, IsSetBit}
-use Rattle.fill_places.proofs.BitLaws.{words_rest}
+use Rattle.std.proofs.Common.{arith}
+use Rattle.fill_places.proofs.BitLaws.{first_common, all_common}
 use Rattle.fill_places.proofs.marks.common_in.Goals as goal
 
-pub common_words-count-requires-clause-small : goal.common_words-count-requires-clause-small
-common_words-count-requires-clause-small c = omega (arith, c.requires.small)
-
-pub overflow_add-result : goal.overflow_add-result
-overflow_add-result c = omega (arith, c.requires.small, c.common_words-count.ensures.most, c.ones_below.ensures.most)
-
-pub returns-then-rest-eq0 : goal.returns-then-rest-eq0
-returns-then-rest-eq0 c =
-    let e : 64 * (c.args.k / 64) ≡ c.args.k = omega (arith, c.if-rest-eq0.true) in
-    subst (λ n. IsCount (BothSet c.args.a.now c.args.b.now) n c.common_words-count.result) e c.common_words-count.ensures.count
+pub returns-then-k-lt64 : goal.returns-then-k-lt64
+returns-then-k-lt64 c = first_common c.args.a c.args.b c.args.more_a.now c.args.more_b.now c.args.k c.ones_below.result (omega arith) c.ones_below.ensures.count
 
 pub returns : goal.returns
-returns c =
-    words_rest c.args.a.now c.args.b.now c.args.k c.common_words-count.result c.ones_below.result c.common_words-count.ensures.count
-    (subst (λ w. IsCount (IsSetBit w) (c.args.k % 64) c.ones_below.result) c.common.ensures c.ones_below.ensures.count)
+returns c = all_common c.args.a c.args.b c.args.more_a.now c.args.more_b.now c.args.k c.ones.result c.common_among.result (omega arith) c.ones.ensures.count c.common_among.ensures.count

@@ -1,25 +1,15 @@
-use Rattle.std.proofs.Common.{◌≡◌, ◌*◌, ◌/◌, ◌%◌, ◌^◌, ◌<◌, ℕ, List, true, length, get_or, refl, subst, arith}
-use Rattle.std.proofs.lemmas.Option.{slice_get_read, get_or_from_slice_get}
-use Rattle.std.specs.Int.RustNames.{bit_or}
-use Rattle.std.proofs.Math.ListN.{set}
-use Rattle.fill_places.specs.Bits.{flag_of}
-use Rattle.fill_places.proofs.BitLaws.{set_here, set_elsewhere}
+use Rattle.std.proofs.Common.{arith}
+use Rattle.fill_places.proofs.BitLaws.{first_here, first_elsewhere, later_here, later_elsewhere}
 use Rattle.fill_places.proofs.marks.set_flag.Goals as goal
 
+pub returns-then-k-lt64-clause-there : goal.returns-then-k-lt64-clause-there
+returns-then-k-lt64-clause-there c = first_here c.args.first.now c.args.more.now.items c.args.k (omega arith)
+
+pub returns-then-k-lt64-clause-others : goal.returns-then-k-lt64-clause-others
+returns-then-k-lt64-clause-others c = λ j other. first_elsewhere c.args.first.now c.args.more.now.items c.args.k j (omega arith) other
+
 pub returns-clause-there : goal.returns-clause-there
-returns-clause-there c =
-    let words : List ℕ = c.args.words.now.items in
-    let k : ℕ = c.args.k in
-    let lt : c.args.k / 64 < length c.args.words.now.items = omega (arith, c.requires) in
-    let r : ℕ = c.index_mut.result.now in
-    let e : get_or words (k / 64) 0 ≡ r = get_or_from_slice_get words (k / 64) r 0 (slice_get_read words (length words) (k / 64) r refl lt c.index_mut.ensures.value) in
-    subst (λ (z : ℕ). flag_of (set words (k / 64) (bit_or z (1 * 2 ^ (k % 64) % 2 ^ 64))) k ≡ true) e (set_here words k lt)
+returns-clause-there c = later_here c.args.first.now c.set_among.new.words.items c.args.k (omega arith) c.set_among.ensures.there
 
 pub returns-clause-others : goal.returns-clause-others
-returns-clause-others c = λ j other.
-    let words : List ℕ = c.args.words.now.items in
-    let k : ℕ = c.args.k in
-    let lt : c.args.k / 64 < length c.args.words.now.items = omega (arith, c.requires) in
-    let r : ℕ = c.index_mut.result.now in
-    let e : get_or words (k / 64) 0 ≡ r = get_or_from_slice_get words (k / 64) r 0 (slice_get_read words (length words) (k / 64) r refl lt c.index_mut.ensures.value) in
-    subst (λ (z : ℕ). flag_of (set words (k / 64) (bit_or z (1 * 2 ^ (k % 64) % 2 ^ 64))) j ≡ flag_of words j) e (set_elsewhere words k j lt other)
+returns-clause-others c = λ j other. later_elsewhere c.args.first.now c.args.more.now.items c.set_among.new.words.items c.args.k j (omega arith) c.set_among.ensures.others other

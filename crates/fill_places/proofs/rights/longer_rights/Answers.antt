@@ -12,11 +12,11 @@ push_rights_behind-requires-clause-token c = omega (arith, c.token_at.ensures, c
 pub loop-i-preserved : goal.loop-i-preserved
 loop-i-preserved c =
     begins_more (RightAt c.args.profile c.args.t.now) (length c.args.t.now) c.args.layer.now c.args.j (c.loop-i.i + 1) c.token_at.result
-    c.new-out.result.items c.loop-i.out.items c.push_rights_behind.new.out.items c.requires.layer c.token_at.ensures c.loop-i.invariant c.in_ok-push_rights_behind.ensures
+    c.in_ok-out.out.items c.loop-i.out.items c.push_rights_behind.new.out.items c.requires.layer c.token_at.ensures c.loop-i.invariant c.in_ok-push_rights_behind.ensures
 
 pub returns : goal.returns
 returns c =
     let e : c.loop-i.i + 1 ≡ token_count c.args.profile + 1 = omega (arith, c.token_count-i-end.ensures.value) in
-    let all = subst (λ (m : ℕ). AddsEntries (RightAt c.args.profile c.args.t.now) (length c.args.t.now) c.new-out.result.items c.loop-i.out.items (BeginsWithAny c.args.layer.now m)) e c.loop-i.invariant in
+    let all = subst (λ (m : ℕ). AddsEntries (RightAt c.args.profile c.args.t.now) (length c.args.t.now) c.in_ok-out.out.items c.loop-i.out.items (BeginsWithAny c.args.layer.now m)) e c.loop-i.invariant in
     next_rights c.args.profile c.args.t.now (length c.args.t.now) c.args.layer.now c.args.j c.loop-i.out.items c.requires.layer
-    (grows_all (RightAt c.args.profile c.args.t.now) (length c.args.t.now) (BeginsWithAny c.args.layer.now (token_count c.args.profile + 1)) c.new-out.result.items c.loop-i.out.items c.new-out.ensures.items all)
+    (grows_all (RightAt c.args.profile c.args.t.now) (length c.args.t.now) (BeginsWithAny c.args.layer.now (token_count c.args.profile + 1)) c.in_ok-out.out.items c.loop-i.out.items c.in_ok-out.ensures.items all)
