@@ -32,24 +32,38 @@ pub(crate) fn piece_atoms<'a>(
     ensures texts { texts_of known.new ≡ texts_of known.old }
     ensures kept { Extends arena.old arena.new }
 {
-    let mut items = piece_constants(alloc, piece)?;
+    let mut items = piece_constants(alloc, piece, hits.len())?;
     for i in 0..hits.len() {
         put_readers(alloc, on, known, arena, hits[i], piece.width, &mut items)?;
     }
     Ok(items)
 }
 
-/// The constant, where the piece may be one.
-fn piece_constants(alloc: Global, piece: &Piece<'_>) -> Result<List<AtomItem>, NoMemory>
+/// The constant, where the piece may be one, with room for so many atoms that read it. An arena keeps a set's list with the
+/// room that it was given.
+fn piece_constants(
+    alloc: Global,
+    piece: &Piece<'_>,
+    readers: usize,
+) -> Result<List<AtomItem>, NoMemory>
     requires { IsWithin piece.now }
     ensures { IfOk result (AreConstants piece.now) }
 {
     piece.text.keeps_scalars();
-    let mut items = List::new(alloc);
+    let mut items = List::with_capacity(alloc, room_for(piece.constant, readers))?;
     if piece.constant {
         items.push(AtomItem::Const(piece.text.piece(piece.from, piece.from + piece.width)?))?;
     }
     Ok(items)
+}
+
+/// How many items a set of so many readers has, and a constant, where that is one.
+fn room_for(constant: bool, readers: usize) -> usize {
+    if constant {
+        readers.saturating_add(1)
+    } else {
+        readers
+    }
 }
 
 /// Puts what reads the characters of the known text where it was hit.

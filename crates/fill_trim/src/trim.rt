@@ -52,7 +52,7 @@ fn renumber(alloc: Global, kept: &[bool], edges: &[Edge]) -> Result<Trimmed, NoM
 fn ranks(alloc: Global, kept: &[bool]) -> Result<Vec<usize>, NoMemory>
     ensures { IfOk result (λ ranks. AreRanks kept.now ranks.items) }
 {
-    let mut ranks = Vec::new(alloc);
+    let mut ranks = Vec::with_capacity(alloc, kept.len().saturating_add(1))?;
     let mut count = 0;
     for stays in kept {
         ranks.push(count)?;
@@ -75,7 +75,7 @@ fn kept_edges(
     requires within { EachIn (λ e. (e.from < length kept.now) × (e.to < length kept.now)) edges.now }
     ensures { IfOk result (λ made. made ≡ edges_left kept.now edges.now) }
 {
-    let mut made = List::new(alloc);
+    let mut made = List::with_capacity(alloc, edges.len())?;
     for i in 0..edges.len() {
         push_kept(&mut made, kept, ranks, edges[i])?;
     }

@@ -15,10 +15,10 @@ returns c = elim c.if-piece.branch [
       let u = w.in_ok-piece.field-0 in
       let piece = w.in_ok-piece.ensures ∙ piece_range p.text.now p.from p.width in
       let made = constant_put p c.requires c.keeps_scalars.ensures u piece w.if-piece.true (piece_short p c.requires u piece) in
-      let pushed = w.items-is ∙ (w.in_ok-push.ensures.ok ∙ ap (λ (l : List AtomItem). l ++ Const u ∷ []) c.new-items.ensures) in
+      let pushed = w.items-is ∙ (w.in_ok-push.ensures.ok ∙ ap (λ (l : List AtomItem). l ++ Const u ∷ []) c.in_ok-items.ensures) in
       subst (λ (l : List AtomItem). AreConstants p l) (sym pushed) made
   | else-piece w ↦
       let p = c.args.piece.now in
       let made = constant_left_out p c.requires c.keeps_scalars.ensures w.if-piece.false in
-      subst (λ (l : List AtomItem). AreConstants p l) (sym (w.items-is ∙ c.new-items.ensures)) made
+      subst (λ (l : List AtomItem). AreConstants p l) (sym (w.items-is ∙ c.in_ok-items.ensures)) made
 ]

@@ -8,7 +8,7 @@ use Rattle.fill_trim.proofs.trim.ranks.Goals.{then-stays, else-stays}
 
 pub loop-stays-init : goal.loop-stays-init
 loop-stays-init c =
-    record { count = sym (rank_zero c.args.kept.now); long = ap length c.new-ranks.ensures.items; each = λ n h. absurd (omega arith) }
+    record { count = sym (rank_zero c.args.kept.now); long = ap length c.in_ok-ranks.ensures.items; each = λ n h. absurd (omega arith) }
 
 pub overflow_add-count : goal.overflow_add-count
 overflow_add-count c =
