@@ -47,7 +47,7 @@ fn copied_with(
     requires { AreExamples examples.now }
     ensures { IfOk result (λ made. made ≡ with_example (record { row = row; text = text.now }) examples.now) }
 {
-    let mut made = List::new(alloc);
+    let mut made = List::with_capacity(alloc, examples.len().saturating_add(1))?;
     push_copies(alloc, &mut made, &examples[..before(examples, row)])?;
     made.push(Example {
         row,
@@ -62,7 +62,7 @@ fn copied_without(alloc: Global, examples: &[Example], row: u32) -> Result<List<
     requires { AreExamples examples.now }
     ensures { IfOk result (λ made. made ≡ without_example row examples.now) }
 {
-    let mut made = List::new(alloc);
+    let mut made = List::with_capacity(alloc, examples.len())?;
     push_copies(alloc, &mut made, &examples[..before(examples, row)])?;
     push_copies(alloc, &mut made, &examples[through(examples, row)..])?;
     Ok(made)

@@ -18,6 +18,7 @@ use fill_script::Entry;
 use fill_session::Session;
 use fill_text::NoMemory;
 use std::alloc::Global;
+use std::mem::ManuallyDrop;
 
 /// Opens the session of a command, replays it, writes its report, and answers the status.
 pub fn replay<C: Cabinet, O: Sink, E: Sink, L: Ledger>(
@@ -56,14 +57,17 @@ pub fn replay<C: Cabinet, O: Sink, E: Sink, L: Ledger>(
             return 6;
         }
     };
-    report(
+    let status = report(
         alloc,
         &mut session,
         script.entries.as_slice(),
         out,
         err,
         steps,
-    )
+    );
+    // The program ends with the session, whose memory so goes back at once and not piece by piece.
+    let _left = ManuallyDrop::new(session);
+    status
 }
 
 /// Writes the report of the entries over a session without examples and history, and answers the status.

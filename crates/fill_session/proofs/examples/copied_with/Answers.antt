@@ -13,5 +13,5 @@ returns c =
     let e : Example = example c.args.row c.args.text.now in
     let put : c.push.new.self ≡ c.push_copies.new.to ++ e ∷ [] =
     c.in_ok-push.ensures.ok ∙ ap (λ (text : List ℕ). c.push_copies.new.to ++ example c.args.row text ∷ []) c.in_ok-copy.ensures in
-    assembled c.new-made.result c.push_copies.new.to c.push.new.self c.push_copies-2.new.to xs b t e c.new-made.ensures c.in_ok-push_copies.ensures put c.in_ok-push_copies-2.ensures
+    assembled c.in_ok-made.made c.push_copies.new.to c.push.new.self c.push_copies-2.new.to xs b t e c.in_ok-made.ensures c.in_ok-push_copies.ensures put c.in_ok-push_copies-2.ensures
     ∙ rw (c.before-2.ensures.count, c.through.ensures.count) (sym (spliced_with e xs (rises xs c.requires)))

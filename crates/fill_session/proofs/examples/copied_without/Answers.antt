@@ -10,5 +10,5 @@ returns c =
     let xs : List Example = c.args.examples.now in
     let b : ℕ = c.before-2.result in
     let t : ℕ = c.through.result in
-    joined c.new-made.result c.push_copies.new.to c.push_copies-2.new.to xs b t c.new-made.ensures c.in_ok-push_copies.ensures c.in_ok-push_copies-2.ensures
+    joined c.in_ok-made.made c.push_copies.new.to c.push_copies-2.new.to xs b t c.in_ok-made.ensures c.in_ok-push_copies.ensures c.in_ok-push_copies-2.ensures
     ∙ rw (c.before-2.ensures.count, c.through.ensures.count) (sym (spliced_without c.args.row xs (rises xs c.requires)))
