@@ -37,6 +37,17 @@ fn has_keys(alloc: Global, tables: &Tables, expected: &[&[u32]]) -> bool {
     }
 }
 
+/// Whether the table of a file can be added, and the first table has exactly these minimal keys then.
+fn adds_with(alloc: Global, tables: &mut Tables, bytes: &[u8], expected: &[&[u32]]) -> bool {
+    tables.add_table("table.csv", bytes).is_ok() && has_keys(alloc, tables, expected)
+}
+
+/// Whether the table of a file has exactly these minimal keys.
+fn file_has(alloc: Global, bytes: &[u8], expected: &[&[u32]]) -> bool {
+    let mut tables = Tables::new(alloc);
+    adds_with(alloc, &mut tables, bytes, expected)
+}
+
 /// How many minimal keys the first table has, or why they are not listed.
 fn count(alloc: Global, tables: &Tables) -> Result<usize, KeysError> {
     if tables.count() < 1 {
@@ -45,22 +56,18 @@ fn count(alloc: Global, tables: &Tables) -> Result<usize, KeysError> {
     Ok(keys_of(alloc, tables, 1)?.len())
 }
 
-/// The same of the table of a file.
-fn file_count(alloc: Global, bytes: &[u8]) -> Result<usize, KeysError> {
-    let mut tables = Tables::new(alloc);
+/// The same once the table of a file is added.
+fn added_count(alloc: Global, tables: &mut Tables, bytes: &[u8]) -> Result<usize, KeysError> {
     if tables.add_table("table.csv", bytes).is_err() {
         return Err(KeysError::NoMemory);
     }
-    count(alloc, &tables)
+    count(alloc, tables)
 }
 
-/// Whether the table of a file has exactly these minimal keys.
-fn file_has(alloc: Global, bytes: &[u8], expected: &[&[u32]]) -> bool {
+/// The same of the table of a file.
+fn file_count(alloc: Global, bytes: &[u8]) -> Result<usize, KeysError> {
     let mut tables = Tables::new(alloc);
-    if tables.add_table("table.csv", bytes).is_err() {
-        return false;
-    }
-    has_keys(alloc, &tables, expected)
+    added_count(alloc, &mut tables, bytes)
 }
 
 #[test]

@@ -5,25 +5,38 @@ use fill_text::NoMemory;
 use std::alloc::Global;
 use std::test::Fail;
 
-/// Whether a file's first records, no more than `most`, have these fields.
-fn reads_as(alloc: Global, bytes: &[u8], most: usize, expected: &[&[&[u8]]]) -> bool {
-    let Ok(records) = read_records(alloc, bytes, most) else {
-        return false;
-    };
-    if records.len() != expected.len() {
+/// Whether the record has these fields.
+fn has_fields(record: &Record, fields: &[&[u8]]) -> bool {
+    if record.len() != fields.len() {
         return false;
     }
-    for (record, fields) in records.as_slice().iter().zip(expected) {
-        if record.len() != fields.len() {
+    for (i, field) in fields.iter().enumerate() {
+        if record.get(i) != Some(*field) {
             return false;
-        }
-        for (i, field) in fields.iter().enumerate() {
-            if record.get(i) != Some(*field) {
-                return false;
-            }
         }
     }
     true
+}
+
+/// Whether the records have these fields.
+fn are(records: &[Record], expected: &[&[&[u8]]]) -> bool {
+    if records.len() != expected.len() {
+        return false;
+    }
+    for (record, fields) in records.iter().zip(expected) {
+        if !has_fields(record, fields) {
+            return false;
+        }
+    }
+    true
+}
+
+/// Whether a file's first records, no more than `most`, have these fields.
+fn reads_as(alloc: Global, bytes: &[u8], most: usize, expected: &[&[&[u8]]]) -> bool {
+    match read_records(alloc, bytes, most) {
+        Ok(records) => are(records.as_slice(), expected),
+        Err(_) => false,
+    }
 }
 
 #[test]
@@ -44,6 +57,38 @@ fn files_without_records(rt: HostRuntime) {
     assert!(rt; reads_as(alloc, b"\r\n\n", 10, &[]));
 }
 
+/// A file whose last two records have a field that is no UTF-8.
+const BAD: &[u8] = b"a,b\n\xff,b\na,b,\xc3\n";
+
+/// What is asked of records.
+#[derive(Clone, Copy)]
+enum Asked {
+    /// Whether the first one has `a` and `b`, and nothing behind them.
+    Fields,
+    /// Whether the first fields of three records that are no UTF-8 are found, by columns.
+    FirstBad,
+    /// Whether the first one's second field is the text `b`.
+    Text,
+}
+
+/// Whether what is asked of records is so.
+fn is_so(alloc: Global, records: &[Record], asked: Asked) -> Result<bool, NoMemory> {
+    let Some(first) = records.first() else {
+        return Ok(false);
+    };
+    match asked {
+        Asked::Fields => Ok(is_a_and_b(first)),
+        Asked::FirstBad => Ok(are_first(records)),
+        Asked::Text => second_is(alloc, first, &['b']),
+    }
+}
+
+/// The same of a file's first records, no more than `most`.
+fn holds(alloc: Global, bytes: &[u8], most: usize, asked: Asked) -> Result<bool, NoMemory> {
+    let records = read_records(alloc, bytes, most)?;
+    is_so(alloc, records.as_slice(), asked)
+}
+
 /// Whether the record is of `a` and `b`, and has nothing behind them.
 fn is_a_and_b(record: &Record) -> bool {
     record.field(1) == b"a".as_slice()
@@ -53,10 +98,9 @@ fn is_a_and_b(record: &Record) -> bool {
 }
 
 #[test]
-fn fields_by_column(rt: HostRuntime) {
-    let records = read_records(rt.alloc(), b"a,b\n", 1).expect(&rt, "memory");
-    let record = records.as_slice().first().expect(&rt, "a record");
-    assert!(rt; is_a_and_b(record));
+fn fields_by_column(rt: HostRuntime) -> Result<(), Fail> {
+    assert!(rt; holds(rt.alloc(), b"a,b\n", 1, Asked::Fields)?);
+    Ok(())
 }
 
 /// Whether this is the first of the columns whose field is no UTF-8, and all fields are just if this says so.
@@ -64,6 +108,32 @@ fn is_found(record: &Record, columns: &[u32], bad: Option<u32>, all: bool) -> bo
     requires { All (λ column. 0 < column) columns.now }
 {
     record.bad_column(columns) == bad && record.is_text() == all
+}
+
+/// The same of the record at this place, from 0.
+fn is_found_at(
+    records: &[Record],
+    place: usize,
+    columns: &[u32],
+    bad: Option<u32>,
+    all: bool,
+) -> bool
+    requires { All (λ column. 0 < column) columns.now }
+{
+    match records.get(place) {
+        Some(record) => is_found(record, columns, bad, all),
+        None => false,
+    }
+}
+
+/// The same in the file with fields that are no UTF-8.
+fn finds(alloc: Global, place: usize, columns: &[u32], bad: Option<u32>, all: bool) -> bool
+    requires { All (λ column. 0 < column) columns.now }
+{
+    match read_records(alloc, BAD, 3) {
+        Ok(records) => is_found_at(records.as_slice(), place, columns, bad, all),
+        Err(_) => false,
+    }
 }
 
 /// Whether the first fields of three records that are no UTF-8 are found, by columns.
@@ -76,18 +146,15 @@ fn are_first(records: &[Record]) -> bool {
 
 #[test]
 fn fields_that_are_not_utf8(rt: HostRuntime) -> Result<(), Fail> {
-    let records = read_records(rt.alloc(), b"a,b\n\xff,b\na,b,\xc3\n", 3)?;
-    let records = records.as_slice();
-    for (i, columns, bad, all) in [
+    for (place, columns, bad, all) in [
         (0, [1, 2, 4], None, true),
         (1, [3, 2, 1], Some(1), false),
         (1, [2, 3, 4], None, false),
         (2, [1, 3, 2], Some(3), false),
     ] {
-        let record = records.get(i).expect(&rt, "a record");
-        assert!(rt; is_found(record, &columns, bad, all), "{i}");
+        assert!(rt; finds(rt.alloc(), place, &columns, bad, all), "{place}");
     }
-    assert!(rt; are_first(records));
+    assert!(rt; holds(rt.alloc(), BAD, 3, Asked::FirstBad)?);
     Ok(())
 }
 
@@ -102,10 +169,8 @@ fn second_is(alloc: Global, record: &Record, expected: &[char]) -> Result<bool, 
 
 #[test]
 fn fields_as_texts(rt: HostRuntime) -> Result<(), Fail> {
-    let records = read_records(rt.alloc(), b"a,b\n\xff,b\na,b,\xc3\n", 3)?;
-    let record = records.as_slice().first().expect(&rt, "a record");
-    assert!(rt; second_is(rt.alloc(), record, &['b'])?);
     records_are_few(b"a");
+    assert!(rt; holds(rt.alloc(), BAD, 3, Asked::Text)?);
     Ok(())
 }
 

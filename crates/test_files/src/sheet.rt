@@ -1,3 +1,5 @@
+ghost use Rattle.fill_sheet.specs.Columns.{AreInputs, IsOutput};
+
 use fill_sheet::*;
 use fill_text::{List, NoMemory, Text};
 use std::alloc::Global;
@@ -40,97 +42,181 @@ fn has_given(sheet: &Sheet, row: u32, expected: Option<&str>) -> bool {
     }
 }
 
+/// Why a file gives no sheet; none where it gives one.
+fn refusal(
+    alloc: Global,
+    bytes: &[u8],
+    header: bool,
+    inputs: &[u32],
+    output: Option<u32>,
+) -> Option<SheetError>
+    requires inputs { AreInputs inputs.now }
+    requires output { IsOutput inputs.now output }
+{
+    Sheet::read(alloc, bytes, header, inputs, output).err()
+}
+
 #[test]
 fn the_first_bad_field_refuses(rt: HostRuntime) {
     let alloc = rt.alloc();
-    let refused = Sheet::read(alloc, b"a\n\xff\n", false, &[1], None).err();
-    assert_eq!(rt;
-        refused,
-        Some(SheetError::NotUtf8 {
-            number: 2,
-            column: 1
-        })
-    );
+    let alone = SheetError::NotUtf8 {
+        number: 2,
+        column: 1,
+    };
+    assert!(rt; refusal(alloc, b"a\n\xff\n", false, &[1], None) == Some(alone));
     let bytes = b"\xff,\xff,\xff\na,\xff,\xff,\xff\n\xff";
-    let refused = Sheet::read(alloc, bytes, true, &[4], Some(3)).err();
-    assert_eq!(rt;
-        refused,
-        Some(SheetError::NotUtf8 {
-            number: 2,
-            column: 3
-        })
-    );
+    let first = SheetError::NotUtf8 {
+        number: 2,
+        column: 3,
+    };
+    assert!(rt; refusal(alloc, bytes, true, &[4], Some(3)) == Some(first));
+}
+
+/// What a sheet is to be.
+#[derive(Clone, Copy)]
+enum Asked {
+    /// Two rows of two input columns, under a header.
+    Header,
+    /// Two rows of one input column, and nothing given.
+    Bare,
+    /// So many rows.
+    Rows(u32),
+}
+
+/// Whether the sheet has two rows of the input columns 1 and 4, and a text given to the first one alone.
+fn has_two_inputs(sheet: &Sheet) -> bool {
+    sheet.rows() == 2
+        && sheet.inputs() == [1, 4].as_slice()
+        && has_cells(sheet, 1, &["Smith, John", ""])
+        && has_given(sheet, 1, Some("Smith"))
+        && has_cells(sheet, 2, &["\u{c9}tienne", ""])
+        && has_given(sheet, 2, None)
+}
+
+/// Whether the sheet has two rows of one input column, and nothing given to the second one.
+fn has_one_input(sheet: &Sheet) -> bool {
+    sheet.rows() == 2
+        && has_cells(sheet, 1, &["1"])
+        && has_cells(sheet, 2, &["2"])
+        && has_given(sheet, 2, None)
+}
+
+/// Whether the sheet is as it is to be.
+fn is_so(sheet: &Sheet, asked: Asked) -> bool {
+    match asked {
+        Asked::Header => has_two_inputs(sheet),
+        Asked::Bare => has_one_input(sheet),
+        Asked::Rows(rows) => sheet.rows() == rows,
+    }
+}
+
+/// Whether a file gives a sheet that is as it is to be.
+fn gives(
+    alloc: Global,
+    bytes: &[u8],
+    header: bool,
+    inputs: &[u32],
+    output: Option<u32>,
+    asked: Asked,
+) -> bool
+    requires inputs { AreInputs inputs.now }
+    requires output { IsOutput inputs.now output }
+{
+    match Sheet::read(alloc, bytes, header, inputs, output) {
+        Ok(sheet) => is_so(&sheet, asked),
+        Err(_) => false,
+    }
 }
 
 #[test]
-fn a_sheet_with_a_header(rt: HostRuntime) -> Result<(), Fail> {
+fn a_sheet_with_a_header(rt: HostRuntime) {
     let bytes = b"\xef\xbb\xbfName,\xff,Last\r\n\"Smith, John\",\xff,Smith\r\n\xc3\x89tienne,,";
-    let sheet = Sheet::read(rt.alloc(), bytes, true, &[4, 1], Some(3))?;
-    assert_eq!(rt; sheet.rows(), 2);
-    assert_eq!(rt; sheet.inputs(), [1, 4].as_slice());
-    assert!(rt; has_cells(&sheet, 1, &["Smith, John", ""]));
-    assert!(rt; has_given(&sheet, 1, Some("Smith")));
-    assert!(rt; has_cells(&sheet, 2, &["\u{c9}tienne", ""]));
-    assert!(rt; has_given(&sheet, 2, None));
-    Ok(())
+    assert!(rt; gives(rt.alloc(), bytes, true, &[4, 1], Some(3), Asked::Header));
 }
 
 #[test]
-fn a_sheet_without_a_header(rt: HostRuntime) -> Result<(), Fail> {
-    let alloc = rt.alloc();
-    let sheet = Sheet::read(alloc, b"\xef\xbb\xbf1,one\n2,two\n", false, &[1], None)?;
-    assert_eq!(rt; sheet.rows(), 2);
-    assert!(rt; has_cells(&sheet, 1, &["1"]));
-    assert!(rt; has_cells(&sheet, 2, &["2"]));
-    assert!(rt; has_given(&sheet, 2, None));
-    assert_eq!(rt; Sheet::read(alloc, b"", true, &[1], None)?.rows(), 0);
-    Ok(())
+fn a_sheet_without_a_header(rt: HostRuntime) {
+    let bytes = b"\xef\xbb\xbf1,one\n2,two\n";
+    assert!(rt; gives(rt.alloc(), bytes, false, &[1], None, Asked::Bare));
+    assert!(rt; gives(rt.alloc(), b"", true, &[1], None, Asked::Rows(0)));
+}
+
+/// Whether 20000 records of one field are a sheet, and one more of no UTF-8 is too many.
+fn takes_20000_records(alloc: Global, bytes: &mut List<u8>) -> Result<bool, NoMemory> {
+    for _ in 0..20000 {
+        bytes.append(b"a\n")?;
+    }
+    if !gives(
+        alloc,
+        bytes.as_slice(),
+        false,
+        &[1],
+        None,
+        Asked::Rows(20000),
+    ) {
+        return Ok(false);
+    }
+    bytes.append(b"\xff")?;
+    let many = SheetError::TooManyRows { limit: 20000 };
+    Ok(refusal(alloc, bytes.as_slice(), true, &[1], None) == Some(many))
+}
+
+/// The same from an empty list on.
+fn takes_at_most_20000(alloc: Global) -> Result<bool, NoMemory> {
+    let mut bytes = List::new(alloc);
+    takes_20000_records(alloc, &mut bytes)
 }
 
 #[test]
 fn a_sheet_has_at_most_20000_records(rt: HostRuntime) -> Result<(), Fail> {
-    let alloc = rt.alloc();
-    let mut bytes: List<u8> = List::new(alloc);
-    for _ in 0..20000 {
-        bytes.append(b"a\n")?;
-    }
-    assert_eq!(rt;
-        Sheet::read(alloc, bytes.as_slice(), false, &[1], None)?.rows(),
-        20000
-    );
-    bytes.append(b"\xff")?;
-    let refused = Sheet::read(alloc, bytes.as_slice(), true, &[1], None).err();
-    assert_eq!(rt; refused, Some(SheetError::TooManyRows { limit: 20000 }));
+    assert!(rt; takes_at_most_20000(rt.alloc())?);
     Ok(())
 }
 
 /// A list of these bytes.
 fn list(alloc: Global, bytes: &[u8]) -> Result<List<u8>, NoMemory> {
-    let mut list = List::new(alloc);
-    list.append(bytes)?;
-    Ok(list)
+    Ok(List::from_vec(bytes.to_vec(alloc)?))
 }
 
-/// What a record of two fields is written as, after an `x`.
-fn written(alloc: Global, first: &[u8], second: &[u8]) -> Result<List<u8>, NoMemory> {
-    let mut fields = List::new(alloc);
+/// Puts two fields at the end of the fields.
+fn put_two(
+    alloc: Global,
+    fields: &mut List<List<u8>>,
+    first: &[u8],
+    second: &[u8],
+) -> Result<(), NoMemory> {
     fields.push(list(alloc, first)?)?;
-    fields.push(list(alloc, second)?)?;
-    let mut to = list(alloc, b"x")?;
-    put_record(alloc, &mut to, &fields)?;
-    Ok(to)
+    fields.push(list(alloc, second)?)
+}
+
+/// Writes an `x` and a record of two fields into empty lists, and tells whether this is written.
+fn writes(
+    alloc: Global,
+    to: &mut List<u8>,
+    fields: &mut List<List<u8>>,
+    first: &[u8],
+    second: &[u8],
+    record: &[u8],
+) -> Result<bool, NoMemory> {
+    to.append(b"x")?;
+    put_two(alloc, fields, first, second)?;
+    if fields.len() != 2 {
+        return Ok(false);
+    }
+    put_record(alloc, to, fields)?;
+    Ok(to.as_slice() == record)
+}
+
+/// Whether a record of two fields is written as this, after an `x`.
+fn is_written(alloc: Global, first: &[u8], second: &[u8], record: &[u8]) -> Result<bool, NoMemory> {
+    let mut to = List::new(alloc);
+    let mut fields = List::new(alloc);
+    writes(alloc, &mut to, &mut fields, first, second, record)
 }
 
 #[test]
 fn records_of_reports(rt: HostRuntime) -> Result<(), Fail> {
-    let alloc = rt.alloc();
-    assert_eq!(rt;
-        written(alloc, b"a,b", b"c")?.as_slice(),
-        b"x\"a,b\",c\n".as_slice()
-    );
-    assert_eq!(rt;
-        written(alloc, b"", b"\"\n")?.as_slice(),
-        b"x,\"\"\"\n\"\n".as_slice()
-    );
+    assert!(rt; is_written(rt.alloc(), b"a,b", b"c", b"x\"a,b\",c\n")?);
+    assert!(rt; is_written(rt.alloc(), b"", b"\"\n", b"x,\"\"\"\n\"\n")?);
     Ok(())
 }

@@ -1,5 +1,5 @@
 use fill_tables::*;
-use fill_text::{List, Text};
+use fill_text::{List, NoMemory, Text};
 use std::alloc::Global;
 use std::test::Fail;
 
@@ -15,201 +15,156 @@ fn is(text: &Text, expected: &str) -> bool {
     i == text.len()
 }
 
-/// Whether a table has a row of these cells.
-fn has_row(tables: &Tables, table: u32, row: u32, expected: &[&str]) -> bool {
-    if table < 1 || table > tables.count() || row < 1 || row > tables.rows(table) {
+/// Whether the first table has a row of these cells.
+fn has_row(tables: &Tables, row: u32, expected: &[&str]) -> bool {
+    if tables.count() < 1 || row < 1 || row > tables.rows(1) {
         return false;
     }
-    if tables.width(table) as usize != expected.len() || expected.len() > 1000 {
+    if tables.width(1) as usize != expected.len() || expected.len() > 1000 {
         return false;
     }
     for (i, text) in expected.iter().enumerate() {
         let column = i as u32 + 1;
-        if column > tables.width(table) || !is(tables.cell(table, row, column), text) {
+        if column > tables.width(1) || !is(tables.cell(1, row, column), text) {
             return false;
         }
     }
     true
 }
 
-/// A list of these texts.
-fn texts(alloc: Global, all: &[&str]) -> Result<List<Text>, Fail> {
-    let mut list = List::new(alloc);
-    for text in all {
-        list.push(Text::from_utf8(alloc, text.as_bytes())?)?;
+/// The text of these characters.
+fn text_of(alloc: Global, characters: &str) -> Result<Text, NoMemory> {
+    match Text::from_utf8(alloc, characters.as_bytes()) {
+        Ok(text) => Ok(text),
+        Err(_) => Err(NoMemory),
     }
-    Ok(list)
 }
 
-/// What a key finds, by cells that it is given and by the same ones lent as slices; 0 where the two differ.
-fn found(
-    tables: &Tables,
-    alloc: Global,
-    table: u32,
-    key: u32,
-    cells: &[&str],
-) -> Result<Option<u32>, Fail> {
-    if table < 1 || table > tables.count() || key < 1 || key > tables.keys(table) {
-        return Ok(None);
-    }
-    let owned = texts(alloc, cells)?;
+/// The same texts, lent as slices.
+fn slices<'a>(alloc: Global, texts: &'a [Text]) -> Result<Vec<&'a [char]>, NoMemory> {
     let mut lent: Vec<&[char]> = Vec::new(alloc);
-    for text in owned.as_slice() {
+    for text in texts {
         lent.push(text.as_slice())?;
     }
-    let found = tables.find(table, key, &owned);
-    if tables.find_slices(table, key, &lent) == found {
-        Ok(found)
-    } else {
-        Ok(Some(0))
-    }
+    Ok(lent)
 }
 
-/// Whether a key has these columns.
-fn has_key(tables: &Tables, table: u32, key: u32, expected: &[u32]) -> bool {
-    if table < 1 || table > tables.count() || key < 1 || key > tables.keys(table) {
+/// Whether a key of the first table finds this row, by cells that it is given and by the same ones lent as slices.
+fn finds_by(
+    tables: &Tables,
+    key: u32,
+    cells: &List<Text>,
+    lent: &[&[char]],
+    row: Option<u32>,
+) -> bool {
+    if tables.count() < 1 || key < 1 || key > tables.keys(1) {
         return false;
     }
-    tables.key(table, key) == expected
+    tables.find(1, key, cells) == row && tables.find_slices(1, key, lent) == row
+}
+
+/// The same by cells that are lent here.
+fn finds_lent(
+    alloc: Global,
+    tables: &Tables,
+    key: u32,
+    cells: &List<Text>,
+    row: Option<u32>,
+) -> Result<bool, NoMemory> {
+    let lent = slices(alloc, cells.as_slice())?;
+    Ok(finds_by(tables, key, cells, &lent, row))
+}
+
+/// The same by the texts of the list and these, which are put behind them.
+fn finds_among(
+    alloc: Global,
+    tables: &Tables,
+    key: u32,
+    list: &mut List<Text>,
+    cells: &[&str],
+    row: Option<u32>,
+) -> Result<bool, NoMemory> {
+    for cell in cells {
+        list.push(text_of(alloc, cell)?)?;
+    }
+    finds_lent(alloc, tables, key, list, row)
+}
+
+/// The same by these cells.
+fn finds(
+    alloc: Global,
+    tables: &Tables,
+    key: u32,
+    cells: &[&str],
+    row: Option<u32>,
+) -> Result<bool, NoMemory> {
+    let mut list = List::new(alloc);
+    finds_among(alloc, tables, key, &mut list, cells, row)
+}
+
+/// Whether a key of the first table has these columns.
+fn has_key(tables: &Tables, key: u32, expected: &[u32]) -> bool {
+    if tables.count() < 1 || key < 1 || key > tables.keys(1) {
+        return false;
+    }
+    tables.key(1, key) == expected
 }
 
 /// Prices by item and month.
 const PRICES: &[u8] =
     b"\xef\xbb\xbfItem,Date,\"Price, in $\"\r\nStroller,10/2010,145.67\r\nStroller,11/2010\r\n\"Bib\n\"\"x\"\"\",10/2010,3.56";
 
-#[test]
-fn rows_of_a_table(rt: HostRuntime) -> Result<(), Fail> {
-    let mut tables = Tables::new(rt.alloc());
-    tables.add_table("prices", PRICES)?;
-    assert!(rt; tables.count() == 1);
-    assert!(rt; tables.rows(1) == 4 && tables.width(1) == 3);
-    for (row, cells) in [
-        (1, ["Item", "Date", "Price, in $"]),
-        (2, ["Stroller", "10/2010", "145.67"]),
-        (3, ["Stroller", "11/2010", ""]),
-        (4, ["Bib\n\"x\"", "10/2010", "3.56"]),
-    ] {
-        assert!(rt; has_row(&tables, 1, row, &cells), "{row}");
+/// Rows with three kinds of line ends.
+const LINES: &[u8] = b"a,b,c\rd,b,c\na,b,e\r\na,f,c";
+
+/// What is to be done with tables, from none on.
+#[derive(Clone, Copy)]
+enum Task<'a> {
+    /// To have so many rows and columns of a file.
+    Size(&'a [u8], u32, u32),
+    /// To have this row of these cells of a file.
+    Row(&'a [u8], u32, &'a [&'a str]),
+    /// To find this row of the prices, or none, by the key of this number for the cells.
+    Find(u32, &'a [&'a str], Option<u32>),
+    /// The same by a key of all columns.
+    FindWhole(&'a [&'a str], Option<u32>),
+    /// To refuse keys that are none.
+    RefuseKeys,
+    /// To tell the first rows that agree in a key.
+    FirstRows,
+    /// To have no more tables than they can, each under a name of its own.
+    Names,
+    /// To have no more keys than they can.
+    FiveKeys,
+    /// To have no more records than they can.
+    Records,
+    /// To read a thousand fields of a record.
+    Fields,
+    /// To tell the first field that is no UTF-8.
+    BadField,
+}
+
+/// Whether it is done with the tables.
+fn are_done(alloc: Global, tables: &mut Tables, task: Task) -> Result<bool, NoMemory> {
+    match task {
+        Task::Size(bytes, rows, width) => Ok(adds_size(tables, bytes, rows, width)),
+        Task::Row(bytes, row, cells) => Ok(adds_row(tables, bytes, row, cells)),
+        Task::Find(key, cells, row) => finds_price(alloc, tables, key, cells, row),
+        Task::FindWhole(cells, row) => finds_whole(alloc, tables, cells, row),
+        Task::RefuseKeys => Ok(refuses_keys(tables)),
+        Task::FirstRows => Ok(tells_first_rows(tables)),
+        Task::Names => Ok(has_names(tables)),
+        Task::FiveKeys => Ok(has_four_keys(tables)),
+        Task::Records => has_few_records(alloc, tables),
+        Task::Fields => has_few_fields(alloc, tables),
+        Task::BadField => Ok(tells_bad_field(tables)),
     }
-    Ok(())
 }
 
-/// Whether a key of one column comes to this.
-fn key_comes_to(tables: &mut Tables, name: &str, column: u32, reason: Option<TableError>) -> bool {
-    if column == 0 {
-        return false;
-    }
-    tables.add_key(name, &[column]).err() == reason
-}
-
-/// Whether the first table has no key, though its first two columns are one.
-fn has_no_key(tables: &Tables) -> bool {
-    tables.count() == 1
-        && tables.keys(1) == 0
-        && !tables.is_key(1, &[1])
-        && tables.is_key(1, &[1, 2])
-}
-
-#[test]
-fn keys_that_are_refused(rt: HostRuntime) -> Result<(), Fail> {
-    let mut tables = Tables::new(rt.alloc());
-    tables.add_table("prices", PRICES)?;
-    for (name, column, reason) in [
-        ("prices", 4, TableError::NoSuchColumn { columns: 3 }),
-        ("costs", 1, TableError::NoSuchTable),
-        ("prices", 1, TableError::NotAKey { row1: 2, row2: 3 }),
-        ("prices", 2, TableError::NotAKey { row1: 2, row2: 4 }),
-    ] {
-        assert!(rt;
-            key_comes_to(&mut tables, name, column, Some(reason)),
-            "{column}"
-        );
-    }
-    assert!(rt; has_no_key(&tables));
-    Ok(())
-}
-
-#[test]
-fn the_first_rows_that_agree(rt: HostRuntime) -> Result<(), Fail> {
-    let mut tables = Tables::new(rt.alloc());
-    tables.add_table("letters", b"b\na\nc\na\nb\na\n")?;
-    let reason = TableError::NotAKey { row1: 2, row2: 4 };
-    assert!(rt; key_comes_to(&mut tables, "letters", 1, Some(reason)));
-    Ok(())
-}
-
-/// The table of prices with a key of two columns and one of one.
-fn keyed_prices(alloc: Global) -> Result<Tables, Fail> {
+/// Whether it is done from no table on.
+fn done(alloc: Global, task: Task) -> Result<bool, NoMemory> {
     let mut tables = Tables::new(alloc);
-    tables.add_table("prices", PRICES)?;
-    tables.add_key("prices", &[2, 1])?;
-    tables.add_key("prices", &[3])?;
-    Ok(tables)
-}
-
-/// What a key of the first table is to find for the cells.
-type Wanted<'a> = (u32, &'a [&'a str], Option<u32>);
-
-/// Whether the keys of the first table find these rows.
-fn all_found(tables: &Tables, alloc: Global, wanted: &[Wanted]) -> Result<bool, Fail> {
-    for i in 0..wanted.len() {
-        let (key, cells, row) = wanted[i];
-        if found(tables, alloc, 1, key, cells)? != row {
-            return Ok(false);
-        }
-    }
-    Ok(true)
-}
-
-#[test]
-fn rows_by_their_keys(rt: HostRuntime) -> Result<(), Fail> {
-    let tables = keyed_prices(rt.alloc())?;
-    assert!(rt; has_key(&tables, 1, 1, &[2, 1]) && has_key(&tables, 1, 2, &[3]));
-    let wanted = [
-        (1, ["11/2010", "Stroller"].as_slice(), Some(3)),
-        (1, ["10/2010", "Stroller"].as_slice(), Some(2)),
-        (1, ["11/2010", "Bib"].as_slice(), None),
-        (1, ["11/2010"].as_slice(), None),
-        (1, ["11/2010", "Stroller", "", ""].as_slice(), None),
-        (2, ["3.56"].as_slice(), Some(4)),
-    ];
-    assert!(rt; all_found(&tables, rt.alloc(), &wanted)?);
-    Ok(())
-}
-
-#[test]
-fn each_line_end_ends_a_row(rt: HostRuntime) -> Result<(), Fail> {
-    let mut tables = Tables::new(rt.alloc());
-    tables.add_table("t", b"a,b,c\rd,b,c\na,b,e\r\na,f,c")?;
-    assert!(rt; tables.count() == 1 && tables.rows(1) == 4);
-    for (row, cells) in [
-        (1, ["a", "b", "c"]),
-        (2, ["d", "b", "c"]),
-        (3, ["a", "b", "e"]),
-        (4, ["a", "f", "c"]),
-    ] {
-        assert!(rt; has_row(&tables, 1, row, &cells), "{row}");
-    }
-    Ok(())
-}
-
-/// A table with a key of all its columns.
-fn wholly_keyed(alloc: Global) -> Result<Tables, Fail> {
-    let mut tables = Tables::new(alloc);
-    tables.add_table("t", b"a,b,c\rd,b,c\na,b,e\r\na,f,c")?;
-    tables.add_key("t", &[3, 1, 2])?;
-    Ok(tables)
-}
-
-#[test]
-fn rows_by_all_their_columns(rt: HostRuntime) -> Result<(), Fail> {
-    let tables = wholly_keyed(rt.alloc())?;
-    let wanted = [
-        (1, ["e", "a", "b"].as_slice(), Some(3)),
-        (1, ["e", "d", "b"].as_slice(), None),
-    ];
-    assert!(rt; all_found(&tables, rt.alloc(), &wanted)?);
-    Ok(())
+    are_done(alloc, &mut tables, task)
 }
 
 /// Whether adding a table comes to this.
@@ -222,9 +177,163 @@ fn table_comes_to(
     tables.add_table(name, bytes).err() == reason
 }
 
+/// Whether a key of one column comes to this.
+fn key_comes_to(tables: &mut Tables, name: &str, column: u32, reason: Option<TableError>) -> bool {
+    if column == 0 {
+        return false;
+    }
+    tables.add_key(name, &[column]).err() == reason
+}
+
+/// Whether there is one table, of so many rows and columns.
+fn has_size(tables: &Tables, rows: u32, width: u32) -> bool {
+    tables.count() == 1 && tables.rows(1) == rows && tables.width(1) == width
+}
+
+/// Whether a file is one table of so many rows and columns.
+fn adds_size(tables: &mut Tables, bytes: &[u8], rows: u32, width: u32) -> bool {
+    table_comes_to(tables, "t", bytes, None) && has_size(tables, rows, width)
+}
+
+/// Whether a file is a table with this row of these cells.
+fn adds_row(tables: &mut Tables, bytes: &[u8], row: u32, cells: &[&str]) -> bool {
+    table_comes_to(tables, "t", bytes, None) && has_row(tables, row, cells)
+}
+
 #[test]
-fn names_of_tables(rt: HostRuntime) -> Result<(), Fail> {
-    let mut tables = Tables::new(rt.alloc());
+fn rows_of_a_table(rt: HostRuntime) -> Result<(), Fail> {
+    assert!(rt; done(rt.alloc(), Task::Size(PRICES, 4, 3))?);
+    for (row, cells) in [
+        (1, ["Item", "Date", "Price, in $"]),
+        (2, ["Stroller", "10/2010", "145.67"]),
+        (3, ["Stroller", "11/2010", ""]),
+        (4, ["Bib\n\"x\"", "10/2010", "3.56"]),
+    ] {
+        assert!(rt; done(rt.alloc(), Task::Row(PRICES, row, &cells))?, "{row}");
+    }
+    Ok(())
+}
+
+/// Whether the first table has no key, though its first two columns are one.
+fn has_no_key(tables: &Tables) -> bool {
+    tables.count() == 1
+        && tables.keys(1) == 0
+        && !tables.is_key(1, &[1])
+        && tables.is_key(1, &[1, 2])
+}
+
+/// Whether keys of the prices that are none are refused.
+fn refuses_keys(tables: &mut Tables) -> bool {
+    if !table_comes_to(tables, "prices", PRICES, None) {
+        return false;
+    }
+    for (name, column, reason) in [
+        ("prices", 4, TableError::NoSuchColumn { columns: 3 }),
+        ("costs", 1, TableError::NoSuchTable),
+        ("prices", 1, TableError::NotAKey { row1: 2, row2: 3 }),
+        ("prices", 2, TableError::NotAKey { row1: 2, row2: 4 }),
+    ] {
+        if !key_comes_to(tables, name, column, Some(reason)) {
+            return false;
+        }
+    }
+    has_no_key(tables)
+}
+
+#[test]
+fn keys_that_are_refused(rt: HostRuntime) -> Result<(), Fail> {
+    assert!(rt; done(rt.alloc(), Task::RefuseKeys)?);
+    Ok(())
+}
+
+/// Whether of several rows that agree in a key the first ones are told.
+fn tells_first_rows(tables: &mut Tables) -> bool {
+    let reason = TableError::NotAKey { row1: 2, row2: 4 };
+    table_comes_to(tables, "letters", b"b\na\nc\na\nb\na\n", None)
+        && key_comes_to(tables, "letters", 1, Some(reason))
+}
+
+#[test]
+fn the_first_rows_that_agree(rt: HostRuntime) -> Result<(), Fail> {
+    assert!(rt; done(rt.alloc(), Task::FirstRows)?);
+    Ok(())
+}
+
+/// Whether the prices are added with a key of two columns and one of one.
+fn adds_keyed_prices(tables: &mut Tables) -> bool {
+    table_comes_to(tables, "prices", PRICES, None)
+        && tables.add_key("prices", &[2, 1]).is_ok()
+        && tables.add_key("prices", &[3]).is_ok()
+        && has_key(tables, 1, &[2, 1])
+        && has_key(tables, 2, &[3])
+}
+
+/// Whether a key of the prices finds this row.
+fn finds_price(
+    alloc: Global,
+    tables: &mut Tables,
+    key: u32,
+    cells: &[&str],
+    row: Option<u32>,
+) -> Result<bool, NoMemory> {
+    if !adds_keyed_prices(tables) {
+        return Ok(false);
+    }
+    finds(alloc, tables, key, cells, row)
+}
+
+#[test]
+fn rows_by_their_keys(rt: HostRuntime) -> Result<(), Fail> {
+    for (key, cells, row) in [
+        (1, ["11/2010", "Stroller"].as_slice(), Some(3)),
+        (1, ["10/2010", "Stroller"].as_slice(), Some(2)),
+        (1, ["11/2010", "Bib"].as_slice(), None),
+        (1, ["11/2010"].as_slice(), None),
+        (1, ["11/2010", "Stroller", "", ""].as_slice(), None),
+        (2, ["3.56"].as_slice(), Some(4)),
+    ] {
+        assert!(rt; done(rt.alloc(), Task::Find(key, cells, row))?);
+    }
+    Ok(())
+}
+
+#[test]
+fn each_line_end_ends_a_row(rt: HostRuntime) -> Result<(), Fail> {
+    assert!(rt; done(rt.alloc(), Task::Size(LINES, 4, 3))?);
+    for (row, cells) in [
+        (1, ["a", "b", "c"]),
+        (2, ["d", "b", "c"]),
+        (3, ["a", "b", "e"]),
+        (4, ["a", "f", "c"]),
+    ] {
+        assert!(rt; done(rt.alloc(), Task::Row(LINES, row, &cells))?, "{row}");
+    }
+    Ok(())
+}
+
+/// Whether a key of all columns finds this row.
+fn finds_whole(
+    alloc: Global,
+    tables: &mut Tables,
+    cells: &[&str],
+    row: Option<u32>,
+) -> Result<bool, NoMemory> {
+    if !table_comes_to(tables, "t", LINES, None) || tables.add_key("t", &[3, 1, 2]).is_err() {
+        return Ok(false);
+    }
+    finds(alloc, tables, 1, cells, row)
+}
+
+#[test]
+fn rows_by_all_their_columns(rt: HostRuntime) -> Result<(), Fail> {
+    for (cells, row) in [(["e", "a", "b"], Some(3)), (["e", "d", "b"], None)] {
+        assert!(rt; done(rt.alloc(), Task::FindWhole(&cells, row))?);
+    }
+    Ok(())
+}
+
+/// Whether eight tables are added, each under a name of its own.
+fn has_names(tables: &mut Tables) -> bool {
     let again = TableError::SameName { first: 2 };
     let ninth = TableError::TooManyTables { limit: 8 };
     for (name, lines, reason) in [
@@ -239,70 +348,87 @@ fn names_of_tables(rt: HostRuntime) -> Result<(), Fail> {
         ("f", b"1\n1\n", None),
         ("prices", b"", Some(ninth)),
     ] {
-        assert!(rt; table_comes_to(&mut tables, name, lines, reason), "{name}");
+        if !table_comes_to(tables, name, lines, reason) {
+            return false;
+        }
     }
-    assert!(rt; tables.count() == 8 && tables.rows(2) == 0 && tables.width(2) == 0);
+    tables.count() == 8 && tables.rows(2) == 0 && tables.width(2) == 0
+}
+
+#[test]
+fn names_of_tables(rt: HostRuntime) -> Result<(), Fail> {
+    assert!(rt; done(rt.alloc(), Task::Names)?);
     Ok(())
+}
+
+/// Whether a table has four keys, and no fifth one.
+fn has_four_keys(tables: &mut Tables) -> bool {
+    if !table_comes_to(tables, "rates", b"1\n", None) {
+        return false;
+    }
+    let fifth = TableError::TooManyKeys { limit: 4 };
+    for reason in [None, None, None, None, Some(fifth)] {
+        if !key_comes_to(tables, "rates", 1, reason) {
+            return false;
+        }
+    }
+    true
 }
 
 #[test]
 fn numbers_of_keys(rt: HostRuntime) -> Result<(), Fail> {
-    let mut tables = Tables::new(rt.alloc());
-    tables.add_table("rates", b"1\n")?;
-    let fifth = TableError::TooManyKeys { limit: 4 };
-    for reason in [None, None, None, None, Some(fifth)] {
-        assert!(rt; key_comes_to(&mut tables, "rates", 1, reason));
-    }
+    assert!(rt; done(rt.alloc(), Task::FiveKeys)?);
     Ok(())
 }
 
-/// A file of this many records of one field.
-fn file(alloc: Global, records: usize) -> Result<List<u8>, Fail> {
-    let mut bytes: List<u8> = List::new(alloc);
-    for _ in 0..records {
+/// Whether a file of 2000 records is taken, and one more of no UTF-8 is too many.
+fn takes_2000_records(tables: &mut Tables, bytes: &mut List<u8>) -> Result<bool, NoMemory> {
+    for _ in 0..2000 {
         bytes.append(b"a\n")?;
     }
-    Ok(bytes)
-}
-
-/// Whether a file of 2000 records is taken, and one more of no UTF-8 is too many.
-fn takes_2000_records(tables: &mut Tables, bytes: &mut List<u8>) -> Result<bool, Fail> {
     if !table_comes_to(tables, "a", bytes.as_slice(), None) {
         return Ok(false);
     }
     bytes.append(b"\xff")?;
     let reason = TableError::TooManyRows { limit: 2000 };
-    Ok(table_comes_to(tables, "b", bytes.as_slice(), Some(reason)))
+    Ok(table_comes_to(tables, "b", bytes.as_slice(), Some(reason)) && has_size(tables, 2000, 1))
+}
+
+/// The same of a file that is made here.
+fn has_few_records(alloc: Global, tables: &mut Tables) -> Result<bool, NoMemory> {
+    let mut bytes = List::new(alloc);
+    takes_2000_records(tables, &mut bytes)
 }
 
 #[test]
 fn a_table_has_at_most_2000_records(rt: HostRuntime) -> Result<(), Fail> {
-    let mut bytes = file(rt.alloc(), 2000)?;
-    let mut tables = Tables::new(rt.alloc());
-    assert!(rt; takes_2000_records(&mut tables, &mut bytes)?);
-    assert!(rt; tables.count() == 1 && tables.rows(1) == 2000);
+    assert!(rt; done(rt.alloc(), Task::Records)?);
     Ok(())
 }
 
-/// A record of this many fields and two more, `b` and one that is no UTF-8.
-fn record(alloc: Global, fields: usize) -> Result<List<u8>, Fail> {
-    let mut bytes: List<u8> = List::new(alloc);
+/// Whether a record of this many fields and two more, `b` and one that is no UTF-8, comes to this.
+fn fields_come_to(
+    tables: &mut Tables,
+    bytes: &mut List<u8>,
+    fields: usize,
+    reason: Option<TableError>,
+) -> Result<bool, NoMemory> {
     for _ in 0..fields {
         bytes.append(b"a,")?;
     }
     bytes.append(b"b,\xff\n")?;
-    Ok(bytes)
+    Ok(table_comes_to(tables, "t", bytes.as_slice(), reason))
 }
 
-/// Whether a record of these fields and two more comes to this.
+/// The same of a record that is made here.
 fn record_comes_to(
-    tables: &mut Tables,
     alloc: Global,
+    tables: &mut Tables,
     fields: usize,
     reason: Option<TableError>,
-) -> Result<bool, Fail> {
-    let bytes = record(alloc, fields)?;
-    Ok(table_comes_to(tables, "t", bytes.as_slice(), reason))
+) -> Result<bool, NoMemory> {
+    let mut bytes = List::new(alloc);
+    fields_come_to(tables, &mut bytes, fields, reason)
 }
 
 /// Whether the first table is one row of a thousand cells, the last of them `b`.
@@ -313,30 +439,37 @@ fn has_1000_columns(tables: &Tables) -> bool {
         && is(tables.cell(1, 1, 1000), "b")
 }
 
-#[test]
-fn fields_past_the_thousandth(rt: HostRuntime) -> Result<(), Fail> {
-    let mut tables = Tables::new(rt.alloc());
+/// Whether the thousandth field of a record is read, and none past it.
+fn has_few_fields(alloc: Global, tables: &mut Tables) -> Result<bool, NoMemory> {
     let last = TableError::NotUtf8 {
         number: 1,
         column: 1000,
     };
     for (fields, reason) in [(998, Some(last)), (999, None)] {
-        assert!(rt;
-            record_comes_to(&mut tables, rt.alloc(), fields, reason)?,
-            "{fields}"
-        );
+        if !record_comes_to(alloc, tables, fields, reason)? {
+            return Ok(false);
+        }
     }
-    assert!(rt; has_1000_columns(&tables));
-    Ok(())
+    Ok(has_1000_columns(tables))
 }
 
 #[test]
-fn the_first_field_that_is_no_utf8(rt: HostRuntime) -> Result<(), Fail> {
-    let mut tables = Tables::new(rt.alloc());
+fn fields_past_the_thousandth(rt: HostRuntime) -> Result<(), Fail> {
+    assert!(rt; done(rt.alloc(), Task::Fields)?);
+    Ok(())
+}
+
+/// Whether of several fields that are no UTF-8 the first one is told.
+fn tells_bad_field(tables: &mut Tables) -> bool {
     let reason = TableError::NotUtf8 {
         number: 2,
         column: 3,
     };
-    assert!(rt; table_comes_to(&mut tables, "c", b"a\nb,c,\xff,\xff\n\xff", Some(reason)));
+    table_comes_to(tables, "c", b"a\nb,c,\xff,\xff\n\xff", Some(reason))
+}
+
+#[test]
+fn the_first_field_that_is_no_utf8(rt: HostRuntime) -> Result<(), Fail> {
+    assert!(rt; done(rt.alloc(), Task::BadField)?);
     Ok(())
 }
