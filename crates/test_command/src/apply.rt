@@ -12,10 +12,16 @@ use fill_tree::Switch;
 use std::alloc::Global;
 use std::test::Fail;
 
-/// The text of the program that a report saves for these inputs, spelled again.
-fn opened(alloc: Global, report: &[u8], inputs: &[u32]) -> Result<List<u8>, ApplyError> {
+/// Whether the program is spelled so.
+fn is_spelled(alloc: Global, switch: &Switch, text: &[u8]) -> Result<bool, ApplyError> {
+    let spelled = print_switch(alloc, switch)?;
+    Ok(spelled.as_slice() == text)
+}
+
+/// Whether the program that a report saves for these inputs is spelled so.
+fn opens_as(alloc: Global, report: &[u8], inputs: &[u32], text: &[u8]) -> Result<bool, ApplyError> {
     let switch = open_switch(alloc, report, inputs)?;
-    Ok(print_switch(alloc, &switch)?)
+    is_spelled(alloc, &switch, text)
 }
 
 /// The last record of two fields counts, wherever it stands and whatever stands around it.
@@ -28,10 +34,7 @@ fn the_last_program_is_opened(rt: HostRuntime) -> Result<(), Fail> {
         b"\xef\xbb\xbfswitch,Switch(else=>Concat())\nswitch\n",
     ];
     for report in reports {
-        assert_eq!(rt;
-            opened(rt.alloc(), report, &[1])?.as_slice(),
-            b"Switch(else=>Concat())".as_slice()
-        );
+        assert!(rt; opens_as(rt.alloc(), report, &[1], b"Switch(else=>Concat())")?);
     }
     Ok(())
 }
@@ -76,53 +79,77 @@ fn refusals_come_in_their_order(rt: HostRuntime) -> Result<(), Fail> {
         (b"switch,Switch(else=>Concat(Whole(Col(9))))", None),
     ];
     for (report, wanted) in reports {
-        assert_eq!(rt; refusal(rt.alloc(), report), wanted);
+        assert!(rt; refusal(rt.alloc(), report) == wanted, "{report:?}");
     }
     Ok(())
 }
 
-/// The records of all rows of a sheet.
-fn records(alloc: Global, switch: &Switch, sheet: &Sheet) -> Result<List<u8>, Fail>
+/// Puts the records of all rows of the sheet at the end, and tells whether these are there then.
+fn puts(
+    alloc: Global,
+    to: &mut List<u8>,
+    switch: &Switch,
+    sheet: &Sheet,
+    tables: &Tables,
+    records: &[u8],
+) -> Result<bool, ApplyError>
     requires { let s = switch_tree switch.now in let rows = sheet.now in All (Contains rows.inputs) (columns_read s.cases) }
 {
-    let tables = Tables::new(alloc);
-    let mut to = List::new(alloc);
     for above in 0..sheet.rows() {
-        apply_record(alloc, &mut to, switch, above + 1, sheet, &tables)?;
+        apply_record(alloc, to, switch, above + 1, sheet, tables)?;
     }
-    Ok(to)
+    Ok(to.as_slice() == records)
 }
 
-/// The records of the rows of a sheet of one column.
-fn applied(alloc: Global, report: &[u8], cells: &[u8]) -> Result<List<u8>, Fail> {
-    let sheet = Sheet::read(alloc, cells, false, &[1], None)?;
+/// The same with the program that a report saves for the inputs of the sheet.
+fn applies(
+    alloc: Global,
+    to: &mut List<u8>,
+    report: &[u8],
+    sheet: &Sheet,
+    tables: &Tables,
+    records: &[u8],
+) -> Result<bool, ApplyError> {
     let switch = open_switch(alloc, report, sheet.inputs())?;
-    records(alloc, &switch, &sheet)
+    puts(alloc, to, &switch, sheet, tables, records)
+}
+
+/// Whether a report's program gives these records for the rows of a sheet of one column.
+fn gives(alloc: Global, report: &[u8], cells: &[u8], records: &[u8]) -> Result<bool, ApplyError> {
+    let Ok(sheet) = Sheet::read(alloc, cells, false, &[1], None) else {
+        return Err(ApplyError::NoMemory);
+    };
+    let tables = Tables::new(alloc);
+    let mut to = List::new(alloc);
+    applies(alloc, &mut to, report, &sheet, &tables, records)
 }
 
 #[test]
 fn rows_have_their_values(rt: HostRuntime) -> Result<(), Fail> {
-    let alloc = rt.alloc();
-    let lower =
-        b"switch,\"Switch(!Match(1,[Lower],1)=>Concat(Const('k'));else=>Concat(Whole(Col(1))))\"\n";
-    assert_eq!(rt;
-        applied(alloc, lower, "q\nZ\n\"\"\n\"é,\"\n".as_bytes())?.as_slice(),
-        "applied,1,q,some\napplied,2,k,some\napplied,3,k,some\napplied,4,\"é,\",some\n".as_bytes()
-    );
-    let whole = b"switch,Switch(else=>Concat(Whole(Col(1))))\n";
-    assert_eq!(rt;
-        applied(alloc, whole, b"q\n\"\"\n")?.as_slice(),
-        b"applied,1,q,some\napplied,2,,none\n".as_slice()
-    );
-    let empty = b"switch,Switch(else=>Concat())\n";
-    assert_eq!(rt;
-        applied(alloc, empty, b"q\n")?.as_slice(),
-        b"applied,1,,some\n".as_slice()
-    );
-    let absent = b"switch,Switch(else=>Concat(Whole(Col(2))))\n";
-    assert_eq!(rt;
-        applied(alloc, absent, b"q\n")?.as_slice(),
-        b"applied,1,,none\n".as_slice()
-    );
+    let rows: [(&[u8], &[u8], &[u8]); 4] = [
+        (
+            b"switch,\"Switch(!Match(1,[Lower],1)=>Concat(Const('k'));else=>Concat(Whole(Col(1))))\"\n",
+            "q\nZ\n\"\"\n\"é,\"\n".as_bytes(),
+            "applied,1,q,some\napplied,2,k,some\napplied,3,k,some\napplied,4,\"é,\",some\n".as_bytes(),
+        ),
+        (
+            b"switch,Switch(else=>Concat(Whole(Col(1))))\n",
+            b"q\n\"\"\n",
+            b"applied,1,q,some\napplied,2,,none\n",
+        ),
+        (
+            b"switch,Switch(else=>Concat())\n",
+            b"q\n",
+            b"applied,1,,some\n",
+        ),
+        (
+            b"switch,Switch(else=>Concat(Whole(Col(2))))\n",
+            b"q\n",
+            b"applied,1,,none\n",
+        ),
+    ];
+    for (report, cells, records) in rows {
+        assert!(rt; gives(rt.alloc(), report, cells, records)?, "{report:?}");
+    }
     Ok(())
 }

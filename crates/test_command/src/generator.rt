@@ -1,6 +1,35 @@
 //! The files of `made N`.
-use fill_open::made;
+use fill_open::{MadeFiles, made};
+use fill_text::NoMemory;
+use std::alloc::Global;
 use std::test::Fail;
+
+/// The session over the generated sheet.
+const SESSION: &[u8] = b"sheet,made.csv\ninputs,1\noutput,2\nbegin\nprograms\ncount\n";
+
+/// Whether the files are the session and a sheet of this size, which begins as it is to and ends with this.
+fn have_ends(files: &MadeFiles, size: usize, last: &[u8]) -> bool {
+    let sheet = files.sheet.as_slice();
+    files.session.as_slice() == SESSION
+        && sheet.len() == size
+        && sheet.ends_with(last)
+        && sheet.starts_with(b"Ab Cd,Cd\n")
+}
+
+/// Whether so many lines are made with these ends.
+fn made_with(alloc: Global, n: u32, size: usize, last: &[u8]) -> Result<bool, NoMemory> {
+    if n < 1 || 2_000 < n {
+        return Ok(false);
+    }
+    let files = made(alloc, n)?;
+    Ok(have_ends(&files, size, last))
+}
+
+/// Whether six lines are made as this sheet.
+fn six_are(alloc: Global, sheet: &[u8]) -> Result<bool, NoMemory> {
+    let files = made(alloc, 6)?;
+    Ok(files.sheet.as_slice() == sheet)
+}
 
 /// The two files at some numbers of lines: the sheet's size, and how it begins and ends.
 #[test]
@@ -14,20 +43,9 @@ fn files_have_their_lines(rt: HostRuntime) -> Result<(), Fail> {
         (2000, 17_005, b"Op Qr St,\n"),
     ];
     for (n, size, last) in rows {
-        let files = made(rt.alloc(), n)?;
-        let sheet = files.sheet.as_slice();
-        assert_eq!(rt;
-            files.session.as_slice(),
-            b"sheet,made.csv\ninputs,1\noutput,2\nbegin\nprograms\ncount\n".as_slice()
-        );
-        assert_eq!(rt; sheet.len(), size, "at {n}");
-        assert!(rt; sheet.ends_with(last), "at {n}");
-        assert!(rt; sheet.starts_with(b"Ab Cd,Cd\n"), "at {n}");
+        assert!(rt; made_with(rt.alloc(), n, size, last)?, "at {n}");
     }
-    let files = made(rt.alloc(), 6)?;
-    assert_eq!(rt;
-        files.sheet.as_slice(),
-        b"Ab Cd,Cd\nEfgh Ijk,Ijk\nIj Kl,\nMnop Qrs,\nQr St,\nUvwx Yza,\n".as_slice()
-    );
+    let six = b"Ab Cd,Cd\nEfgh Ijk,Ijk\nIj Kl,\nMnop Qrs,\nQr St,\nUvwx Yza,\n";
+    assert!(rt; six_are(rt.alloc(), six)?);
     Ok(())
 }

@@ -2,7 +2,7 @@
 use fill_edge::MemoryCabinet;
 use fill_open::{Stop, keys_file_of, open_keys};
 use fill_text::{List, NoMemory};
-use std::alloc::{AllocError, Global};
+use std::alloc::Global;
 use std::test::Fail;
 
 const PLENTY: usize = 100_000;
@@ -25,66 +25,120 @@ fn are(keys: &[List<u32>], expected: &[&[u32]]) -> bool {
     true
 }
 
-/// What the file `t.csv` of these bytes opens, where the read of this number fails; two read it.
-fn opened(alloc: Global, bytes: &[u8], failing: u64) -> Result<List<List<u32>>, Stop> {
-    let mut cabinet = MemoryCabinet::new(alloc, PLENTY);
+/// Puts the file `t.csv` of these bytes into the cabinet, and opens its keys, where the read of this number fails; two read it.
+fn opened(
+    alloc: Global,
+    cabinet: &mut MemoryCabinet,
+    bytes: &[u8],
+    failing: u64,
+) -> Result<List<List<u32>>, Stop> {
     if cabinet.put("t.csv", bytes).is_err() || cabinet.fail_at(failing).is_err() {
         return Err(Stop::NoMemory);
     }
-    open_keys(alloc, &mut cabinet, "t.csv")
+    open_keys(alloc, cabinet, "t.csv")
 }
 
-/// Whether the table of these bytes has exactly these keys.
-fn has(alloc: Global, bytes: &[u8], expected: &[&[u32]]) -> bool {
-    match opened(alloc, bytes, 3) {
-        Ok(keys) => are(keys.as_slice(), expected),
-        Err(_) => false,
+/// Whether this is the line of the stop.
+fn is_told(alloc: Global, stop: &Stop, expected: &str) -> Result<bool, NoMemory> {
+    let line = stop.line(alloc)?;
+    Ok(line.as_str() == expected)
+}
+
+/// Whether the file has these keys, or has none for the reason that the line says; it is empty where there are keys.
+fn comes_to(
+    alloc: Global,
+    cabinet: &mut MemoryCabinet,
+    bytes: &[u8],
+    failing: u64,
+    keys: &[&[u32]],
+    line: &str,
+) -> Result<bool, NoMemory> {
+    match opened(alloc, cabinet, bytes, failing) {
+        Ok(found) => Ok(line.is_empty() && are(found.as_slice(), keys)),
+        Err(stop) => is_told(alloc, &stop, line),
     }
 }
 
-/// The line that says why there are no keys, and none where there are.
-fn line(alloc: Global, bytes: &[u8], failing: u64) -> Result<String, AllocError> {
-    match opened(alloc, bytes, failing) {
-        Ok(_) => Ok(String::new(alloc)),
-        Err(stop) => stop.line(alloc),
-    }
-}
-
-/// A line feed after a letter, so many times.
-fn rows(alloc: Global, times: usize) -> Result<List<u8>, NoMemory> {
-    let mut bytes = List::new(alloc);
-    for _ in 0..times {
-        bytes.append(b"x\n")?;
-    }
-    Ok(bytes)
+/// The same in an empty cabinet.
+fn ends(
+    alloc: Global,
+    bytes: &[u8],
+    failing: u64,
+    keys: &[&[u32]],
+    line: &str,
+) -> Result<bool, NoMemory> {
+    let mut cabinet = MemoryCabinet::new(alloc, PLENTY);
+    comes_to(alloc, &mut cabinet, bytes, failing, keys, line)
 }
 
 #[test]
-fn keys_of_files(rt: HostRuntime) {
+fn keys_of_files(rt: HostRuntime) -> Result<(), Fail> {
     let alloc = rt.alloc();
-    assert!(rt; has(alloc, PRICES, &[&[3], &[1, 2]]));
-    assert!(rt; has(alloc, b"", &[]));
+    assert!(rt; ends(alloc, PRICES, 3, &[&[3], &[1, 2]], "")?);
+    assert!(rt; ends(alloc, b"", 3, &[], "")?);
+    Ok(())
+}
+
+/// Whether a file of these bytes and so many lines behind them has no keys, for the reason that this line says.
+fn fills_and_ends(
+    alloc: Global,
+    bytes: &mut List<u8>,
+    times: usize,
+    line: &str,
+) -> Result<bool, NoMemory> {
+    for _ in 0..times {
+        bytes.append(b"x\n")?;
+    }
+    ends(alloc, bytes.as_slice(), 3, &[], line)
+}
+
+/// The same of bytes that are made here.
+fn rows_end(alloc: Global, times: usize, line: &str) -> Result<bool, NoMemory> {
+    let mut bytes = List::new(alloc);
+    fills_and_ends(alloc, &mut bytes, times, line)
 }
 
 #[test]
 fn files_without_keys(rt: HostRuntime) -> Result<(), Fail> {
     let alloc = rt.alloc();
-    let many = rows(alloc, 2_001)?;
-    let table: [(&[u8], u64, &str); 5] = [
-        (PRICES, 3, ""),
+    let table: [(&[u8], u64, &str); 3] = [
         (PRICES, 2, "flashfill: t.csv: cannot be read\n"),
         (WIDE, 3, "flashfill: t.csv: more than 32 columns\n"),
         (b"a\n\xff\n", 3, "flashfill: t.csv: record 2 is not UTF-8\n"),
-        (
-            many.as_slice(),
-            3,
-            "flashfill: t.csv: more than 2000 records\n",
-        ),
     ];
-    for (bytes, failing, wanted) in table {
-        assert_eq!(rt; line(alloc, bytes, failing)?.as_str(), wanted);
+    for (bytes, failing, line) in table {
+        assert!(rt; ends(alloc, bytes, failing, &[], line)?, "{line}");
     }
+    assert!(rt; rows_end(alloc, 2_001, "flashfill: t.csv: more than 2000 records\n")?);
     Ok(())
+}
+
+/// Puts a word at the end of the words.
+fn push_word(alloc: Global, words: &mut Vec<String>, word: &str) -> Result<(), NoMemory> {
+    words.push(String::from_str(alloc, word)?)?;
+    Ok(())
+}
+
+/// Whether a word and a name ask for the keys of this file, and no fewer and no more words do.
+fn ask_for(
+    alloc: Global,
+    words: &mut Vec<String>,
+    word: &str,
+    file: &str,
+    wanted: Option<&str>,
+) -> Result<bool, NoMemory> {
+    push_word(alloc, words, word)?;
+    let one = keys_file_of(words).is_none();
+    push_word(alloc, words, file)?;
+    let two = keys_file_of(words) == wanted;
+    push_word(alloc, words, "")?;
+    Ok(one && two && keys_file_of(words).is_none())
+}
+
+/// The same from no words on.
+fn asks_for(alloc: Global, word: &str, file: &str, wanted: Option<&str>) -> Result<bool, NoMemory> {
+    let mut words = Vec::new(alloc);
+    ask_for(alloc, &mut words, word, file, wanted)
 }
 
 #[test]
@@ -96,13 +150,7 @@ fn words_ask_for_keys_or_not(rt: HostRuntime) -> Result<(), Fail> {
         ("key", "t.csv", None),
     ];
     for (word, file, wanted) in table {
-        let mut words = Vec::new(alloc);
-        words.push(String::from_str(alloc, word)?)?;
-        assert_eq!(rt; keys_file_of(&words), None);
-        words.push(String::from_str(alloc, file)?)?;
-        assert_eq!(rt; keys_file_of(&words), wanted);
-        words.push(String::new(alloc))?;
-        assert_eq!(rt; keys_file_of(&words), None);
+        assert!(rt; asks_for(alloc, word, file, wanted)?, "{word}");
     }
     Ok(())
 }

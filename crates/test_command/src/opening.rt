@@ -2,7 +2,7 @@
 use fill_edge::MemoryCabinet;
 use fill_open::*;
 use fill_text::{List, NoMemory};
-use std::alloc::{AllocError, Global};
+use std::alloc::Global;
 use std::test::Fail;
 
 const PLENTY: usize = 100_000;
@@ -13,30 +13,72 @@ const PRICES: &[u8] = b"pen,2011,$1\npen,2012,$2\ncup,2011,$5\ncup,2012,$7\n";
 const SESSION: &[u8] =
     b"sheet,sheet.csv\ninputs,1\ntable,prices,prices.csv\nkey,prices,1,2\nbegin\nadd,1,$2\n";
 
-/// A sheet, a table, and a file that is not all UTF-8, with reads of so many bytes.
-fn files(alloc: Global, most: usize) -> Result<MemoryCabinet, NoMemory> {
-    let mut cabinet = MemoryCabinet::new(alloc, most.max(1));
+/// A session file, the file `t.csv`, and the number of the read that fails, if one does.
+#[derive(Clone, Copy)]
+struct Scene<'a> {
+    session: &'a [u8],
+    other: &'a [u8],
+    failing: Option<u64>,
+}
+
+/// The scene of a session where no read fails.
+fn scene_of(session: &[u8]) -> Scene<'_> {
+    Scene {
+        session,
+        other: b"",
+        failing: None,
+    }
+}
+
+/// Puts a sheet, a table, a file that is not all UTF-8 and those of the scene among the files.
+fn put_files(cabinet: &mut MemoryCabinet, scene: &Scene) -> Result<(), NoMemory> {
     cabinet.put("sheet.csv", b"pen\ncup\n")?;
     cabinet.put("prices.csv", PRICES)?;
     cabinet.put("bad.csv", b"a,\xff\nb,c\n")?;
-    Ok(cabinet)
+    cabinet.put("t.csv", scene.other)?;
+    cabinet.put("s.csv", scene.session)
 }
 
-/// The line that says why the session `s.csv` is not ready, and none where it is.
-fn ending(alloc: Global, cabinet: &mut MemoryCabinet) -> Result<String, AllocError> {
+/// Whether this is the line of the stop.
+fn is_told(alloc: Global, stop: &Stop, expected: &str) -> Result<bool, NoMemory> {
+    let line = stop.line(alloc)?;
+    Ok(line.as_str() == expected)
+}
+
+/// Whether this line says why the session `s.csv` is not ready; it is empty where the session is.
+fn ends_with(alloc: Global, cabinet: &mut MemoryCabinet, line: &str) -> Result<bool, NoMemory> {
     match open_session(alloc, cabinet, &Command::Replay { session: "s.csv" }) {
-        Ok(_) => Ok(String::new(alloc)),
-        Err(stop) => stop.line(alloc),
+        Ok(_) => Ok(line.is_empty()),
+        Err(stop) => is_told(alloc, &stop, line),
     }
 }
 
-/// A text so many times.
-fn repeated(alloc: Global, text: &[u8], times: usize) -> Result<List<u8>, NoMemory> {
-    let mut bytes = List::new(alloc);
+/// The same once the files of the scene are there.
+fn plays(
+    alloc: Global,
+    cabinet: &mut MemoryCabinet,
+    scene: &Scene,
+    line: &str,
+) -> Result<bool, NoMemory> {
+    put_files(cabinet, scene)?;
+    if let Some(call) = scene.failing {
+        cabinet.fail_at(call)?;
+    }
+    ends_with(alloc, cabinet, line)
+}
+
+/// Whether this line says why the session of the scene is not ready; it is empty where the session is.
+fn ends(alloc: Global, scene: &Scene, line: &str) -> Result<bool, NoMemory> {
+    let mut cabinet = MemoryCabinet::new(alloc, PLENTY);
+    plays(alloc, &mut cabinet, scene, line)
+}
+
+/// Puts a text at the end so many times.
+fn append_times(bytes: &mut List<u8>, text: &[u8], times: usize) -> Result<(), NoMemory> {
     for _ in 0..times {
         bytes.append(text)?;
     }
-    Ok(bytes)
+    Ok(())
 }
 
 #[test]
@@ -78,11 +120,36 @@ fn sessions_are_ready_or_refused(rt: HostRuntime) -> Result<(), Fail> {
         ),
     ];
     for (session, line) in rows {
-        let mut cabinet = files(alloc, PLENTY)?;
-        cabinet.put("s.csv", session)?;
-        assert_eq!(rt; ending(alloc, &mut cabinet)?.as_str(), line);
+        assert!(rt; ends(alloc, &scene_of(session), line)?, "{line}");
     }
     Ok(())
+}
+
+/// Lines of a session after its sheet and its inputs: some first, and one that comes so many times after them.
+#[derive(Clone, Copy)]
+struct Lines<'a> {
+    first: &'a [u8],
+    more: &'a [u8],
+    times: usize,
+}
+
+/// Whether this line says why the session of a sheet, inputs and these lines is not ready.
+fn grows_and_ends(
+    alloc: Global,
+    session: &mut List<u8>,
+    lines: &Lines,
+    line: &str,
+) -> Result<bool, NoMemory> {
+    session.append(b"sheet,sheet.csv\ninputs,1\n")?;
+    session.append(lines.first)?;
+    append_times(session, lines.more, lines.times)?;
+    ends(alloc, &scene_of(session.as_slice()), line)
+}
+
+/// The same of a session that is made here.
+fn lines_end(alloc: Global, lines: &Lines, line: &str) -> Result<bool, NoMemory> {
+    let mut session = List::new(alloc);
+    grows_and_ends(alloc, &mut session, lines, line)
 }
 
 #[test]
@@ -119,15 +186,43 @@ fn tables_and_keys_are_added_or_refused(rt: HostRuntime) -> Result<(), Fail> {
             "flashfill: s.csv: record 8: too many keys\n",
         ),
     ];
-    for (lines, line) in rows {
-        let mut session = repeated(alloc, b"sheet,sheet.csv\ninputs,1\n", 1)?;
-        session.append(lines)?;
-        session.append(b"begin\n")?;
-        let mut cabinet = files(alloc, PLENTY)?;
-        cabinet.put("s.csv", session.as_slice())?;
-        assert_eq!(rt; ending(alloc, &mut cabinet)?.as_str(), line);
+    for (first, line) in rows {
+        let lines = Lines {
+            first,
+            more: b"begin\n",
+            times: 1,
+        };
+        assert!(rt; lines_end(alloc, &lines, line)?, "{line}");
     }
     Ok(())
+}
+
+/// Whether this line says why the session is not ready where `t.csv` has so many records.
+fn fills_and_ends(
+    alloc: Global,
+    other: &mut List<u8>,
+    session: &[u8],
+    records: usize,
+    line: &str,
+) -> Result<bool, NoMemory> {
+    append_times(other, b"x\n", records)?;
+    let scene = Scene {
+        session,
+        other: other.as_slice(),
+        failing: None,
+    };
+    ends(alloc, &scene, line)
+}
+
+/// The same of a file that is made here.
+fn records_end(
+    alloc: Global,
+    session: &[u8],
+    records: usize,
+    line: &str,
+) -> Result<bool, NoMemory> {
+    let mut other = List::new(alloc);
+    fills_and_ends(alloc, &mut other, session, records, line)
 }
 
 /// A session that names a file of one record too many, or has one too many itself.
@@ -152,10 +247,7 @@ fn files_have_their_limits(rt: HostRuntime) -> Result<(), Fail> {
         ),
     ];
     for (session, records, line) in rows {
-        let mut cabinet = files(alloc, PLENTY)?;
-        cabinet.put("s.csv", session)?;
-        cabinet.put("t.csv", repeated(alloc, b"x\n", records)?.as_slice())?;
-        assert_eq!(rt; ending(alloc, &mut cabinet)?.as_str(), line);
+        assert!(rt; records_end(alloc, session, records, line)?, "{line}");
     }
     Ok(())
 }
@@ -184,13 +276,9 @@ fn a_session_has_its_limits(rt: HostRuntime) -> Result<(), Fail> {
             "flashfill: s.csv: record 11: too many tables\n",
         ),
     ];
-    for (lines, more, times, line) in rows {
-        let mut session = repeated(alloc, b"sheet,sheet.csv\ninputs,1\n", 1)?;
-        session.append(lines)?;
-        session.append(repeated(alloc, more, times)?.as_slice())?;
-        let mut cabinet = files(alloc, PLENTY)?;
-        cabinet.put("s.csv", session.as_slice())?;
-        assert_eq!(rt; ending(alloc, &mut cabinet)?.as_str(), line);
+    for (first, more, times, line) in rows {
+        let lines = Lines { first, more, times };
+        assert!(rt; lines_end(alloc, &lines, line)?, "{line}");
     }
     Ok(())
 }
@@ -209,26 +297,74 @@ fn a_failed_read_is_told(rt: HostRuntime) -> Result<(), Fail> {
         (7, ""),
     ];
     for (call, line) in rows {
-        let mut cabinet = files(alloc, PLENTY)?;
-        cabinet.put("s.csv", SESSION)?;
-        cabinet.fail_at(call)?;
-        assert_eq!(rt; ending(alloc, &mut cabinet)?.as_str(), line);
+        let scene = Scene {
+            session: SESSION,
+            other: b"",
+            failing: Some(call),
+        };
+        assert!(rt; ends(alloc, &scene, line)?, "{call}");
     }
     Ok(())
 }
 
+/// Whether the generated session over so many lines is ready where the first read fails.
+fn is_generated(alloc: Global, cabinet: &mut MemoryCabinet, n: u32) -> Result<bool, NoMemory> {
+    if n < 1 || 2_000 < n {
+        return Ok(false);
+    }
+    cabinet.fail_at(1)?;
+    match open_session(alloc, cabinet, &Command::Made { n }) {
+        Ok(ready) => Ok(ready.sheet.rows() == n),
+        Err(_) => Ok(false),
+    }
+}
+
+/// The same where there is no file.
+fn generates(alloc: Global, n: u32) -> Result<bool, NoMemory> {
+    let mut cabinet = MemoryCabinet::new(alloc, 1);
+    is_generated(alloc, &mut cabinet, n)
+}
+
 #[test]
 fn a_generated_session_reads_nothing(rt: HostRuntime) -> Result<(), Fail> {
-    let alloc = rt.alloc();
     for n in [1, 500, 2_000] {
-        let mut cabinet = MemoryCabinet::new(alloc, 1);
-        cabinet.fail_at(1)?;
-        match open_session(alloc, &mut cabinet, &Command::Made { n }) {
-            Ok(ready) => assert_eq!(rt; ready.sheet.rows(), n),
-            Err(_) => assert!(rt; false),
-        }
+        assert!(rt; generates(rt.alloc(), n)?, "{n}");
     }
     Ok(())
+}
+
+/// Puts a word at the end of the words.
+fn push_word(alloc: Global, words: &mut Vec<String>, word: &str) -> Result<(), NoMemory> {
+    words.push(String::from_str(alloc, word)?)?;
+    Ok(())
+}
+
+/// Whether a word and its argument are this command, and no fewer and no more words are one.
+fn ask_for(
+    alloc: Global,
+    words: &mut Vec<String>,
+    word: &str,
+    argument: &str,
+    command: Option<Command<'_>>,
+) -> Result<bool, NoMemory> {
+    let none = command_of(words).is_none();
+    push_word(alloc, words, word)?;
+    let one = command_of(words).is_none();
+    push_word(alloc, words, argument)?;
+    let two = command_of(words) == command;
+    push_word(alloc, words, "")?;
+    Ok(none && one && two && command_of(words).is_none())
+}
+
+/// The same from no words on.
+fn asks_for(
+    alloc: Global,
+    word: &str,
+    argument: &str,
+    command: Option<Command<'_>>,
+) -> Result<bool, NoMemory> {
+    let mut words = Vec::new(alloc);
+    ask_for(alloc, &mut words, word, argument, command)
 }
 
 #[test]
@@ -250,14 +386,7 @@ fn words_are_a_command_or_none(rt: HostRuntime) -> Result<(), Fail> {
         ("play", "s.csv", None),
     ];
     for (word, argument, command) in rows {
-        let mut words = Vec::new(alloc);
-        assert_eq!(rt; command_of(&words), None);
-        words.push(String::from_str(alloc, word)?)?;
-        assert_eq!(rt; command_of(&words), None);
-        words.push(String::from_str(alloc, argument)?)?;
-        assert_eq!(rt; command_of(&words), command);
-        words.push(String::new(alloc))?;
-        assert_eq!(rt; command_of(&words), None);
+        assert!(rt; asks_for(alloc, word, argument, command)?, "{word}");
     }
     Ok(())
 }

@@ -1,5 +1,6 @@
 //! Session files, each form of a line and its near misses.
 use fill_script::*;
+use fill_text::{List, NoMemory};
 use fill_tree::{Constants, Edit, Settings};
 use std::alloc::Global;
 use std::test::Fail;
@@ -12,33 +13,52 @@ fn refusal(alloc: Global, bytes: &[u8]) -> Option<ScriptError> {
     }
 }
 
-/// The refusal of a session that begins with these lines, before a sheet, inputs and `begin`.
-fn opened_after(alloc: Global, lines: &[u8]) -> Result<Option<ScriptError>, Fail> {
-    let mut bytes = lines.to_vec(alloc)?;
-    bytes.extend_from_slice(b"\nsheet,s.csv\ninputs,7,9\nbegin\n")?;
-    Ok(refusal(alloc, &bytes))
-}
-
-/// The refusal of a session that has this line after `begin`, its fourth line.
-fn begun_before(alloc: Global, line: &[u8]) -> Result<Option<ScriptError>, Fail> {
-    let mut bytes = b"sheet,s.csv\ninputs,7,9\nbegin\n".to_vec(alloc)?;
-    bytes.extend_from_slice(line)?;
-    Ok(refusal(alloc, &bytes))
-}
-
-/// Whether this is the refusal of a session that begins with these lines.
-fn opening_is(alloc: Global, lines: &[u8], expected: Option<ScriptError>) -> Result<bool, Fail> {
-    Ok(opened_after(alloc, lines)? == expected)
-}
-
-/// Whether this is the refusal of a session that has this line after `begin`.
-fn line_is(alloc: Global, line: &[u8], expected: Option<ScriptError>) -> Result<bool, Fail> {
-    Ok(begun_before(alloc, line)? == expected)
-}
-
 /// Whether this is the refusal of the whole session.
 fn refusal_is(alloc: Global, bytes: &[u8], expected: Option<ScriptError>) -> bool {
     refusal(alloc, bytes) == expected
+}
+
+/// Whether this is the refusal of a session of these bytes and two parts, which are put behind them.
+fn joined_is(
+    alloc: Global,
+    bytes: &mut List<u8>,
+    first: &[u8],
+    second: &[u8],
+    expected: Option<ScriptError>,
+) -> Result<bool, NoMemory> {
+    bytes.append(first)?;
+    bytes.append(second)?;
+    Ok(refusal_is(alloc, bytes.as_slice(), expected))
+}
+
+/// Whether this is the refusal of a session of two parts.
+fn parts_are(
+    alloc: Global,
+    first: &[u8],
+    second: &[u8],
+    expected: Option<ScriptError>,
+) -> Result<bool, NoMemory> {
+    let mut bytes = List::new(alloc);
+    joined_is(alloc, &mut bytes, first, second, expected)
+}
+
+/// Whether this is the refusal of a session that begins with these lines, before a sheet, inputs and `begin`.
+fn opening_is(
+    alloc: Global,
+    lines: &[u8],
+    expected: Option<ScriptError>,
+) -> Result<bool, NoMemory> {
+    parts_are(
+        alloc,
+        lines,
+        b"\nsheet,s.csv\ninputs,7,9\nbegin\n",
+        expected,
+    )
+}
+
+/// Whether this is the refusal of a session that has this line after `begin`, its fourth line.
+fn line_is(alloc: Global, line: &[u8], expected: Option<ScriptError>) -> Result<bool, NoMemory> {
+    parts_are(alloc, b"sheet,s.csv\ninputs,7,9\nbegin\n", line, expected)
 }
 
 const BAD: Option<ScriptError> = Some(ScriptError::BadRecord { number: 1 });
@@ -200,19 +220,28 @@ fn lines_after_begin(rt: HostRuntime) -> Result<(), Fail> {
     Ok(())
 }
 
-/// A session of a sheet, inputs, `begin` and so many lines `clear`.
-fn clears(alloc: Global, count: usize) -> Result<Vec<u8>, Fail> {
-    let mut bytes = b"sheet,sheet.csv\ninputs,1\nbegin\n".to_vec(alloc)?;
+/// Whether this is the refusal of a session of these bytes, a sheet, inputs, `begin` and so many lines `clear`.
+fn clears_behind(
+    alloc: Global,
+    bytes: &mut List<u8>,
+    count: usize,
+    expected: Option<ScriptError>,
+) -> Result<bool, NoMemory> {
+    bytes.append(b"sheet,sheet.csv\ninputs,1\nbegin\n")?;
     for _ in 0..count {
-        bytes.extend_from_slice(b"clear\n")?;
+        bytes.append(b"clear\n")?;
     }
-    Ok(bytes)
+    Ok(refusal_is(alloc, bytes.as_slice(), expected))
 }
 
-/// Whether this is the refusal of a session of so many such lines.
-fn clears_are(alloc: Global, count: usize, expected: Option<ScriptError>) -> Result<bool, Fail> {
-    let bytes = clears(alloc, count)?;
-    Ok(refusal_is(alloc, &bytes, expected))
+/// Whether this is the refusal of a session of a sheet, inputs, `begin` and so many lines `clear`.
+fn clears_are(
+    alloc: Global,
+    count: usize,
+    expected: Option<ScriptError>,
+) -> Result<bool, NoMemory> {
+    let mut bytes = List::new(alloc);
+    clears_behind(alloc, &mut bytes, count, expected)
 }
 
 #[test]
@@ -304,17 +333,6 @@ fn are_tables(tables: &[TableLine]) -> bool {
     tables.len() == 2 && adds_table(&tables[0]) && adds_key(&tables[1])
 }
 
-#[test]
-fn a_whole_script(rt: HostRuntime) -> Result<(), Fail> {
-    let bytes =
-        b"table,t,t.csv\nprofile,2\nkey,t,2,1\nheader\noutput,3\ndepth,3\ninputs,2,1\nconstants,separators\nsheet,s.csv\nbegin\nadd,2,x\ncorrect,2,\nretract,2\nclear\nprograms\nswitch\nfill\ncount\nanswer,7\nbest,8,20\nobject,7\nundo\nredo\n";
-    let script = Script::read(rt.alloc(), bytes)?;
-    assert!(rt; has_settings(&script));
-    assert!(rt; are_tables(script.tables.as_slice()));
-    assert!(rt; are_entries(script.entries.as_slice()));
-    Ok(())
-}
-
 /// Whether the script has what stands where no line says otherwise.
 fn has_defaults(script: &Script) -> bool {
     !script.header
@@ -326,10 +344,45 @@ fn has_defaults(script: &Script) -> bool {
         && script.entries.len() == 0
 }
 
+/// What a script is to have.
+#[derive(Clone, Copy)]
+enum Wanted {
+    /// What all lines of the whole script say.
+    Whole,
+    /// What stands where no line says otherwise.
+    Defaults,
+}
+
+/// Whether the script has what it is to have.
+fn is_wanted(script: &Script, wanted: Wanted) -> bool {
+    match wanted {
+        Wanted::Whole => {
+            has_settings(script)
+                && are_tables(script.tables.as_slice())
+                && are_entries(script.entries.as_slice())
+        }
+        Wanted::Defaults => has_defaults(script),
+    }
+}
+
+/// Whether a session file has a script with what it is to have.
+fn reads_as(alloc: Global, bytes: &[u8], wanted: Wanted) -> bool {
+    match Script::read(alloc, bytes) {
+        Ok(script) => is_wanted(&script, wanted),
+        Err(_) => false,
+    }
+}
+
 #[test]
-fn settings_that_no_line_sets(rt: HostRuntime) -> Result<(), Fail> {
-    let script = Script::read(rt.alloc(), b"sheet,s.csv\ninputs,1\nbegin\n")?;
-    assert!(rt; has_defaults(&script));
-    assert_eq!(rt; number_in(b"0"), Some(0));
-    Ok(())
+fn a_whole_script(rt: HostRuntime) {
+    let bytes =
+        b"table,t,t.csv\nprofile,2\nkey,t,2,1\nheader\noutput,3\ndepth,3\ninputs,2,1\nconstants,separators\nsheet,s.csv\nbegin\nadd,2,x\ncorrect,2,\nretract,2\nclear\nprograms\nswitch\nfill\ncount\nanswer,7\nbest,8,20\nobject,7\nundo\nredo\n";
+    assert!(rt; reads_as(rt.alloc(), bytes, Wanted::Whole));
+}
+
+#[test]
+fn settings_that_no_line_sets(rt: HostRuntime) {
+    let bytes = b"sheet,s.csv\ninputs,1\nbegin\n";
+    assert!(rt; reads_as(rt.alloc(), bytes, Wanted::Defaults));
+    assert!(rt; number_in(b"0") == Some(0));
 }
