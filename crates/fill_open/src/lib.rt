@@ -1,4 +1,4 @@
-//! Opening: from the words of a command and its files to a session that is ready.
+//! Opening: from the words of a command and its files to a session, a saved program or a search for keys that is ready.
 #![tactic(auto)]
 
 mod apply;

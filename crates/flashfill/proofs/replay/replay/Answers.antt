@@ -18,8 +18,8 @@ returns-in-Err-new-clause-ends g c = λ words is.
 pub returns-clause-ends : goal.returns-clause-ends
 returns-clause-ends g c = λ words is.
     let opens = ends_on (g.C.Cabinet.files c.args.cabinet.now) words (command_data c.args.command.now) (Passed c.in-Ok.ready) is c.in-Ok.ensures.ready c.in-Ok.ensures.made_ready in
-    let ends = rw (c.in-Ok-new.ensures.ground, c.as_slice.ensures) at c.report.ensures.ends in
-    report_ends words (g.C.Cabinet.files c.args.cabinet.now) _ _ _ _ _ _ _ c.report.result c.in-Ok.ready opens ends
+    let ends = rw (c.in-Ok-new.ensures.ground, c.as_slice.ensures) at c.report-status.ensures.ends in
+    report_ends words (g.C.Cabinet.files c.args.cabinet.now) _ _ _ _ _ _ _ c.report-status.result c.in-Ok.ready opens ends
 
 pub returns-clause-generated : goal.returns-clause-generated
-returns-clause-generated g c = λ n of. (report_status c.report.result c.report.ensures.ends.one, (c.open_session.ensures.made n of).0)
+returns-clause-generated g c = λ n of. (report_status c.report-status.result c.report-status.ensures.ends.one, (c.open_session.ensures.made n of).0)
