@@ -1,19 +1,11 @@
 -- Places that are alike in their order.
-use Rattle.std.proofs.Common.{◌≡◌, ◌==◌, true, refl, subst}
-use Rattle.std.specs.Ordering.{ordering_index, ordering_reverse}
+use Rattle.std.proofs.Common.{◌≡◌, refl, subst}
+use Rattle.std.specs.Ordering.{ordering_reverse}
 use Rattle.std.specs.declared.cmp.Ordering.{Ordering}
 use Rattle.std.specs.declared.cmp.Ordering.TheVariants.{Less, Equal, Greater}
 use Rattle.fill_tokens.specs.Place.{place_cmp}
 use Rattle.fill_tokens.specs.declared.place.Place.{Place}
 use Rattle.fill_tokens.proofs.PlaceLaws.{place_antisymm}
-
-pub index_equal : (o : Ordering) → (ordering_index o == 1) ≡ true → o ≡ Equal
-index_equal Less h = cc
-index_equal Equal h = refl
-index_equal Greater h = cc
-
-pub equal_index : (o : Ordering) → o ≡ Equal → (ordering_index o == 1) ≡ true
-equal_index o h = rw h refl
 
 own_reverse : (o : Ordering) → o ≡ ordering_reverse o → o ≡ Equal
 own_reverse Less h = cc

@@ -29,6 +29,7 @@ pub(crate) fn piece_edges<'a>(
     requires known { AreKnown on.now arena.old known.old }
     requires short { length text.now ≤ 100 }
     ensures edges { IfOk result (EdgesSoFar on.now text.now (length text.now) 0 arena.new) }
+    ensures known { OnOk result (AreKnown on.now arena.new known.new) }
     ensures kept { Extends arena.old arena.new }
 {
     let mut edges = List::new(alloc);

@@ -14,4 +14,4 @@ mod hits;
 mod piece;
 mod uncut;
 
-pub use graph::build;
+pub use graph::{build, build_with};

@@ -60,6 +60,10 @@ kept_told P xs ys at x h p all = elim h [
   ])
 ]
 
+pub kept_somewhere : {A : Type 0} (P : A → Type 0) (xs ys : List A) (x : A) → (ys ≡ xs) ⊎ ((at : ℕ) × (ys ≡ set xs at x)) → P x → EachIn P xs → EachIn P ys
+kept_somewhere P xs ys x (inl e) p all = kept_told P xs ys 0 x (inl e) p all
+kept_somewhere P xs ys x (inr q) p all = kept_told P xs ys q.0 x (inr q.1) p all
+
 in_append : {A : Type 0} (xs ys : List A) (k : ℕ) (x : A) → slice_get (xs ++ ys) k ≡ Some x → In x xs ⊎ In x ys
 in_append [] ys k x h = inr (k, h)
 in_append (z ∷ xs) ys zero x h = inl (0, h)

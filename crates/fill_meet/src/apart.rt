@@ -1,8 +1,9 @@
 //! Whether sets are apart, told without a new set.
-ghost use Rattle.std.specs.Prelude.{◌≡◌, ◌↔◌, ℕ, false, IsTrue, IfOk, OnOk};
+ghost use Rattle.std.specs.Prelude.{◌≡◌, ◌↔◌, ℕ, false, slice_get, IsTrue, IfOk, OnOk, Some};
 ghost use Rattle.fill_arena.specs.Contents.{EachIn, In, IsAtomSet, IsPlaceSet, IsSourceSet, SomeIn};
 ghost use Rattle.fill_arena.specs.Stands.{AtomStands, PlaceStands, SourceStands};
 ghost use Rattle.fill_arena.specs.WellMade.{ArePlaces, IsAtomItem};
+ghost use Rattle.fill_arena.specs.declared.entry.Entry.TheVariants.{Atoms};
 ghost use Rattle.fill_meet.specs.Meet.{AreApart};
 ghost use Rattle.fill_meet.specs.Sets.{AtomIn};
 ghost use Rattle.fill_meet.specs.Tried.{AreAlike, AreTried, PlacesTried};
@@ -10,9 +11,10 @@ ghost use Rattle.fill_meet.specs.Tried.{AreAlike, AreTried, PlacesTried};
 use crate::sets::have_same_numbers;
 use crate::ties::Tie;
 use crate::tried::{
-    Told, Tried, keep, recall, slot_of, tell_atoms, tell_sources, told_atoms, told_sources,
+    Told, Tried, keep, recall, tell_atoms, tell_places, tell_sources, told_atoms, told_places,
+    told_sources,
 };
-use fill_arena::{Arena, AtomItem, AtomSet, PlaceSet, SourceItem, SourceSet};
+use fill_arena::{Arena, AtomItem, PlaceSet, SourceItem, SourceSet};
 use fill_text::NoMemory;
 use fill_tokens::Place;
 use std::cmp::Ordering;
@@ -34,36 +36,39 @@ pub(crate) fn may_meet(arena: &Arena, tried: &mut Tried, tie: &Tie) -> Result<bo
     if s == t {
         return Ok(true);
     }
-    if !are_many(arena, s, t) {
-        return items_may_meet(arena, tried, tie);
+    let xs = arena.atoms(s);
+    let ys = arena.atoms(t);
+    if !are_many(xs.len(), ys.len()) {
+        return items_may_meet(arena, tried, tie, xs, ys);
     }
     if let Some(may) = told_atoms(&tried.atoms, s, t) {
         return Ok(may);
     }
-    let may = items_may_meet(arena, tried, tie)?;
+    let may = items_may_meet(arena, tried, tie, xs, ys)?;
     tell_atoms(&mut tried.atoms, s, t, may)?;
     Ok(may)
 }
 
-/// Whether the two sets' items make many pairs.
-pub(crate) fn are_many(arena: &Arena, s: AtomSet, t: AtomSet) -> bool
-    requires first { IsAtomSet arena.now s }
-    requires second { IsAtomSet arena.now t }
-{
-    arena.atoms(s).len().saturating_mul(arena.atoms(t).len()) > FEW_PAIRS
+/// Whether two sets of so many items make many pairs.
+pub(crate) fn are_many(xs: usize, ys: usize) -> bool {
+    xs.saturating_mul(ys) > FEW_PAIRS
 }
 
-/// Whether some item of the one set may have an atom in common with one of the other.
-fn items_may_meet(arena: &Arena, tried: &mut Tried, tie: &Tie) -> Result<bool, NoMemory>
+/// Whether some item of the one set may have an atom in common with one of the other. The items are those of the tie's sets.
+fn items_may_meet(
+    arena: &Arena,
+    tried: &mut Tried,
+    tie: &Tie,
+    xs: &[AtomItem],
+    ys: &[AtomItem],
+) -> Result<bool, NoMemory>
     requires tried { AreTried arena.now tried.old }
-    requires first { IsAtomSet arena.now tie.now.left }
-    requires second { IsAtomSet arena.now tie.now.right }
+    requires first { slice_get arena.now tie.now.left ≡ Some (Atoms xs.now) }
+    requires second { slice_get arena.now tie.now.right ≡ Some (Atoms ys.now) }
     ensures tried { OnOk result (AreTried arena.now tried.new) }
     ensures apart { IfOk result (λ may. may ≡ false → AreApart AtomStands arena.now tie.now.left tie.now.right) }
 {
     arena.keeps_made();
-    let xs = arena.atoms(tie.left);
-    let ys = arena.atoms(tie.right);
     for i in 0..xs.len() {
         if meets_some(arena, tried, tie, &xs[i], ys)? {
             return Ok(true);
@@ -146,7 +151,7 @@ fn places_may_meet(arena: &Arena, tried: &mut Tried, at: usize, s: PlaceSet, t: 
     may
 }
 
-/// The same, by the table of all pairs.
+/// The same, by the slots of all pairs.
 fn places_looked_up(arena: &Arena, tried: &mut Tried, s: PlaceSet, t: PlaceSet) -> bool
     requires tried { AreTried arena.now tried.old }
     requires first { IsPlaceSet arena.now s }
@@ -154,13 +159,12 @@ fn places_looked_up(arena: &Arena, tried: &mut Tried, s: PlaceSet, t: PlaceSet) 
     ensures tried { AreTried arena.now tried.new }
     ensures apart { PlacesTried arena.now s t result }
 {
-    let slot = slot_of(s, t, tried.places.len());
-    if let Some(may) = recall(tried.places.as_slice(), slot, s, t) {
+    if let Some(may) = told_places(tried.places.as_slice(), s, t) {
         return may;
     }
     arena.keeps_made();
     let may = share_place(arena.places(s), arena.places(t));
-    keep(tried.places.as_mut_slice(), slot, Told { s, t, may });
+    tell_places(tried.places.as_mut_slice(), Told { s, t, may });
     may
 }
 

@@ -1,34 +1,42 @@
 //! What was found for pairs of sets, in one call.
-ghost use Rattle.std.specs.Prelude.{◌≡◌, ℕ, List, Some, IfSome, OnOk};
+ghost use Rattle.std.specs.Prelude.{◌≡◌, ℕ, List, Some, IfOk, IfSome, OnOk};
 ghost use Rattle.std.specs.HashMap.{get, Updates};
 ghost use Rattle.fill_arena.specs.declared.entry.Entry.{Entry};
 ghost use Rattle.fill_meet.specs.Memory.{IsRight, pair_eq};
 
+use crate::tried::{MOST, Told, blanks};
 use fill_arena::{AtomSet, PlaceSet, SourceSet};
 use fill_text::NoMemory;
 use std::alloc::Global;
 use std::collections::HashMap;
 
+/// How many answers on what stands within another set are kept for each tie.
+const WITHIN_A_TIE: usize = 2;
+
 /// For each pair of sets that was met, their common set, or none where they are apart.
+///
+/// Whether each place of a set stands in another one is kept in slots. An answer that gave way to another is found again.
 #[derive(Drop)]
 pub(crate) struct Memo {
     pub(crate) alloc: Global,
+    pub(crate) within: Vec<Option<Told>>,
     pub(crate) places: HashMap<(PlaceSet, PlaceSet), Option<PlaceSet>>,
     pub(crate) sources: HashMap<(SourceSet, SourceSet), Option<SourceSet>>,
     pub(crate) atoms: HashMap<(AtomSet, AtomSet), Option<AtomSet>>,
 }
 
 impl Memo {
-    /// Tables that tell nothing yet.
-    pub(crate) fn new(alloc: Global) -> Memo
-        ensures { (c : List Entry) → IsRight c result }
+    /// Tables that tell nothing yet, with room for the answers on so many ties.
+    pub(crate) fn new(alloc: Global, ties: usize) -> Result<Memo, NoMemory>
+        ensures { IfOk result (λ memo. (c : List Entry) → IsRight c memo) }
     {
-        Memo {
+        Ok(Memo {
             alloc,
+            within: blanks(alloc, ties.saturating_mul(WITHIN_A_TIE).min(MOST))?,
             places: HashMap::new(alloc),
             sources: HashMap::new(alloc),
             atoms: HashMap::new(alloc),
-        }
+        })
     }
 }
 

@@ -92,7 +92,7 @@ fn join_ties(
     ensures kept { Extends arena.old arena.new }
     ensures joined { IfOk result (AreJoined arena.new live.now ties.now) }
 {
-    let mut memo = Memo::new(alloc);
+    let mut memo = Memo::new(alloc, ties.len())?;
     let mut edges = List::with_capacity(alloc, ties.len())?;
     for i in 0..ties.len() {
         let tie = ties[i];
@@ -148,7 +148,7 @@ fn edge_atoms(
         arena.keeps_made();
         return Ok(Some(s));
     }
-    if are_many(arena, s, t) {
+    if are_many(arena.atoms(s).len(), arena.atoms(t).len()) {
         return meet_atoms(arena, memo, s, t);
     }
     make_atoms(arena, memo, s, t)

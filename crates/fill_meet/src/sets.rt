@@ -58,7 +58,7 @@ pub(crate) fn make_atoms(
     ensures memo { OnOk result (IsRight arena.new memo.new) }
     ensures met { IfOk result (AtomSetsMeet arena.new s t) }
 {
-    if are_atoms_within(arena, memo, s, t)? {
+    if are_atoms_within(arena, memo, s, t) {
         return Ok(Some(s));
     }
     arena.keeps_made();

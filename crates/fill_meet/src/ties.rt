@@ -66,7 +66,7 @@ pub(crate) fn find_ties(
     reached[0] = true;
     let mut seen = vec![in alloc; 0; ys.len()]?;
     let room = seen.as_mut_slice();
-    let tried = Tried::new(alloc, nodes)?;
+    let tried = Tried::new(alloc, nodes, xs.len().saturating_add(ys.len()))?;
     let ties = List::with_capacity(alloc, xs.len())?;
     let mut net = Net {
         width,

@@ -1,5 +1,5 @@
 //! What was told of pairs of sets without a new set, in one call.
-ghost use Rattle.std.specs.Prelude.{◌≡◌, ◌⊎◌, List, set, Some, None, IfOk, IfSome, OnOk};
+ghost use Rattle.std.specs.Prelude.{◌≡◌, ◌⊎◌, ℕ, List, set, Some, None, IfOk, IfSome, OnOk};
 ghost use Rattle.std.specs.HashMap.{get, Updates};
 ghost use Rattle.fill_arena.specs.Contents.{EachIn, In};
 ghost use Rattle.fill_arena.specs.declared.entry.Entry.{Entry};
@@ -12,12 +12,14 @@ use std::alloc::Global;
 use std::collections::HashMap;
 
 /// How many answers a table keeps at most.
-const MOST: usize = 262_144;
+pub(crate) const MOST: usize = 262_144;
 
-/// How many answers about pairs of sets are kept for each pair of nodes.
-const SETS_A_NODE: usize = 4;
+/// How many answers about pairs of sets are kept for each edge. Tables of the size of the product take longer to clear than
+/// most small graphs to meet.
+const SETS_AN_EDGE: usize = 4;
 
-/// What was told of a pair of sets of places.
+/// What was told of a pair of sets of places: whether they may have something in common, or, in a table of its own, whether
+/// each place of the first one stands in the second one.
 #[derive(Clone, Copy)]
 pub(crate) struct Told {
     pub(crate) s: PlaceSet,
@@ -38,13 +40,13 @@ pub(crate) struct Tried {
 }
 
 impl Tried {
-    /// Tables that tell nothing yet, with room for the answers at so many pairs of nodes.
-    pub(crate) fn new(alloc: Global, nodes: usize) -> Result<Tried, NoMemory>
+    /// Tables that tell nothing yet, with room for the answers at so many pairs of nodes and of so many edges.
+    pub(crate) fn new(alloc: Global, nodes: usize, edges: usize) -> Result<Tried, NoMemory>
         ensures { IfOk result (λ tried. (c : List Entry) → AreTried c tried) }
     {
         Ok(Tried {
             recent: blanks(alloc, nodes.min(MOST))?,
-            places: blanks(alloc, nodes.saturating_mul(SETS_A_NODE).min(MOST))?,
+            places: blanks(alloc, edges.saturating_mul(SETS_AN_EDGE).min(MOST))?,
             sources: HashMap::new(alloc),
             atoms: HashMap::new(alloc),
         })
@@ -53,7 +55,7 @@ impl Tried {
 
 /// So many places where nothing was told yet.
 #[tactic(auto, using(crate::proofs::Trials::each_same))]
-fn blanks(alloc: Global, count: usize) -> Result<Vec<Option<Told>>, NoMemory>
+pub(crate) fn blanks(alloc: Global, count: usize) -> Result<Vec<Option<Told>>, NoMemory>
     ensures { IfOk result (λ made. EachIn (λ r. r ≡ None) made.items) }
 {
     let none: Option<Told> = None;
@@ -89,19 +91,41 @@ pub(crate) fn keep(recent: &mut [Option<Told>], at: usize, told: Told)
     }
 }
 
-/// The slot that the pair has in a table of this length.
-pub(crate) fn slot_of(s: PlaceSet, t: PlaceSet, length: usize) -> usize {
+/// The first of the two slots that the pair has in a table of this length; the other one is its neighbour.
+fn slot_of(s: PlaceSet, t: PlaceSet, length: usize) -> usize {
     let first = (s.index() as u64).wrapping_mul(0x9E37_79B9_7F4A_7C15);
     let both = first.wrapping_add(t.index() as u64);
     let mixed = both.wrapping_mul(0x9E37_79B9_7F4A_7C15) >> 32;
     (mixed.wrapping_mul(length as u64) >> 32) as usize
 }
 
-/// What was told of the pair, if no other one took its slot.
+/// What was told of the pair, if no other one took its slots.
 pub(crate) fn told_places(places: &[Option<Told>], s: PlaceSet, t: PlaceSet) -> Option<bool>
     ensures { IfSome result (λ may. In (Some (record { s = s; t = t; may = may })) places.now) }
 {
-    recall(places, slot_of(s, t, places.len()), s, t)
+    let first = slot_of(s, t, places.len());
+    if let Some(may) = recall(places, first, s, t) {
+        return Some(may);
+    }
+    recall(places, first ^ 1, s, t)
+}
+
+/// Keeps what was told of a pair: in the first of its slots if that is free, and else in the second one, in place of what
+/// stands there.
+pub(crate) fn tell_places(places: &mut [Option<Told>], told: Told)
+    ensures { (places.new ≡ places.old) ⊎ ((at : ℕ) × (places.new ≡ set places.old at (Some told))) }
+{
+    let first = slot_of(told.s, told.t, places.len());
+    if is_free(places, first) {
+        keep(places, first, told);
+        return;
+    }
+    keep(places, first ^ 1, told);
+}
+
+/// Whether nothing was kept at the place.
+fn is_free(places: &[Option<Told>], at: usize) -> bool {
+    at < places.len() && places[at].is_none()
 }
 
 /// What was told of the pair.

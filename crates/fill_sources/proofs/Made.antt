@@ -1,5 +1,5 @@
 -- What was made stays right as the arena grows and as more is kept.
-use Rattle.std.proofs.Common.{◌≡◌, ℕ, Bool, true, false, cond, ◌&&◌, List, Option, Some, nat_eq, refl, sym, ap, ◌∙◌, subst, rules, arith}
+use Rattle.std.proofs.Common.{◌≡◌, ℕ, Bool, true, false, cond, ◌&&◌, List, Option, Some, nat_eq, refl, sym, ap, ◌∙◌, subst, rules}
 use Rattle.std.specs.Str.{bytes_eq}
 use Rattle.fill_arena.specs.Contents.{Extends}
 use Rattle.fill_arena.specs.declared.entry.Entry.{Entry}
@@ -8,13 +8,14 @@ use Rattle.fill_sources.specs.Sets.{AreKnown, IsRight, pair_eq, texts_of}
 use Rattle.fill_sources.specs.declared.known.Known.{Known}
 use Rattle.fill_sources.specs.declared.memo.Memo.{Memo}
 use Rattle.fill_sources.specs.declared.row.OnRow.{OnRow}
+use Rattle.fill_sources.proofs.Finding.{recalled_stays}
 use Rattle.fill_sources.proofs.Naming.{same_text}
 
 pub right_stays : (on : OnRow) (texts : List (List ℕ)) (c d : List Entry) → Extends c d → (memo : Memo) → IsRight on texts c memo → IsRight on texts d memo
 right_stays on texts c d o memo r =
     record {
       indexes = r.indexes;
-      places = λ k made h v at e x. r.places k made h v at e (extends_on c d e o x);
+      places = recalled_stays on.settings.profile c d o texts memo.places.items r.places;
       sources = λ k made h v at e x. r.sources k made h v at e (extends_on c d e o x);
       parts = λ k made h e x. r.parts k made h e (extends_on c d e o x);
     }

@@ -1,9 +1,8 @@
 -- Conditions that are put together, cell by cell.
-use Rattle.std.proofs.Common.{◌≡◌, ℕ, ◌+◌, List, [], ◌∷◌, ◌++◌, map, take, Some, slice_get, sym, ap, ◌∙◌, subst, arith}
+use Rattle.std.proofs.Common.{◌≡◌, ℕ, ◌+◌, List, [], ◌∷◌, ◌++◌, map, take, Some, slice_get, sym, ap, ◌∙◌, subst}
 use Rattle.std.proofs.lemmas.List.{map-append, take_more}
 use Rattle.std.proofs.lemmas.Option.{get_or_from_slice_get, slice_get_within}
 use Rattle.fill_text.specs.Data.{nth, key_at, table_cell_at, table_row_at}
-use Rattle.fill_arena.specs.declared.entry.Entry.TheVariants as kind
 use Rattle.fill_reach.specs.Reach.{IsReached}
 use Rattle.fill_reach.specs.declared.rows.ReachedRow.{ReachedRow}
 use Rattle.fill_reach.proofs.CellLaws.{cell_of, some_same}

@@ -51,6 +51,10 @@ ArePartsIn on c v None = (a : AtomTree) → ¬ (PartGives on v a)
 ArePartsIn on c v (Some s) = IsAtomSet c s × ((a : AtomTree) → AtomStands c s a ↔ PartGives on v a)
 
 -- exactly the places of the profile whose value in the text is k stand in the set; without a set there is none
+abbrev pub ArePlacesOf : ℕ → List Entry → List ℕ → ℕ → Option ℕ → Type 0
+ArePlacesOf profile c v k None = (p : Place) → ¬ (IsPlaceOf profile p × HasValue p v k)
+ArePlacesOf profile c v k (Some s) = IsPlaceSet c s × ((p : Place) → PlaceStands c s p ↔ (IsPlaceOf profile p × HasValue p v k))
+
+-- .. of the settings' profile
 abbrev pub ArePlacesAt : OnRow → List Entry → List ℕ → ℕ → Option ℕ → Type 0
-ArePlacesAt on c v k None = (p : Place) → ¬ (IsPlaceOf on.settings.profile p × HasValue p v k)
-ArePlacesAt on c v k (Some s) = IsPlaceSet c s × ((p : Place) → PlaceStands c s p ↔ (IsPlaceOf on.settings.profile p × HasValue p v k))
+ArePlacesAt on c v k made = ArePlacesOf on.settings.profile c v k made

@@ -1,3 +1,4 @@
+pub mod Found
 pub mod Gives
 pub mod Origins
 pub mod Readers

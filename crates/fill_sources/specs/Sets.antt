@@ -12,6 +12,7 @@ use Rattle.fill_arena.specs.declared.entry.Entry.{Entry}
 use Rattle.fill_places.specs.Index.{IndexView}
 use Rattle.fill_reach.specs.Reach.{Picks}
 use Rattle.fill_reach.specs.declared.rows.ReachedRow.{ReachedRow}
+use Rattle.fill_sources.specs.Found.{AreRecalled}
 use Rattle.fill_sources.specs.Gives.{AreSourcesIn, ArePartsIn, ArePlacesAt, Gives, IsOnRow, at_depth}
 use Rattle.fill_sources.specs.Origins.{AreTexts, texts_in}
 use Rattle.fill_sources.specs.declared.known.Known.{Known}
@@ -60,7 +61,7 @@ part_in memo k = get_by (λ y. bytes_eq k.0 y.0.now && nat_eq k.1 y.1) memo.part
 -- what was made is right
 pub record IsRight (on : OnRow) (texts : List (List ℕ)) (c : List Entry) (memo : Memo) : Type 0 where
   pub indexes : (k : ℕ) (index : IndexView) → get nat_eq memo.indexes k ≡ Some index → IsIndexOf on texts k index
-  pub places : (k : ℕ × ℕ) (made : Option ℕ) → get pair_eq memo.places k ≡ Some made → IsPlaceMade on texts c k made
+  pub places : AreRecalled on.settings.profile c texts memo.places.items
   pub sources : (k : ℕ × ℕ) (made : Option ℕ) → get pair_eq memo.sources k ≡ Some made → IsSourceMade on texts c k made
   pub parts : (k : List ℕ × ℕ) (made : Option ℕ) → part_in memo k ≡ Some made → IsPartMade on c k made
 

@@ -3,10 +3,13 @@ ghost use Rattle.std.specs.Prelude.{◌≡◌, ◌<◌, ◌≤◌, ℕ, List, le
 ghost use Rattle.fill_arena.specs.Contents.{Extends};
 ghost use Rattle.fill_arena.specs.declared.entry.Entry.{Entry};
 ghost use Rattle.fill_sources.specs.Gives.{ArePlacesAt, AreSourcesOf, IsOnRow};
+ghost use Rattle.fill_sources.specs.Found.{AreFound, AreRecalled, PlacesStand};
+ghost use Rattle.fill_sources.specs.Origins.{texts_in};
 ghost use Rattle.fill_sources.specs.Sets.{AreKnown, texts_of};
 
 use crate::found::find_texts;
-use crate::memo::Memo;
+use crate::memo::{Memo, TextPlaces};
+use crate::memory::PlaceMemory;
 use crate::places::places_at;
 use crate::row::{Look, OnRow};
 use crate::sources::sources_at;
@@ -16,6 +19,36 @@ use fill_arena::{Arena, PlaceSet, SourceSet};
 use fill_text::{NoMemory, Text};
 use std::alloc::Global;
 
+/// What earlier rows found of the positions of these texts.
+fn recall_places(
+    alloc: Global,
+    texts: &Texts<'_>,
+    profile: u8,
+    memory: &PlaceMemory,
+) -> Result<Vec<TextPlaces>, NoMemory>
+    ensures { IfOk result (λ places. (c : List Entry) → PlacesStand c memory.now → AreRecalled profile c (texts_in texts.now) places.items) }
+{
+    let named = texts.named.as_slice();
+    let mut places = Vec::with_capacity(alloc, named.len())?;
+    for k in 0..named.len() {
+        let found = memory.recall(alloc, named[k].text, profile)?;
+        places.push(TextPlaces {
+            found,
+            is_new: false,
+        })?;
+    }
+    Ok(places)
+}
+
+/// Keeps what was found of the positions of the text, where this row found some of it.
+fn keep_text(alloc: Global, text: &Text, profile: u8, places: &TextPlaces, memory: &mut PlaceMemory)
+    ensures { (c : List Entry) → AreFound profile c text.now places.now.found.items → PlacesStand c memory.old → PlacesStand c memory.new }
+{
+    if places.is_new {
+        memory.keep(alloc, text, profile, places.found.as_slice());
+    }
+}
+
 /// The texts that sources of the grammar give on one row, and the sets that were made for them so far.
 #[derive(Drop)]
 pub struct Known<'a> {
@@ -24,16 +57,34 @@ pub struct Known<'a> {
 }
 
 impl<'a> Known<'a> {
-    /// Finds the texts. It makes no set.
-    pub fn new(alloc: Global, on: &OnRow<'a>) -> Result<Known<'a>, NoMemory>
+    /// Finds the texts, and what earlier rows found of them. It makes no set.
+    pub fn new(alloc: Global, on: &OnRow<'a>, memory: &PlaceMemory) -> Result<Known<'a>, NoMemory>
         requires { IsOnRow on.now }
-        ensures { IfOk result (λ known. (c : List Entry) → AreKnown on.now c known) }
+        ensures { IfOk result (λ known. (c : List Entry) → PlacesStand c memory.now → AreKnown on.now c known) }
     {
         let texts = find_texts(alloc, on)?;
+        let places = recall_places(alloc, &texts, on.settings.profile, memory)?;
         Ok(Known {
             texts,
-            memo: Memo::new(alloc),
+            memo: Memo::new(alloc, places),
         })
+    }
+
+    /// Keeps the sets of places that were made for this row.
+    pub fn keep_places(&self, alloc: Global, on: &OnRow<'a>, memory: &mut PlaceMemory)
+        ensures { (c : List Entry) → AreKnown on.now c self.now → PlacesStand c memory.old → PlacesStand c memory.new }
+    {
+        let named = self.texts.named.as_slice();
+        let places = self.memo.places.as_slice();
+        for k in 0..places.len().min(named.len()) {
+            keep_text(
+                alloc,
+                named[k].text,
+                on.settings.profile,
+                &places[k],
+                memory,
+            );
+        }
     }
 
     /// How many texts are known.

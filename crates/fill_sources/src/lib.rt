@@ -9,6 +9,7 @@
 mod found;
 mod known;
 mod memo;
+mod memory;
 mod parts;
 mod places;
 mod row;
@@ -17,4 +18,5 @@ mod spots;
 mod texts;
 
 pub use known::Known;
+pub use memory::PlaceMemory;
 pub use row::OnRow;

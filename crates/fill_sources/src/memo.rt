@@ -1,32 +1,108 @@
 //! The sets that were made for a row, so that each is made once.
-ghost use Rattle.std.specs.Prelude.{◌≡◌, ℕ, List as Listed, IfSome, OnOk};
+ghost use Rattle.std.specs.Prelude.{◌≡◌, ◌⊎◌, ℕ, List as Listed, slice_set, IfOk, IfSome, OnOk};
+ghost use Rattle.fill_arena.specs.Contents.{EachIn, Extends};
 ghost use Rattle.fill_arena.specs.declared.entry.Entry.{Entry};
+ghost use Rattle.fill_sources.specs.Found.{AreFound, AreRecalled, IsFound};
+ghost use Rattle.fill_sources.specs.Gives.{ArePlacesOf};
 ghost use Rattle.fill_sources.specs.Sets.{IsIndexOf, IsPartMade, IsPlaceMade, IsRight, IsSourceMade};
+ghost use Rattle.fill_sources.specs.declared.memory.Found.TheVariants.{NotYet};
 ghost use Rattle.fill_sources.specs.declared.row.OnRow.{OnRow as Row};
 
+use crate::memory::Found;
 use fill_arena::{AtomSet, PlaceSet, SourceSet};
 use fill_places::PlaceIndex;
 use fill_text::{NoMemory, Text};
 use std::alloc::Global;
 use std::collections::HashMap;
 
-/// The index of places of each text by its number; the set of the places of each position by the numbers of the text and the
-/// position; the set of the sources by the number of the text and the depth; the set of the parts by their value and depth.
+/// What was found of the positions of a text.
+#[derive(Drop)]
+pub(crate) struct TextPlaces {
+    pub(crate) found: Vec<Found>,
+    /// Whether something was found on this row.
+    pub(crate) is_new: bool,
+}
+
+/// The index of places of each text by its number; what was found of the positions of each text by its number; the set of the
+/// sources by the number of the text and the depth; the set of the parts by their value and depth.
 #[derive(Drop)]
 pub(crate) struct Memo<'a> {
     indexes: HashMap<usize, PlaceIndex>,
-    places: HashMap<(usize, usize), Option<PlaceSet>>,
+    pub(crate) places: Vec<TextPlaces>,
     sources: HashMap<(usize, u8), Option<SourceSet>>,
     parts: HashMap<(&'a [char], u8), Option<AtomSet>>,
 }
 
+impl TextPlaces {
+    /// Puts what was found of a position of the text, which has so many.
+    fn put(
+        &mut self,
+        alloc: Global,
+        at: usize,
+        positions: usize,
+        found: Found,
+    ) -> Result<(), NoMemory>
+        ensures { OnOk result ((profile : ℕ) (c : Listed Entry) (v : Listed ℕ) → AreFound profile c v self.old.found.items → IsFound profile c v at found → AreFound profile c v self.new.found.items) }
+    {
+        make_room(alloc, &mut self.found, at, positions)?;
+        put_found(&mut self.found, at, found);
+        self.is_new = true;
+        Ok(())
+    }
+}
+
+/// Begins with nothing found of each of so many positions, where there is no room for that one.
+fn make_room(
+    alloc: Global,
+    found: &mut Vec<Found>,
+    at: usize,
+    positions: usize,
+) -> Result<(), NoMemory>
+    ensures { OnOk result ((profile : ℕ) (c : Listed Entry) (v : Listed ℕ) → AreFound profile c v found.old.items → AreFound profile c v found.new.items) }
+{
+    if at < found.len() {
+        return Ok(());
+    }
+    *found = blanks(alloc, positions)?;
+    Ok(())
+}
+
+/// So many positions of which nothing was found.
+#[tactic(auto, using(crate::proofs::Finding::each_same))]
+fn blanks(alloc: Global, count: usize) -> Result<Vec<Found>, NoMemory>
+    ensures { IfOk result (λ made. EachIn (λ f. f ≡ NotYet) made.items) }
+{
+    let made = vec![in alloc; Found::NotYet; count]?;
+    Ok(made)
+}
+
+/// Puts what was found of a position, if there is one.
+fn put_found(found: &mut Vec<Found>, at: usize, new: Found)
+    ensures { (found.new.items ≡ found.old.items) ⊎ (found.new.items ≡ slice_set found.old.items at new) }
+{
+    if at < found.len() {
+        found[at] = new;
+    }
+}
+
+/// What is found where this set was made, or none.
+fn found_of(made: &Option<PlaceSet>) -> Found
+    ensures { (profile : ℕ) (c : Listed Entry) (v : Listed ℕ) (k : ℕ) → ((d : Listed Entry) → Extends c d → ArePlacesOf profile d v k made.now) → IsFound profile c v k result }
+{
+    match *made {
+        Some(places) => Found::In(places),
+        None => Found::Nowhere,
+    }
+}
+
 impl<'a> Memo<'a> {
-    pub(crate) fn new(alloc: Global) -> Memo<'a>
-        ensures { (on : Row) (texts : Listed (Listed ℕ)) (c : Listed Entry) → IsRight on texts c result }
+    /// What earlier rows found, and nothing of this one yet.
+    pub(crate) fn new(alloc: Global, places: Vec<TextPlaces>) -> Memo<'a>
+        ensures { (on : Row) (texts : Listed (Listed ℕ)) (c : Listed Entry) → AreRecalled on.settings.profile c texts places.items → IsRight on texts c result }
     {
         Memo {
             indexes: HashMap::new(alloc),
-            places: HashMap::new(alloc),
+            places,
             sources: HashMap::new(alloc),
             parts: HashMap::new(alloc),
         }
@@ -50,24 +126,36 @@ impl<'a> Memo<'a> {
     pub(crate) fn place(&self, k: usize, at: usize) -> Option<Option<PlaceSet>>
         ensures { (on : Row) (texts : Listed (Listed ℕ)) (c : Listed Entry) → IsRight on texts c self.now → IfSome result (IsPlaceMade on texts c (k, at)) }
     {
-        match self.places.get(&(k, at)) {
-            Some(made) => Some(*made),
-            None => None,
+        if k >= self.places.len() {
+            return None;
+        }
+        let found = self.places[k].found.as_slice();
+        if at >= found.len() {
+            return None;
+        }
+        let told = found[at];
+        match told {
+            Found::NotYet => None,
+            Found::Nowhere => Some(None),
+            Found::In(places) => Some(Some(places)),
         }
     }
 
+    /// Keeps the set of the places at a position of a text that has so many.
     pub(crate) fn keep_place(
         &mut self,
+        alloc: Global,
         k: usize,
         at: usize,
+        positions: usize,
         made: &Option<PlaceSet>,
     ) -> Result<(), NoMemory>
         ensures { OnOk result ((on : Row) (texts : Listed (Listed ℕ)) (c : Listed Entry) → IsRight on texts c self.old → IsPlaceMade on texts c (k, at) made.now → IsRight on texts c self.new) }
     {
-        match self.places.insert((k, at), *made) {
-            Ok(_) => Ok(()),
-            Err(_) => Err(NoMemory),
+        if k >= self.places.len() {
+            return Ok(());
         }
+        self.places[k].put(alloc, at, positions, found_of(made))
     }
 
     pub(crate) fn source(&self, k: usize, depth: u8) -> Option<Option<SourceSet>>

@@ -74,6 +74,7 @@ pub(crate) fn places_at(
     }
     let places = list_places(look, memo, h)?;
     let made = place_set(arena, places.as_slice())?;
-    memo.keep_place(h.text, h.at, &made)?;
+    let positions = look.texts.named[h.text].text.len() + 1;
+    memo.keep_place(look.alloc, h.text, h.at, positions, &made)?;
     Ok(made)
 }

@@ -4,6 +4,9 @@ use Rattle.std.specs.HashMap.{get, Updates}
 use Rattle.fill_arena.specs.Contents.{Extends}
 use Rattle.fill_arena.specs.WellMade.{IsWellMade}
 use Rattle.fill_arena.specs.declared.entry.Entry.{Entry}
+use Rattle.fill_sources.specs.Found.{PlacesStand}
+use Rattle.fill_sources.specs.declared.memory.PlaceMemory.{PlaceMemory}
+use Rattle.fill_sources.proofs.Finding.{places_stand_on}
 use Rattle.fill_space.specs.Built.{AreBuilt, IsBuilt}
 use Rattle.fill_space.specs.Ground.{Ground}
 use Rattle.fill_space.specs.Met.{AreCopies}
@@ -13,7 +16,14 @@ use Rattle.fill_space.proofs.Copies.{same_at}
 use Rattle.fill_space.proofs.Growing.{grown}
 
 pub built_stays : (g : Ground) (c d : List Entry) → IsWellMade c → Extends c d → (built : Built) → AreBuilt g c built → AreBuilt g d built
-built_stays g c d made on built b = record { each = λ row f h. grown g c d made on f.graph (record { row = row; text = f.text } ∷ []) (b.each row f h) }
+built_stays g c d made on built b = record {
+  each = λ row f h. grown g c d made on f.graph (record { row = row; text = f.text } ∷ []) (b.each row f h);
+  places = places_stand_on c d on built.places b.places;
+}
+
+-- .. with what was found of the places of a further row
+pub build_kept : (g : Ground) (c d : List Entry) → IsWellMade c → Extends c d → (built : Built) (places : PlaceMemory) → PlacesStand d places → AreBuilt g c built → AreBuilt g d (record built { places = places })
+build_kept g c d made on built places stand b = record { each = (built_stays g c d made on built b).each; places = stand }
 
 pub built_carried : (g : Ground) (c d : List Entry) (old new : List ℕ) → AreCopies c d old new → (row : ℕ) (text : List ℕ) (i k n : ℕ)
     → slice_get old i ≡ Some k → slice_get new i ≡ Some n → IsBuilt g c row text k → IsBuilt g d row text n
@@ -34,5 +44,5 @@ module _ (g : Ground) (c : List Entry) (old new : Built) (row : ℕ) (made : Bui
       subst (λ v. IsBuilt g c v b.text b.graph) same (subst (λ (f : BuiltFor). IsBuilt g c row f.text f.graph) kept is)
   put_step j b false e u h is r = r.each j b (sym u ∙ h)
 
-  pub built_put : Updates nat_eq old.table new.table row (Some made) → IsBuilt g c row made.text made.graph → AreBuilt g c old → AreBuilt g c new
-  built_put u is r = record { each = λ j b h. put_step j b (nat_eq row j) refl (u.0 j) h is r }
+  pub built_put : Updates nat_eq old.table new.table row (Some made) → IsBuilt g c row made.text made.graph → PlacesStand c new.places → AreBuilt g c old → AreBuilt g c new
+  built_put u is places r = record { each = λ j b h. put_step j b (nat_eq row j) refl (u.0 j) h is r; places = places }

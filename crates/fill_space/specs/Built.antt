@@ -2,6 +2,7 @@
 use Rattle.std.specs.Prelude.{◌≡◌, ℕ, List, [], ◌∷◌, Some, nat_eq}
 use Rattle.std.specs.HashMap.{get}
 use Rattle.fill_arena.specs.declared.entry.Entry.{Entry}
+use Rattle.fill_sources.specs.Found.{PlacesStand}
 use Rattle.fill_space.specs.Ground.{Ground}
 use Rattle.fill_space.specs.Spaces.{SpaceStands, spaces_over}
 use Rattle.fill_space.specs.declared.built.Built.{Built}
@@ -14,3 +15,4 @@ IsBuilt g c row text graph = SpaceStands (spaces_over g c) graph (record { row =
 -- all that is kept is so in the arena
 pub record AreBuilt (g : Ground) (c : List Entry) (built : Built) : Type 0 where
   pub each : (row : ℕ) (b : BuiltFor) → get nat_eq built.table row ≡ Some b → IsBuilt g c row b.text b.graph
+  pub places : PlacesStand c built.places

@@ -11,8 +11,9 @@ ghost use Rattle.fill_space.specs.declared.ground.Ground.{Ground as Over};
 
 use crate::ground::Ground;
 use fill_arena::{Arena, GraphId};
-use fill_build::build;
+use fill_build::build_with;
 use fill_edge::{Ledger, Steps};
+use fill_sources::PlaceMemory;
 use fill_text::{NoMemory, Text};
 use fill_tree::Example;
 use std::alloc::Global;
@@ -25,10 +26,11 @@ pub(crate) struct BuiltFor {
     pub(crate) graph: GraphId,
 }
 
-/// For rows the last graph that was built for an example of the row.
+/// For rows the last graph that was built for an example of the row, and the sets of places that were found for these graphs.
 #[derive(Drop)]
 pub(crate) struct Built {
     pub(crate) table: HashMap<u32, BuiltFor>,
+    pub(crate) places: PlaceMemory,
 }
 
 impl Built {
@@ -38,6 +40,7 @@ impl Built {
     {
         Built {
             table: HashMap::new(alloc),
+            places: PlaceMemory::new(alloc),
         }
     }
 
@@ -81,7 +84,7 @@ fn put_built(
     }
 }
 
-/// The graph of the programs that explain the example, or none where there are none: as [`build`] finds it, in one step, and
+/// The graph of the programs that explain the example, or none where there are none: as [`build_with`] finds it, in one step, and
 /// where it was the last one that was built for the row, as it was found then.
 pub(crate) fn build_once<L: Ledger>(
     alloc: Global,
@@ -107,8 +110,9 @@ pub(crate) fn build_once<L: Ledger>(
         steps.tick();
         return Ok(Some(graph));
     }
-    match build(
+    match build_with(
         alloc,
+        &mut built.places,
         arena,
         row,
         text,

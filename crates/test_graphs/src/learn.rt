@@ -5,11 +5,12 @@ ghost use Rattle.fill_tree.specs.Grammar.{AreSettings};
 
 use fill_arena::{Arena, GraphId};
 use fill_best::best;
-use fill_build::build;
+use fill_build::{build, build_with};
 use fill_edge::{Ledger, Steps};
 use fill_print::print_program;
 use fill_rank::least;
 use fill_sheet::Sheet;
+use fill_sources::PlaceMemory;
 use fill_tables::Tables;
 use fill_text::{List, NoMemory, Text};
 use fill_tree::{Constants, Program, Settings};
@@ -183,7 +184,34 @@ struct On<'a> {
     text: &'a Text,
 }
 
-/// Builds the graph in the arena.
+/// Builds the graph twice, the second time with the sets of places that were found the first time. None where there is no
+/// graph, or where these are two.
+fn build_again<L: Ledger>(
+    alloc: Global,
+    arena: &mut Arena,
+    steps: &mut Steps<L>,
+    on: On,
+    settings: &Settings,
+) -> Result<Option<GraphId>, NoMemory>
+    requires row { 1 ≤ length on.sheet.now.rows }
+    requires short { length on.text.now ≤ 100 }
+    requires settings { AreSettings settings.now }
+{
+    let mut memory = PlaceMemory::new(alloc);
+    let places = &mut memory;
+    let first = build_with(
+        alloc, places, arena, 1, on.text, on.sheet, on.tables, settings, steps,
+    )?;
+    let second = build_with(
+        alloc, places, arena, 1, on.text, on.sheet, on.tables, settings, steps,
+    )?;
+    if first != second {
+        return Ok(None);
+    }
+    Ok(second)
+}
+
+/// Builds the graph in the arena, and before that in another way, which comes to the same.
 fn learns_in<L: Ledger>(
     alloc: Global,
     arena: &mut Arena,
@@ -196,9 +224,14 @@ fn learns_in<L: Ledger>(
     requires short { length on.text.now ≤ 100 }
     requires settings { AreSettings settings.now }
 {
-    match build(
+    let again = build_again(alloc, arena, steps, on, settings)?;
+    let made = build(
         alloc, arena, 1, on.text, on.sheet, on.tables, settings, steps,
-    )? {
+    )?;
+    if again != made {
+        return Ok(false);
+    }
+    match made {
         Some(graph) => has(alloc, arena, graph, learned),
         None => Ok(matches!(learned, Learned::Nothing)),
     }

@@ -1,11 +1,22 @@
 use Rattle.std.proofs.Common.{ℕ, ◌+◌, List, length, sym, subst}
 use Rattle.std.specs.Prelude.{IfOk, MatchOption}
 use Rattle.fill_arena.specs.declared.entry.Edge.{Edge}
+use Rattle.fill_sources.proofs.Finding.{places_stand_on}
 use Rattle.fill_trim.specs.Marks.{HasNoWalk}
 use Rattle.fill_trim.specs.Trim.{IsTrimmed}
 use Rattle.fill_build.specs.Edges.{EdgesSoFar}
 use Rattle.fill_build.proofs.Graphs.{walks_result}
 use Rattle.fill_build.proofs.uncut.build_walks.Goals as goal
+
+pub piece_edges-requires-clause-known : goal.piece_edges-requires-clause-known
+piece_edges-requires-clause-known c = c.in-Ok.ensures c.args.arena.now c.requires.memory
+
+pub returns-in_err-edges-clause-memory : goal.returns-in_err-edges-clause-memory
+returns-in_err-edges-clause-memory c = places_stand_on c.args.arena.now c.piece_edges.new.arena c.piece_edges.ensures.kept c.args.memory.now c.requires.memory
+
+pub returns-clause-memory : goal.returns-clause-memory
+returns-clause-memory c =
+    c.keep_places.ensures c.piece_edges.new.arena c.in_ok-edges.ensures.known (places_stand_on c.args.arena.now c.piece_edges.new.arena c.piece_edges.ensures.kept c.args.memory.now c.requires.memory)
 
 pub returns-clause-walks : goal.returns-clause-walks
 returns-clause-walks c =

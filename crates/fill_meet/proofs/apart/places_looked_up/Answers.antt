@@ -4,7 +4,7 @@ use Rattle.fill_arena.specs.Contents.{EachIn}
 use Rattle.fill_arena.specs.declared.entry.Entry.TheVariants.{Places}
 use Rattle.fill_meet.specs.declared.tried.Told.{Told}
 use Rattle.fill_meet.specs.Tried.{IsTold, PlacesTried}
-use Rattle.fill_meet.proofs.Trials.{each_lent, kept_told, places_unshared}
+use Rattle.fill_meet.proofs.Trials.{each_lent, kept_somewhere, places_unshared}
 use Rattle.fill_meet.proofs.apart.places_looked_up.Goals as goal
 
 pub returns-in-Some-clause-apart : goal.returns-in-Some-clause-apart
@@ -28,8 +28,8 @@ returns-clause-tried c =
     let old = subst (EachIn (IsTold c.args.arena.now)) (sym c.as_mut_slice.ensures.value) tried.places in
     record {
       recent = tried.recent;
-      places = each_lent (IsTold c.args.arena.now) _ _ c.keep.new.recent _
-          (kept_told (IsTold c.args.arena.now) c.as_mut_slice.result.now c.keep.new.recent c.slot_of-slot.result (Some told) c.keep.ensures apart old) tried.places;
+      places = each_lent (IsTold c.args.arena.now) _ _ c.tell_places.new.places _
+          (kept_somewhere (IsTold c.args.arena.now) c.as_mut_slice.result.now c.tell_places.new.places (Some told) c.tell_places.ensures apart old) tried.places;
       sources = tried.sources;
       atoms = tried.atoms;
     }

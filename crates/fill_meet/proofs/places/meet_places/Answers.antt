@@ -11,6 +11,7 @@ pub returns-clause-memo : goal.returns-clause-memo
 returns-clause-memo c =
     let right = right_stays _ _ c.make_places.ensures.kept _ c.requires.memo in
     record {
+      within = right.within;
       places = right_put (PlaceSetsMeet c.make_places.new.arena) _ _ _ _ _ c.in_ok-put_places.ensures c.in_ok-made.ensures.met right.places;
       sources = right.sources;
       atoms = right.atoms;

@@ -1,10 +1,22 @@
 use Rattle.std.proofs.Common.{true, false, length, sym, ◌∙◌}
 use Rattle.std.proofs.lemmas.Bool.{false≢true}
 use Rattle.std.proofs.lemmas.Option.{get_or_from_slice_get}
-use Rattle.fill_arena.proofs.Lists.{extends_on}
+use Rattle.fill_arena.proofs.Lists.{extends_same, extends_on}
 use Rattle.fill_meet.proofs.Lists.{here}
-use Rattle.fill_meet.proofs.Seams.{sets_stay, joined_stays, joined_dead, joined_put, joined_end}
+use Rattle.fill_meet.proofs.Seams.{joined_start, sets_stay, joined_stays, joined_dead, joined_put, joined_end}
 use Rattle.fill_meet.proofs.product.join_ties.Goals as goal
+
+pub loop-i-init : goal.loop-i-init
+loop-i-init c =
+    record {
+      kept = extends_same c.args.arena.now;
+      memo = c.in_ok-memo.ensures c.args.arena.now;
+      sets = c.requires.sets;
+      joined = joined_start c.args.arena.now c.args.live.now c.args.ties.now c.in_ok-edges.edges c.in_ok-edges.ensures;
+    }
+
+pub bounds-live-tie : goal.bounds-live-tie
+bounds-live-tie c = (c.requires.ties.onward c.loop-i.i c.index-ties-i.result (here _ _ _ c.loop-i-test.true c.index-ties-i.is)).1
 
 pub loop-i-preserved-then-not-live-tie : goal.loop-i-preserved-then-not-live-tie
 loop-i-preserved-then-not-live-tie c =
@@ -35,6 +47,9 @@ loop-i-preserved c =
       joined = joined_put c.join.new.arena c.args.live.now (length c.args.live.now) c.args.ties.now c.requires.ties c.loop-i.i c.loop-i.edges
           (joined_stays c.loop-i.arena c.join.new.arena o c.args.live.now c.args.ties.now c.loop-i.i c.loop-i.edges inv.joined) c.index-ties-i.result (here _ _ _ c.loop-i-test.true c.index-ties-i.is) c.join.new.edges done.joined;
     }
+
+pub returns-in_err-join-clause-kept : goal.returns-in_err-join-clause-kept
+returns-in_err-join-clause-kept c = extends_on _ _ _ c.loop-i.invariant.kept c.join.ensures.kept
 
 pub returns-clause-joined : goal.returns-clause-joined
 returns-clause-joined c = joined_end c.loop-i.arena c.args.live.now (length c.args.live.now) c.args.ties.now c.requires.ties c.loop-i.i c.loop-i.edges c.loop-i.invariant.joined c.loop-i-test.false

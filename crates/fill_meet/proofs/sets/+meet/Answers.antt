@@ -25,10 +25,13 @@ make_atoms-loop-i-init n c =
     let ht = c.atoms-2.ensures ∙ ap (λ l. Some (Atoms l)) (sym (c.as_slice-ys.ensures ∙ c.in_ok-second.ensures)) in
     record {
       kept = extends_same c.args.arena.now;
-      memo = c.in_ok-are_atoms_within.ensures.memo;
+      memo = c.if-are_atoms_within.ensures.memo;
       pairs = state_start AtomIn IsAtomItem atom_item_stays c.args.arena.now c.args.s c.args.t _ _ _ c.in_ok-zs.ensures (c.keeps_made.ensures c.args.s (Atoms c.as_slice-xs.result.now) hs).each
           (c.keeps_made.ensures c.args.t (Atoms c.as_slice-ys.result.now) ht).each;
     }
+
+pub make_atoms-returns-then-are_atoms_within-clause-met : goal.make_atoms-returns-then-are_atoms_within-clause-met
+make_atoms-returns-then-are_atoms_within-clause-met n c = c.if-are_atoms_within.ensures.within refl
 
 pub make_atoms-returns-then-len-eq0-clause-met : goal.make_atoms-returns-then-len-eq0-clause-met
 make_atoms-returns-then-len-eq0-clause-met n c =
@@ -155,6 +158,7 @@ pub meet_atoms-returns-clause-memo : goal.meet_atoms-returns-clause-memo
 meet_atoms-returns-clause-memo n c =
     let right = c.in_ok-made.ensures.memo in
     record {
+      within = right.within;
       places = right.places;
       sources = right.sources;
       atoms = right_put (AtomSetsMeet c.make_atoms.new.arena) _ _ _ _ _ c.in_ok-put_atoms.ensures c.in_ok-made.ensures.met right.atoms;
@@ -263,6 +267,7 @@ pub meet_sources-returns-clause-memo : goal.meet_sources-returns-clause-memo
 meet_sources-returns-clause-memo n c =
     let right = c.in_ok-made.ensures.memo in
     record {
+      within = right.within;
       places = right.places;
       sources = right_put (SourceSetsMeet c.make_sources.new.arena) _ _ _ _ _ c.in_ok-put_sources.ensures c.in_ok-made.ensures.met right.sources;
       atoms = right.atoms;

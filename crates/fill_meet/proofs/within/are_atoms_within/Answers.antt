@@ -19,9 +19,9 @@ is_in_some-requires-clause-second c = (c.args.t, (c.keeps_made.ensures c.args.t 
 pub loop-i-preserved : goal.loop-i-preserved
 loop-i-preserved c =
     record {
-      memo = c.in_ok-is_in_some.ensures.memo;
+      memo = c.is_in_some.ensures.memo;
       within = all_more (λ x. SomeIn (IsItemWithin c.args.arena.now x) c.atoms-ys.result.now) _ _ _ (here _ _ _ c.loop-i-test.true c.index-xs-i.is) c.loop-i.invariant.within
-          (c.in_ok-is_in_some.ensures.within c.if-not-branch.false);
+          (c.is_in_some.ensures.within c.if-not-is_in_some.false);
     }
 
 pub returns-clause-within : goal.returns-clause-within

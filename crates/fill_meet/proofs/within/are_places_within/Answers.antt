@@ -1,12 +1,29 @@
-use Rattle.std.proofs.Common.{sym, ◌∙◌, subst}
-use Rattle.fill_meet.specs.Sets.{PlaceSetsMeet}
-use Rattle.fill_meet.proofs.Selves.{number_same, places_self, told}
+use Rattle.std.proofs.Common.{◌≡◌, Some, slice_get, sym, ◌∙◌, subst}
+use Rattle.fill_arena.specs.Contents.{EachIn}
+use Rattle.fill_meet.specs.Memory.{WithinTold}
+use Rattle.fill_meet.specs.declared.tried.Told.{Told}
+use Rattle.fill_meet.proofs.Selves.{number_same, places_self}
+use Rattle.fill_meet.proofs.Trials.{each_lent, kept_somewhere}
 use Rattle.fill_meet.proofs.within.are_places_within.Goals as goal
 
 pub returns-then-eq-clause-within : goal.returns-then-eq-clause-within
 returns-then-eq-clause-within c = λ e. places_self c.args.arena.now c.keeps_made.ensures c.args.s c.args.t (number_same c.args.s c.args.t (sym c.eq.ensures ∙ c.if-eq.true)) c.requires.first
 
 pub returns-in-Some-clause-within : goal.returns-in-Some-clause-within
-returns-in-Some-clause-within c = λ e.
-    subst (λ o. PlaceSetsMeet c.args.arena.now c.args.s c.args.t o) (c.is_set.ensures e)
-    (told (PlaceSetsMeet c.args.arena.now) _ c.args.s c.args.t _ c.requires.memo.places c.in-Some.ensures)
+returns-in-Some-clause-within c =
+    let told : Told = record { s = c.args.s; t = c.args.t; may = c.in-Some.within } in
+    let there = c.in-Some.ensures in
+    c.requires.memo.within there.0 (Some told) (subst (λ l. slice_get l there.0 ≡ Some (Some told)) c.as_slice.ensures.value there.1)
+
+pub returns-clause-memo : goal.returns-clause-memo
+returns-clause-memo c =
+    let told : Told = record { s = c.args.s; t = c.args.t; may = c.is_within-within.result } in
+    let right = c.requires.memo in
+    let old = subst (EachIn (WithinTold c.args.arena.now)) (sym c.as_mut_slice.ensures.value) right.within in
+    record {
+      within = each_lent (WithinTold c.args.arena.now) _ _ c.tell_places.new.places _
+          (kept_somewhere (WithinTold c.args.arena.now) c.as_mut_slice.result.now c.tell_places.new.places (Some told) c.tell_places.ensures c.is_within-within.ensures old) right.within;
+      places = right.places;
+      sources = right.sources;
+      atoms = right.atoms;
+    }

@@ -1,4 +1,4 @@
-use Rattle.std.proofs.Common.{◌≡◌, All, Some, nat_eq, subst}
+use Rattle.std.proofs.Common.{◌≡◌, All, Some, nat_eq, subst, rules}
 use Rattle.std.specs.HashMap.{get}
 use Rattle.std.proofs.lemmas.List.Elements.{All-head, All-tail}
 use Rattle.fill_space.proofs.carried.carry_built.Goals as goal
@@ -14,3 +14,9 @@ loop-row-preserved c =
           c.carry_row.ensures g before after old new (told.each row built (All-head (λ e. get nat_eq c.args.built.now.table e.0 ≡ Some e.1) (row, built) _ left)) replaced copies
           (c.loop-row.invariant.told g before after old new told replaced copies);
     }
+
+pub loop-row-init : goal.loop-row-init
+loop-row-init c = record {
+  found = search rules;
+  told = λ g before after old new told replaced copies. c.new-carried.ensures g after;
+}

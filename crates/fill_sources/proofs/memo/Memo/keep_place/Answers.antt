@@ -1,12 +1,18 @@
-use Rattle.std.specs.HashMap.{get}
-use Rattle.fill_sources.specs.Sets.{IsPlaceMade, pair_eq}
-use Rattle.fill_sources.proofs.Made.{pair_same, put_right}
+use Rattle.std.proofs.Common.{arith}
+use Rattle.std.proofs.lemmas.Result.{on_ok_weaker}
+use Rattle.fill_sources.proofs.Finding.{recalled_put}
 use Rattle.fill_sources.proofs.memo.Memo.keep_place.Goals as goal
 
-pub returns-in-Ok : goal.returns-in-Ok
-returns-in-Ok c on texts d right made = record {
-  indexes = right.indexes;
-  places = put_right pair_eq pair_same (IsPlaceMade on texts d) (λ q. get pair_eq c.args.self.now.places q) (λ q. get pair_eq c.insert.new.self q) (c.args.k, c.args.at) c.args.made.now c.in-Ok.ensures.updates.0 made right.places;
-  sources = right.sources;
-  parts = right.parts;
-}
+pub returns : goal.returns
+returns c =
+    let long = c.len.ensures in
+    let within = c.if-k-len.false in
+    on_ok_weaker c.put.result (λ more on texts d right made.
+    record {
+      indexes = right.indexes;
+      places = recalled_put on.settings.profile d texts c.args.self.now.places.items right.places c.args.k c.index_mut.result.now c.put.new.self (omega arith) c.index_mut.ensures.value
+          (λ v there is. more on.settings.profile d v is (c.found_of.ensures on.settings.profile d v c.args.at (made v there)));
+      sources = right.sources;
+      parts = right.parts;
+    })
+    c.put.ensures

@@ -2,7 +2,7 @@ use Rattle.std.proofs.Common.{take, ap, sym, ◌∙◌, subst, arith}
 use Rattle.fill_arena.specs.Contents.{Extends}
 use Rattle.fill_arena.proofs.Lists.{extends_front, extends_same}
 use Rattle.fill_build.proofs.Lists.{extends_length}
-use Rattle.fill_build.proofs.graph.build.Goals as goal
+use Rattle.fill_build.proofs.graph.build_with.Goals as goal
 
 pub cut-requires : goal.cut-requires
 cut-requires g c = let long = extends_length _ _ c.build_uncut.ensures.kept in let at = c.mark-mark.ensures in omega arith

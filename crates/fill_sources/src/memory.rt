@@ -1,0 +1,138 @@
+//! What was found of the places of texts, kept from row to row, so that a text that comes again isn't read again.
+ghost use Rattle.std.specs.Prelude.{◌≡◌, ℕ, List as Listed, nat_eq, Some, IfOk, OnOk};
+ghost use Rattle.std.specs.HashMap.{Updates};
+ghost use Rattle.fill_arena.specs.declared.entry.Entry.{Entry};
+ghost use Rattle.fill_sources.specs.Found.{AreFound, PlacesStand};
+ghost use Rattle.fill_sources.specs.declared.memory.Kept.{Kept as KeptText};
+
+use fill_arena::PlaceSet;
+use fill_text::{NoMemory, Text};
+use std::alloc::Global;
+use std::collections::HashMap;
+
+/// How many texts are kept at most.
+const MOST: usize = 1024;
+
+/// How many characters the kept texts may have together. Usual cells have some ten each.
+const LONGEST: usize = 65_536;
+
+/// What was found of a position of a text.
+#[derive(Clone, Copy)]
+pub(crate) enum Found {
+    /// Nothing yet.
+    NotYet,
+    /// No place has it as its value.
+    Nowhere,
+    /// The set of the places whose value it is.
+    In(PlaceSet),
+}
+
+/// What was found of the positions of a text under a profile.
+#[derive(Drop)]
+pub(crate) struct Kept {
+    pub(crate) text: Text,
+    pub(crate) profile: u8,
+    pub(crate) found: Vec<Found>,
+}
+
+/// The sets of the places of positions of texts, as far as they were found on earlier rows. It is of one arena, in which
+/// these sets are.
+///
+/// Texts are kept by a number that few of them share; of those that do, the last one is kept.
+#[derive(Drop)]
+pub struct PlaceMemory {
+    pub(crate) texts: HashMap<u64, Kept>,
+    /// How many characters the texts have together, at most.
+    size: usize,
+}
+
+impl PlaceMemory {
+    /// Where nothing was found yet. This takes no memory.
+    pub fn new(alloc: Global) -> PlaceMemory
+        ensures { (c : Listed Entry) → PlacesStand c result }
+    {
+        PlaceMemory {
+            texts: HashMap::new(alloc),
+            size: 0,
+        }
+    }
+
+    /// What was found of the positions of the text, if it is known.
+    pub(crate) fn recall(
+        &self,
+        alloc: Global,
+        text: &Text,
+        profile: u8,
+    ) -> Result<Vec<Found>, NoMemory>
+        ensures { IfOk result (λ found. (c : Listed Entry) → PlacesStand c self.now → AreFound profile c text.now found.items) }
+    {
+        let Some(kept) = self.texts.get(&number_of(text)) else {
+            return Ok(Vec::new(alloc));
+        };
+        if kept.profile != profile {
+            return Ok(Vec::new(alloc));
+        }
+        if !kept.text.same(text) {
+            return Ok(Vec::new(alloc));
+        }
+        let found = Vec::from_slice(alloc, &kept.found)?;
+        Ok(found)
+    }
+
+    /// Keeps what was found of the positions of the text. Where there is no room for it, all is forgotten.
+    pub(crate) fn keep(&mut self, alloc: Global, text: &Text, profile: u8, found: &[Found])
+        ensures { (c : Listed Entry) → PlacesStand c self.old → AreFound profile c text.now found.now → PlacesStand c self.new }
+    {
+        self.make_room(alloc, text.len());
+        match put_kept(alloc, &mut self.texts, text, profile, found) {
+            Ok(()) => {}
+            Err(NoMemory) => self.texts = HashMap::new(alloc),
+        }
+    }
+
+    /// Forgets all where the texts are too many or too long, so that memory stays bounded.
+    fn make_room(&mut self, alloc: Global, more: usize)
+        ensures { (c : Listed Entry) → PlacesStand c self.old → PlacesStand c self.new }
+    {
+        if self.texts.len() < MOST && self.size < LONGEST {
+            self.size = self.size.saturating_add(more);
+            return;
+        }
+        self.texts = HashMap::new(alloc);
+        self.size = more;
+    }
+}
+
+fn put_kept(
+    alloc: Global,
+    texts: &mut HashMap<u64, Kept>,
+    text: &Text,
+    profile: u8,
+    found: &[Found],
+) -> Result<(), NoMemory>
+    ensures { OnOk result ((number : ℕ) × (k : KeptText) × Updates nat_eq texts.old texts.new number (Some k) × (k.text ≡ text.now) × (k.profile ≡ profile) × (k.found.items ≡ found.now)) }
+{
+    let number = number_of(text);
+    let text = text.copy()?;
+    let found = Vec::from_slice(alloc, found)?;
+    match texts.insert(
+        number,
+        Kept {
+            text,
+            profile,
+            found,
+        },
+    ) {
+        Ok(_) => Ok(()),
+        Err(_) => Err(NoMemory),
+    }
+}
+
+/// A number that few texts share.
+fn number_of(text: &Text) -> u64 {
+    let mut number: u64 = 0xcbf2_9ce4_8422_2325;
+    for c in text.as_slice() {
+        number = (number ^ (*c as u64)).wrapping_mul(0x0100_0000_01b3);
+    }
+    number
+}
