@@ -1,17 +1,17 @@
 -- The sets of places of an arena are the slices of its pool as entries come, and as the last ones go.
-use Rattle.std.proofs.Common.{◌≡◌, ℕ, suc, zero, ◌+◌, ◌-◌, ◌<◌, ◌≤◌, ◌⊎◌, inl, inr, List, [], ◌∷◌, ◌++◌, map, length, take, get_or, slice_get, Some, refl, sym, ap, ◌∙◌, subst, arith}
+use Rattle.std.proofs.Common.{◌≡◌, ℕ, suc, zero, ◌+◌, ◌<◌, ◌≤◌, List, [], ◌∷◌, ◌++◌, map, length, take, get_or, slice_get, Some, refl, sym, ap, ◌∙◌, subst, arith}
 use Rattle.std.proofs.lemmas.List.{get_or-take, get_or_append_left, map-append, take-map, take_more, get_or_at}
 use Rattle.fill_tokens.specs.declared.place.Place.{Place}
 use Rattle.fill_arena.specs.Entries.{AreInPool, IsItems, entry_at}
-use Rattle.fill_arena.specs.declared.entry.Entry.{Entry}
 use Rattle.fill_arena.specs.declared.entry.Entry.TheVariants as kind
 use Rattle.fill_arena.specs.declared.entries.Kept.{Kept}
-use Rattle.fill_arena.specs.declared.entries.Kept.TheVariants.{Places, Sources, Atoms, Graph}
+use Rattle.fill_arena.specs.declared.entries.Kept.TheVariants.{Places, Sources, Atom, Atoms, Graph}
 
 in_order : (a b : ℕ) (ks : List Kept) → AreInPool a ks b → a ≤ b
 in_order a b [] h = omega arith
 in_order a b (Places s m ∷ ks) h = let rest = in_order (a + 1) b ks h.2 in omega arith
 in_order a b (Sources xs ∷ ks) h = in_order a b ks h
+in_order a b (Atom x ∷ ks) h = in_order a b ks h
 in_order a b (Atoms xs ∷ ks) h = in_order a b ks h
 in_order a b (Graph n xs ∷ ks) h = in_order a b ks h
 
@@ -19,16 +19,19 @@ pub places_pushed : (a b : ℕ) (ks : List Kept) → AreInPool a ks b → AreInP
 places_pushed a b [] h = (sym h, sym h, ap (λ n. n + 1) h)
 places_pushed a b (Places s m ∷ ks) h = (h.0, h.1, places_pushed (a + 1) b ks h.2)
 places_pushed a b (Sources xs ∷ ks) h = places_pushed a b ks h
+places_pushed a b (Atom x ∷ ks) h = places_pushed a b ks h
 places_pushed a b (Atoms xs ∷ ks) h = places_pushed a b ks h
 places_pushed a b (Graph n xs ∷ ks) h = places_pushed a b ks h
 
 pub items_pushed : (a b : ℕ) (ks : List Kept) (k : Kept) → IsItems k → AreInPool a ks b → AreInPool a (ks ++ k ∷ []) b
 items_pushed a b [] (Places s m) is h = absurd is
 items_pushed a b [] (Sources xs) is h = h
+items_pushed a b [] (Atom x) is h = h
 items_pushed a b [] (Atoms xs) is h = h
 items_pushed a b [] (Graph n xs) is h = h
 items_pushed a b (Places s m ∷ ks) k is h = (h.0, h.1, items_pushed (a + 1) b ks k is h.2)
 items_pushed a b (Sources xs ∷ ks) k is h = items_pushed a b ks k is h
+items_pushed a b (Atom x ∷ ks) k is h = items_pushed a b ks k is h
 items_pushed a b (Atoms xs ∷ ks) k is h = items_pushed a b ks k is h
 items_pushed a b (Graph n xs ∷ ks) k is h = items_pushed a b ks k is h
 
@@ -37,16 +40,19 @@ places_off : (a b : ℕ) (ks : List Kept) (s m : ℕ) → AreInPool a (ks ++ Pla
 places_off a b [] s m h = sym h.1
 places_off a b (Places t n ∷ ks) s m h = (h.0, h.1, places_off (a + 1) b ks s m h.2)
 places_off a b (Sources xs ∷ ks) s m h = places_off a b ks s m h
+places_off a b (Atom x ∷ ks) s m h = places_off a b ks s m h
 places_off a b (Atoms xs ∷ ks) s m h = places_off a b ks s m h
 places_off a b (Graph n xs ∷ ks) s m h = places_off a b ks s m h
 
 items_off : (a b : ℕ) (ks : List Kept) (k : Kept) → IsItems k → AreInPool a (ks ++ k ∷ []) b → AreInPool a ks b
 items_off a b [] (Places s m) is h = absurd is
 items_off a b [] (Sources xs) is h = h
+items_off a b [] (Atom x) is h = h
 items_off a b [] (Atoms xs) is h = h
 items_off a b [] (Graph n xs) is h = h
 items_off a b (Places s m ∷ ks) k is h = (h.0, h.1, items_off (a + 1) b ks k is h.2)
 items_off a b (Sources xs ∷ ks) k is h = items_off a b ks k is h
+items_off a b (Atom x ∷ ks) k is h = items_off a b ks k is h
 items_off a b (Atoms xs ∷ ks) k is h = items_off a b ks k is h
 items_off a b (Graph n xs ∷ ks) k is h = items_off a b ks k is h
 
@@ -56,6 +62,7 @@ some_end a b ks zero h = (a, refl)
 some_end a b [] (suc i) h = (a, refl)
 some_end a b (Places s m ∷ ks) (suc i) h = let r = some_end (a + 1) b ks i h.2 in (r.0, (h.0, h.1, r.1))
 some_end a b (Sources xs ∷ ks) (suc i) h = some_end a b ks i h
+some_end a b (Atom x ∷ ks) (suc i) h = some_end a b ks i h
 some_end a b (Atoms xs ∷ ks) (suc i) h = some_end a b ks i h
 some_end a b (Graph n xs ∷ ks) (suc i) h = some_end a b ks i h
 
@@ -79,6 +86,7 @@ shown_same a b (Places s m ∷ ks) xss yss h same =
     let le = in_order (a + 1) b ks h.2 in
     ap (λ l. kind.Places l ∷ map (entry_at yss) ks) (same s (omega (arith, h.0))) ∙ ap (λ l. kind.Places (get_or xss s []) ∷ l) (shown_same (a + 1) b ks xss yss h.2 same)
 shown_same a b (Sources xs ∷ ks) xss yss h same = ap (λ l. kind.Sources xs ∷ l) (shown_same a b ks xss yss h same)
+shown_same a b (Atom x ∷ ks) xss yss h same = ap (λ l. kind.Atoms (x ∷ []) ∷ l) (shown_same a b ks xss yss h same)
 shown_same a b (Atoms xs ∷ ks) xss yss h same = ap (λ l. kind.Atoms xs ∷ l) (shown_same a b ks xss yss h same)
 shown_same a b (Graph n xs ∷ ks) xss yss h same = ap (λ l. kind.Graph n xs ∷ l) (shown_same a b ks xss yss h same)
 
@@ -94,6 +102,7 @@ shown_pushed ks xss xs h =
 pub shown_more : (ks : List Kept) (k : Kept) (xss : List (List Place)) → IsItems k → map (entry_at xss) (ks ++ k ∷ []) ≡ map (entry_at xss) ks ++ entry_at [] k ∷ []
 shown_more ks (Places s m) xss is = absurd is
 shown_more ks (Sources xs) xss is = map-append (entry_at xss) ks (Sources xs ∷ [])
+shown_more ks (Atom x) xss is = map-append (entry_at xss) ks (Atom x ∷ [])
 shown_more ks (Atoms xs) xss is = map-append (entry_at xss) ks (Atoms xs ∷ [])
 shown_more ks (Graph n xs) xss is = map-append (entry_at xss) ks (Graph n xs ∷ [])
 
@@ -109,6 +118,7 @@ end_within b ks n m = within 0 b ks n m where
   within a b [] (suc n) m h g = omega (arith, g, h)
   within a b (Places s t ∷ ks) (suc n) m h g = within (a + 1) b ks n m h.2 g.2
   within a b (Sources xs ∷ ks) (suc n) m h g = within a b ks n m h g
+  within a b (Atom x ∷ ks) (suc n) m h g = within a b ks n m h g
   within a b (Atoms xs ∷ ks) (suc n) m h g = within a b ks n m h g
   within a b (Graph k xs ∷ ks) (suc n) m h g = within a b ks n m h g
 
@@ -120,7 +130,9 @@ slice_there a b (Places t n ∷ ks) zero s m is h =
 slice_there a b (Places t n ∷ ks) (suc i) s m is h = slice_there (a + 1) b ks i s m is h.2
 slice_there a b (Sources xs ∷ ks) zero s m is h = absurd cc
 slice_there a b (Sources xs ∷ ks) (suc i) s m is h = slice_there a b ks i s m is h
+slice_there a b (Atom x ∷ ks) zero s m is h = absurd cc
 slice_there a b (Atoms xs ∷ ks) zero s m is h = absurd cc
+slice_there a b (Atom x ∷ ks) (suc i) s m is h = slice_there a b ks i s m is h
 slice_there a b (Atoms xs ∷ ks) (suc i) s m is h = slice_there a b ks i s m is h
 slice_there a b (Graph n xs ∷ ks) zero s m is h = absurd cc
 slice_there a b (Graph n xs ∷ ks) (suc i) s m is h = slice_there a b ks i s m is h
@@ -133,5 +145,6 @@ get_shown (x ∷ ks) (suc i) k xss h = get_shown ks i k xss h
 pub no_places : (k : Kept) → ((s m : ℕ) → k ≡ Places s m → ⊥) → IsItems k
 no_places (Places s m) h = h s m refl
 no_places (Sources xs) h = tt
+no_places (Atom x) h = tt
 no_places (Atoms xs) h = tt
 no_places (Graph n xs) h = tt

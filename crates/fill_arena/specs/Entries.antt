@@ -6,7 +6,7 @@ use Rattle.fill_arena.specs.declared.entry.Entry.TheVariants as kind
 use Rattle.fill_arena.specs.declared.entries.Content.{Content}
 use Rattle.fill_arena.specs.declared.entries.Content.TheVariants as lent
 use Rattle.fill_arena.specs.declared.entries.Kept.{Kept}
-use Rattle.fill_arena.specs.declared.entries.Kept.TheVariants.{Places, Sources, Atoms, Graph}
+use Rattle.fill_arena.specs.declared.entries.Kept.TheVariants.{Places, Sources, Atom, Atoms, Graph}
 
 -- the entry that is lent
 abbrev pub entry_of : Content → Entry
@@ -19,6 +19,7 @@ entry_of (lent.Graph n xs) = kind.Graph n xs.now
 abbrev pub entry_at : List (List Place) → Kept → Entry
 entry_at slices (Places s m) = kind.Places (slice_index_or slices s [])
 entry_at slices (Sources xs) = kind.Sources xs
+entry_at slices (Atom x) = kind.Atoms (x ∷ [])
 entry_at slices (Atoms xs) = kind.Atoms xs
 entry_at slices (Graph n xs) = kind.Graph n xs
 
@@ -26,6 +27,7 @@ entry_at slices (Graph n xs) = kind.Graph n xs
 abbrev pub IsItems : Kept → Type 0
 IsItems (Places s m) = ⊥
 IsItems (Sources xs) = Unit {0}
+IsItems (Atom x) = Unit {0}
 IsItems (Atoms xs) = Unit {0}
 IsItems (Graph n xs) = Unit {0}
 
@@ -35,5 +37,6 @@ abbrev pub AreInPool : ℕ → List Kept → ℕ → Type 0
 AreInPool start [] end = start ≡ end
 AreInPool start (Places s m ∷ ks) end = (s ≡ start) × (m ≡ start) × AreInPool (start + 1) ks end
 AreInPool start (Sources xs ∷ ks) end = AreInPool start ks end
+AreInPool start (Atom x ∷ ks) end = AreInPool start ks end
 AreInPool start (Atoms xs ∷ ks) end = AreInPool start ks end
 AreInPool start (Graph n xs ∷ ks) end = AreInPool start ks end

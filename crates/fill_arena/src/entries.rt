@@ -1,5 +1,5 @@
 //! The sets and graphs of an arena under their numbers.
-ghost use Rattle.std.specs.Prelude.{◌≡◌, ℕ, ◌<◌, ◌≤◌, [], ◌∷◌, ◌++◌, length, take, slice_get, Some, OnOk, OnErr};
+ghost use Rattle.std.specs.Prelude.{◌≡◌, ℕ, ◌<◌, ◌≤◌, [], ◌∷◌, ◌++◌, length, take, slice_get, Some, OnOk, OnErr, MatchResult};
 ghost use Rattle.std.specs.Option.{unwrap_or};
 ghost use Rattle.fill_arena.specs.declared.entry.Entry.{Entry as Listed};
 ghost use Rattle.fill_arena.specs.Entries.{AreInPool, IsItems, entry_at, entry_of};
@@ -10,6 +10,7 @@ use fill_text::{List, NoMemory};
 use fill_tokens::Place;
 use std::alloc::Global;
 use std::marker::Model;
+use std::slice;
 
 /// What stands under one number, lent.
 #[derive(Clone, Copy)]
@@ -21,11 +22,12 @@ pub(crate) enum Content<'a> {
 }
 
 /// What is kept under one number. A set of places is kept as its slice of the pool, and with it what the pool had
-/// before.
+/// before; a set of one atom, as most of them are, without a list.
 #[derive(Debug, Drop)]
 enum Kept {
     Places(Span, PoolMark),
     Sources(List<SourceItem>),
+    Atom(AtomItem),
     Atoms(List<AtomItem>),
     Graph(usize, List<Edge>),
 }
@@ -80,6 +82,7 @@ impl Entries {
         match &self.kept[number] {
             Kept::Places(span, _) => Content::Places(self.places.slice(*span)),
             Kept::Sources(items) => Content::Sources(items.as_slice()),
+            Kept::Atom(item) => Content::Atoms(slice::from_ref(item)),
             Kept::Atoms(items) => Content::Atoms(items.as_slice()),
             Kept::Graph(nodes, edges) => Content::Graph(*nodes, edges.as_slice()),
         }
@@ -93,7 +96,7 @@ impl Entries {
         match entry {
             Entry::Places(places) => self.push_places(places.as_slice()),
             Entry::Sources(items) => self.push_items(Kept::Sources(items)),
-            Entry::Atoms(items) => self.push_items(Kept::Atoms(items)),
+            Entry::Atoms(items) => self.push_atoms(items),
             Entry::Graph(nodes, edges) => self.push_items(Kept::Graph(nodes, edges)),
         }
     }
@@ -108,6 +111,17 @@ impl Entries {
         let span = self.places.append(places)?;
         self.kept.push_reserved(Kept::Places(span, before));
         Ok(())
+    }
+
+    /// Puts a set of atoms at the end.
+    fn push_atoms(&mut self, items: List<AtomItem>) -> Result<(), NoMemory>
+        ensures ok { OnOk result (self.new ≡ self.old ++ Listed.Atoms items ∷ []) }
+        ensures err { OnErr result (self.new ≡ self.old) }
+    {
+        match sole(items) {
+            Ok(item) => self.push_items(Kept::Atom(item)),
+            Err(items) => self.push_items(Kept::Atoms(items)),
+        }
     }
 
     /// Puts an entry of another kind at the end.
@@ -131,6 +145,19 @@ impl Entries {
             self.places.cut(mark);
         }
     }
+}
+
+/// The atom of a list of one, or the list where it has another number of them.
+fn sole(items: List<AtomItem>) -> Result<AtomItem, List<AtomItem>>
+    ensures { MatchResult result (λ item. items ≡ item ∷ []) (λ list. list ≡ items) }
+{
+    let mut all = items.into_vec();
+    if all.len() == 1 {
+        if let Some(item) = all.pop() {
+            return Ok(item);
+        }
+    }
+    Err(List::from_vec(all))
 }
 
 /// What the pool had before the first set of places from a number on, if there is one.

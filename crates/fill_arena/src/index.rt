@@ -1,5 +1,7 @@
 //! Where contents stand, found by their hash.
-ghost use Rattle.std.specs.Prelude.{◌≡◌, ◌++◌, ◌∷◌, [], take, slice_get, Some, List as Items, IfOk, OnOk, OnErr, MatchOption};
+ghost use Rattle.std.specs.Prelude.{◌≡◌, ◌+◌, ◌%◌, ◌^◌, ◌++◌, ◌∷◌, [], take, slice_get, Some, List as Items, IfOk, OnOk, OnErr, MatchOption};
+ghost use Rattle.std.specs.Hash as fed;
+ghost use Rattle.std.proofs.Common.{ap, ◌∙◌, rules};
 ghost use Rattle.fill_arena.specs.Contents.{In};
 ghost use Rattle.fill_arena.specs.Index.{IsFound, IsIndexed};
 ghost use Rattle.fill_arena.specs.declared.entry.Entry.{Entry as Listed};
@@ -11,13 +13,25 @@ use crate::same::same_entry;
 use fill_text::NoMemory;
 use indexmap::IndexSet;
 use std::alloc::Global;
+use std::hash::{Hash, Hasher};
 use std::marker::Model;
 
 /// The place in the index of one number: the hash of what stands under it, and how many older numbers have that hash.
-#[derive(Clone, Copy, Debug, PartialEq, Eq, Hash)]
+#[derive(Clone, Copy, Debug, PartialEq, Eq)]
 pub(crate) struct Slot {
     pub(crate) hash: u64,
     pub(crate) turn: u64,
+}
+
+impl Hash for Slot {
+    ghost hash_input = { λ slot. fed.u64 ((slot.hash + slot.turn) % 2 ^ 64) };
+
+    ghost respects_eq = { λ x y alike. let same : (x.hash ≡ y.hash) × (x.turn ≡ y.turn) = Prim.search rules in ap (λ n. fed.u64 ((n + x.turn) % 2 ^ 64)) same.0 ∙ ap (λ n. fed.u64 ((y.hash + n) % 2 ^ 64)) same.1 };
+
+    /// One number is written, since the hash of an entry is spread well as it is.
+    fn hash<H: Hasher>(&self, state: &mut H) {
+        state.write_u64(self.hash.wrapping_add(self.turn));
+    }
 }
 
 /// Where an entry stands: under a number, or under none, and then the slot that it gets.

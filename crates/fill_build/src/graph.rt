@@ -52,8 +52,8 @@ pub fn build<L: Ledger>(
     )
 }
 
-/// As [`build`], with the sets of places that were found for earlier examples, on any row of any sheet. Where it makes no
-/// graph, these are forgotten.
+/// As [`build`], with the sets of places of this arena that were found for earlier examples, on any row of any sheet; those of
+/// this row are put to them. Where it makes no graph, all are forgotten.
 pub fn build_with<L: Ledger>(
     alloc: Global,
     memory: &mut PlaceMemory,

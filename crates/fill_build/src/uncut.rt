@@ -14,7 +14,8 @@ use fill_text::{NoMemory, Text};
 use fill_trim::trim::{Trimmed, trim};
 use std::alloc::Global;
 
-/// The graph of the programs that explain the example, or none where there are none; the sets of the row stay in the arena.
+/// The graph of the programs that explain the example, or none where there are none; the sets of the row stay in the arena,
+/// and those of places in the memory.
 pub(crate) fn build_uncut<'a, L: Ledger>(
     alloc: Global,
     memory: &mut PlaceMemory,

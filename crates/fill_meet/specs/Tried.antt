@@ -21,7 +21,7 @@ SourcesTried c s t may = may ≡ false → AreApart SourceStands c s t
 abbrev pub AtomsTried : List Entry → ℕ → ℕ → Bool → Type 0
 AtomsTried c s t may = may ≡ false → AreApart AtomStands c s t
 
--- what was told last in a slot is so
+-- what a slot tells is so
 abbrev pub IsTold : List Entry → Option Told → Type 0
 IsTold c r = IfSome r (λ told. PlacesTried c told.s told.t told.may)
 

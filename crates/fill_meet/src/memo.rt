@@ -11,7 +11,7 @@ use std::alloc::Global;
 use std::collections::HashMap;
 
 /// How many answers on what stands within another set are kept for each tie.
-const WITHIN_A_TIE: usize = 2;
+const ANSWERS_A_TIE: usize = 2;
 
 /// For each pair of sets that was met, their common set, or none where they are apart.
 ///
@@ -32,7 +32,7 @@ impl Memo {
     {
         Ok(Memo {
             alloc,
-            within: blanks(alloc, ties.saturating_mul(WITHIN_A_TIE).min(MOST))?,
+            within: blanks(alloc, ties.saturating_mul(ANSWERS_A_TIE).min(MOST))?,
             places: HashMap::new(alloc),
             sources: HashMap::new(alloc),
             atoms: HashMap::new(alloc),

@@ -11,6 +11,7 @@ ghost use Rattle.fill_meet.specs.Memory.{IsRight};
 ghost use Rattle.fill_meet.specs.Sets.{IsWithin, PlaceSetsMeet};
 
 use crate::memo::{Memo, find_places, put_places};
+use crate::within::are_places_within;
 use fill_arena::{Arena, PlaceSet};
 use fill_text::{List, NoMemory};
 use fill_tokens::Place;
@@ -49,19 +50,21 @@ pub(crate) fn meet_places(
 /// it was.
 fn make_places(
     arena: &mut Arena,
-    memo: &Memo,
+    memo: &mut Memo,
     s: PlaceSet,
     t: PlaceSet,
 ) -> Result<Option<PlaceSet>, NoMemory>
+    requires memo { IsRight arena.old memo.old }
     requires first { IsPlaceSet arena.old s }
     requires second { IsPlaceSet arena.old t }
     ensures kept { Extends arena.old arena.new }
+    ensures memo { IsRight arena.new memo.new }
     ensures met { IfOk result (PlaceSetsMeet arena.new s t) }
 {
-    if is_within(arena, s, t) {
+    if are_places_within(arena, memo, s, t) {
         return Ok(Some(s));
     }
-    if is_within(arena, t, s) {
+    if are_places_within(arena, memo, t, s) {
         return Ok(Some(t));
     }
     intern_common(arena, memo, s, t)

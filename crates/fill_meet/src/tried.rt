@@ -11,11 +11,11 @@ use fill_text::NoMemory;
 use std::alloc::Global;
 use std::collections::HashMap;
 
-/// How many answers a table keeps at most.
+/// How many answers a table keeps at most. A length of a table is even, as the two slots of a pair are neighbours.
 pub(crate) const MOST: usize = 262_144;
 
-/// How many answers about pairs of sets are kept for each edge. Tables of the size of the product take longer to clear than
-/// most small graphs to meet.
+/// How many answers about pairs of sets are kept for each edge. So many for each pair of nodes take longer to clear than most
+/// small graphs to meet.
 const SETS_AN_EDGE: usize = 4;
 
 /// What was told of a pair of sets of places: whether they may have something in common, or, in a table of its own, whether
@@ -29,8 +29,8 @@ pub(crate) struct Told {
 
 /// For each pair of sets that was tried, whether they may have something in common.
 ///
-/// Of sets of places a table keeps the last answer in each of its slots; the last one at a pair of nodes is kept apart, since
-/// what is asked there is mostly the same. An answer that gave way to another is found again.
+/// Of sets of places a table has two slots for each pair; the last answer at a pair of nodes is kept apart, since what is
+/// asked there is mostly the same. An answer that gave way to another is found again.
 #[derive(Drop)]
 pub(crate) struct Tried {
     pub(crate) recent: Vec<Option<Told>>,

@@ -74,7 +74,7 @@ fn is_item_within(arena: &Arena, memo: &mut Memo, x: &AtomItem, y: &AtomItem) ->
 }
 
 /// Whether each place of the first set stands in the second one, by the slots of all pairs.
-fn are_places_within(arena: &Arena, memo: &mut Memo, s: PlaceSet, t: PlaceSet) -> bool
+pub(crate) fn are_places_within(arena: &Arena, memo: &mut Memo, s: PlaceSet, t: PlaceSet) -> bool
     requires memo { IsRight arena.now memo.old }
     requires first { IsPlaceSet arena.now s }
     requires second { IsPlaceSet arena.now t }

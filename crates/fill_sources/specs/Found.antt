@@ -26,4 +26,4 @@ AreRecalled profile c texts places = (i : ℕ) (t : TextPlaces) (v : List ℕ) �
 
 -- all that is kept is so in the arena
 pub record PlacesStand (c : List Entry) (m : PlaceMemory) : Type 0 where
-  pub each : (number : ℕ) (k : Kept) → get nat_eq m.texts number ≡ Some k → AreFound k.profile c k.text k.found.items
+  pub each : (hash : ℕ) (k : Kept) → get nat_eq m.texts hash ≡ Some k → AreFound k.profile c k.text k.found.items

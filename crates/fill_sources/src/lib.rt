@@ -4,6 +4,8 @@
 //! A text stands for all that give it: the cells of the row, and the lookups of Singh and Gulwani, "Learning Semantic String
 //! Transformations from Examples" (PVLDB 5(8), 2012), section 4, of which each set is made of the sets of the sources that
 //! give the cells of the key.
+//!
+//! A text's places depend on the text alone, so the sets of them that one row made serve the next one (`PlaceMemory`).
 #![tactic(auto)]
 
 mod found;

@@ -1,4 +1,4 @@
-//! The sets that were made for a row, so that each is made once.
+//! The sets that were made for a row, or of places for an earlier one, so that each is made once.
 ghost use Rattle.std.specs.Prelude.{◌≡◌, ◌⊎◌, ℕ, List as Listed, slice_set, IfOk, IfSome, OnOk};
 ghost use Rattle.fill_arena.specs.Contents.{EachIn, Extends};
 ghost use Rattle.fill_arena.specs.declared.entry.Entry.{Entry};

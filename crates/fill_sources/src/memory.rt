@@ -16,6 +16,11 @@ const MOST: usize = 1024;
 /// How many characters the kept texts may have together. Usual cells have some ten each.
 const LONGEST: usize = 65_536;
 
+/// What the hash of a text begins with, and what it is multiplied by for each character (FNV-1a, over characters).
+const FIRST_HASH: u64 = 0xcbf2_9ce4_8422_2325;
+
+const HASH_FACTOR: u64 = 0x0100_0000_01b3;
+
 /// What was found of a position of a text.
 #[derive(Clone, Copy)]
 pub(crate) enum Found {
@@ -38,11 +43,11 @@ pub(crate) struct Kept {
 /// The sets of the places of positions of texts, as far as they were found on earlier rows. It is of one arena, in which
 /// these sets are.
 ///
-/// Texts are kept by a number that few of them share; of those that do, the last one is kept.
+/// Texts are kept by their hash; of those with one hash, the last one is kept.
 #[derive(Drop)]
 pub struct PlaceMemory {
     pub(crate) texts: HashMap<u64, Kept>,
-    /// How many characters the texts have together, at most.
+    /// How many characters the texts have together, at most: those of a text that is kept again count again.
     size: usize,
 }
 
@@ -66,7 +71,10 @@ impl PlaceMemory {
     ) -> Result<Vec<Found>, NoMemory>
         ensures { IfOk result (λ found. (c : Listed Entry) → PlacesStand c self.now → AreFound profile c text.now found.items) }
     {
-        let Some(kept) = self.texts.get(&number_of(text)) else {
+        if self.texts.len() == 0 {
+            return Ok(Vec::new(alloc));
+        }
+        let Some(kept) = self.texts.get(&hash_of(text)) else {
             return Ok(Vec::new(alloc));
         };
         if kept.profile != profile {
@@ -79,10 +87,14 @@ impl PlaceMemory {
         Ok(found)
     }
 
-    /// Keeps what was found of the positions of the text. Where there is no room for it, all is forgotten.
+    /// Keeps what was found of the positions of the text, if it is not too long. Where there is no memory for it, all is
+    /// forgotten.
     pub(crate) fn keep(&mut self, alloc: Global, text: &Text, profile: u8, found: &[Found])
         ensures { (c : Listed Entry) → PlacesStand c self.old → AreFound profile c text.now found.now → PlacesStand c self.new }
     {
+        if text.len() > LONGEST {
+            return;
+        }
         self.make_room(alloc, text.len());
         match put_kept(alloc, &mut self.texts, text, profile, found) {
             Ok(()) => {}
@@ -90,12 +102,13 @@ impl PlaceMemory {
         }
     }
 
-    /// Forgets all where the texts are too many or too long, so that memory stays bounded.
+    /// Forgets all where the texts are too many, or too long with so many characters more, so that memory stays bounded.
     fn make_room(&mut self, alloc: Global, more: usize)
         ensures { (c : Listed Entry) → PlacesStand c self.old → PlacesStand c self.new }
     {
-        if self.texts.len() < MOST && self.size < LONGEST {
-            self.size = self.size.saturating_add(more);
+        let size = self.size.saturating_add(more);
+        if self.texts.len() < MOST && size <= LONGEST {
+            self.size = size;
             return;
         }
         self.texts = HashMap::new(alloc);
@@ -110,13 +123,13 @@ fn put_kept(
     profile: u8,
     found: &[Found],
 ) -> Result<(), NoMemory>
-    ensures { OnOk result ((number : ℕ) × (k : KeptText) × Updates nat_eq texts.old texts.new number (Some k) × (k.text ≡ text.now) × (k.profile ≡ profile) × (k.found.items ≡ found.now)) }
+    ensures { OnOk result ((hash : ℕ) × (k : KeptText) × Updates nat_eq texts.old texts.new hash (Some k) × (k.text ≡ text.now) × (k.profile ≡ profile) × (k.found.items ≡ found.now)) }
 {
-    let number = number_of(text);
+    let hash = hash_of(text);
     let text = text.copy()?;
     let found = Vec::from_slice(alloc, found)?;
     match texts.insert(
-        number,
+        hash,
         Kept {
             text,
             profile,
@@ -128,11 +141,11 @@ fn put_kept(
     }
 }
 
-/// A number that few texts share.
-fn number_of(text: &Text) -> u64 {
-    let mut number: u64 = 0xcbf2_9ce4_8422_2325;
+/// A hash of the text, which few other texts have.
+fn hash_of(text: &Text) -> u64 {
+    let mut hash = FIRST_HASH;
     for c in text.as_slice() {
-        number = (number ^ (*c as u64)).wrapping_mul(0x0100_0000_01b3);
+        hash = (hash ^ (*c as u64)).wrapping_mul(HASH_FACTOR);
     }
-    number
+    hash
 }

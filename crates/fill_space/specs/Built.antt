@@ -1,4 +1,4 @@
--- What is known of graphs that were built for single examples.
+-- What is known of graphs that were built for single examples, and of sets of places that were found for them.
 use Rattle.std.specs.Prelude.{◌≡◌, ℕ, List, [], ◌∷◌, Some, nat_eq}
 use Rattle.std.specs.HashMap.{get}
 use Rattle.fill_arena.specs.declared.entry.Entry.{Entry}

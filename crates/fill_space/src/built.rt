@@ -44,7 +44,7 @@ impl Built {
         }
     }
 
-    /// Keeps the graph of the row's example. Where there is no room for it, all is forgotten.
+    /// Keeps the graph of the row's example. Where there is no room for it, all graphs are forgotten.
     pub(crate) fn keep(&mut self, alloc: Global, row: u32, text: &Text, graph: GraphId)
         ensures { (g : Over) (c : List Entry) → AreBuilt g c self.old → IsBuilt g c row text.now graph → AreBuilt g c self.new }
     {

@@ -113,6 +113,7 @@ fn carry_pair(
 }
 
 /// What is known of graphs of single examples, told of those that replace them. Where there is no room for it, less is known.
+/// Sets of places that were found for them are not carried over.
 pub(crate) fn carry_built(alloc: Global, built: &Built, copies: &HashMap<GraphId, GraphId>) -> Built
     ensures { (g : Ground) (c d : List Entry) (old new : List ℕ) → AreBuilt g c built.now → AreReplaced old new copies.now → AreCopies c d old new → AreBuilt g d result }
 {

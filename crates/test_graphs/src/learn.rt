@@ -184,15 +184,15 @@ struct On<'a> {
     text: &'a Text,
 }
 
-/// Builds the graph twice, the second time with the sets of places that were found the first time. None where there is no
-/// graph, or where these are two.
-fn build_again<L: Ledger>(
+/// Whether this graph, or none, is built again, and once more with the sets of places that were found meanwhile.
+fn builds_again<L: Ledger>(
     alloc: Global,
     arena: &mut Arena,
     steps: &mut Steps<L>,
     on: On,
     settings: &Settings,
-) -> Result<Option<GraphId>, NoMemory>
+    made: Option<GraphId>,
+) -> Result<bool, NoMemory>
     requires row { 1 ≤ length on.sheet.now.rows }
     requires short { length on.text.now ≤ 100 }
     requires settings { AreSettings settings.now }
@@ -205,13 +205,10 @@ fn build_again<L: Ledger>(
     let second = build_with(
         alloc, places, arena, 1, on.text, on.sheet, on.tables, settings, steps,
     )?;
-    if first != second {
-        return Ok(None);
-    }
-    Ok(second)
+    Ok(first == made && second == made)
 }
 
-/// Builds the graph in the arena, and before that in another way, which comes to the same.
+/// Builds the graph in the arena, also with sets of places that were found before.
 fn learns_in<L: Ledger>(
     alloc: Global,
     arena: &mut Arena,
@@ -224,14 +221,15 @@ fn learns_in<L: Ledger>(
     requires short { length on.text.now ≤ 100 }
     requires settings { AreSettings settings.now }
 {
-    let again = build_again(alloc, arena, steps, on, settings)?;
     let made = build(
         alloc, arena, 1, on.text, on.sheet, on.tables, settings, steps,
     )?;
-    if again != made {
+    if !builds_again(alloc, arena, steps, on, settings, made)? {
         return Ok(false);
     }
-    match made {
+    match build(
+        alloc, arena, 1, on.text, on.sheet, on.tables, settings, steps,
+    )? {
         Some(graph) => has(alloc, arena, graph, learned),
         None => Ok(matches!(learned, Learned::Nothing)),
     }

@@ -1,4 +1,4 @@
-use Rattle.std.proofs.Common.{◌≡◌, ◌≤◌, get_or, sym, subst, arith}
+use Rattle.std.proofs.Common.{◌≡◌, get_or, sym, subst, arith}
 use Rattle.fill_arena.specs.declared.entries.Kept.TheVariants.{Places}
 use Rattle.fill_arena.proofs.Pooled.{before_items, before_places, no_places}
 use Rattle.fill_arena.proofs.entries.first_mark.Goals as goal

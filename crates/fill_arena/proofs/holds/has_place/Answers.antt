@@ -1,4 +1,4 @@
-use Rattle.std.proofs.Common.{◌≡◌, false, refl}
+use Rattle.std.proofs.Common.{◌≡◌, refl}
 use Rattle.std.proofs.lemmas.Bool.{false≢true}
 use Rattle.fill_tokens.specs.declared.place.Place.{Place}
 use Rattle.fill_arena.proofs.Scan.{here, scan_more, scan_end}

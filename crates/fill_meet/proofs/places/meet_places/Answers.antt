@@ -1,6 +1,6 @@
 use Rattle.std.proofs.Common.{sym, ◌∙◌}
 use Rattle.fill_meet.specs.Sets.{PlaceSetsMeet}
-use Rattle.fill_meet.proofs.Memories.{right_stays, right_put}
+use Rattle.fill_meet.proofs.Memories.{right_put}
 use Rattle.fill_meet.proofs.Selves.{number_same, places_self, told}
 use Rattle.fill_meet.proofs.places.meet_places.Goals as goal
 
@@ -9,7 +9,7 @@ returns-in-Some-clause-met c = told (PlaceSetsMeet c.args.arena.now) _ c.args.s 
 
 pub returns-clause-memo : goal.returns-clause-memo
 returns-clause-memo c =
-    let right = right_stays _ _ c.make_places.ensures.kept _ c.requires.memo in
+    let right = c.make_places.ensures.memo in
     record {
       within = right.within;
       places = right_put (PlaceSetsMeet c.make_places.new.arena) _ _ _ _ _ c.in_ok-put_places.ensures c.in_ok-made.ensures.met right.places;

@@ -1,4 +1,4 @@
-use Rattle.std.proofs.Common.{◌≡◌, take, sym, ap, ◌∙◌, subst}
+use Rattle.std.proofs.Common.{◌≡◌, take, sym, subst}
 use Rattle.fill_arena.specs.Contents.{AreDistinct}
 use Rattle.fill_arena.specs.Index.{IsIndexed}
 use Rattle.fill_arena.specs.WellMade.{IsWellMade}

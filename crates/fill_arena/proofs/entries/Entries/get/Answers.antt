@@ -1,4 +1,4 @@
-use Rattle.std.proofs.Common.{◌≡◌, ◌<◌, length, slice_get, Some, sym, ap, ◌∙◌, arith}
+use Rattle.std.proofs.Common.{◌<◌, length, slice_get, Some, sym, ap, ◌∙◌, arith}
 use Rattle.std.proofs.lemmas.List.{length-map}
 use Rattle.fill_arena.specs.Entries.{entry_at}
 use Rattle.fill_arena.specs.declared.entries.Kept.TheVariants as kept
@@ -27,6 +27,13 @@ returns-in-Sources c =
     let lt : n < length ks = omega (arith, c.requires, ap length c.self.view_is, length-map ks (entry_at places)) in
     let there = here ks n c.index.result.now lt c.index.ensures ∙ ap Some c.in-Sources.is in
     ap (λ l. slice_get l n) (sym c.self.view_is) ∙ get_shown ks n (kept.Sources c.in-Sources.items) places there ∙ ap (λ l. Some (kind.Sources l)) (sym c.as_slice.ensures)
+
+pub returns-in-Atom : goal.returns-in-Atom
+returns-in-Atom c =
+    let ks = c.self.inside.kept.items in let places = c.self.inside.places in let n = c.args.number in
+    let lt : n < length ks = omega (arith, c.requires, ap length c.self.view_is, length-map ks (entry_at places)) in
+    let there = here ks n c.index.result.now lt c.index.ensures ∙ ap Some c.in-Atom.is in
+    ap (λ l. slice_get l n) (sym c.self.view_is) ∙ get_shown ks n (kept.Atom c.in-Atom.item) places there ∙ ap (λ l. Some (kind.Atoms l)) (sym c.from_ref.ensures.value)
 
 pub returns-in-Atoms : goal.returns-in-Atoms
 returns-in-Atoms c =

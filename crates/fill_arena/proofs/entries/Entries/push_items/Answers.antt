@@ -1,5 +1,5 @@
-use Rattle.std.proofs.Common.{length, sym, ap, ◌∙◌, ◌++◌, ◌∷◌, [], subst}
-use Rattle.fill_arena.specs.Entries.{AreInPool, entry_at}
+use Rattle.std.proofs.Common.{length, sym, subst}
+use Rattle.fill_arena.specs.Entries.{AreInPool}
 use Rattle.fill_arena.proofs.Pooled.{items_pushed}
 use Rattle.fill_arena.proofs.entries.Entries.push_items.Goals as goal
 
