@@ -18,6 +18,7 @@ mod rows;
 
 pub use halt::Halt;
 pub use report::write_report;
+pub use rows::{RowState, answer_field};
 
 #[cfg(test)]
 mod tests;

@@ -14,7 +14,7 @@ use std::alloc::Global;
 
 /// What is told of a row.
 #[derive(Clone, Copy, Debug, PartialEq, Eq)]
-pub(crate) enum RowState {
+pub enum RowState {
     /// The row has an example.
     Given,
     /// All programs agree on a text.
@@ -29,7 +29,7 @@ pub(crate) enum RowState {
 
 impl RowState {
     /// The state of the row of an answer.
-    fn of(answer: &Answer) -> RowState
+    pub fn of(answer: &Answer) -> RowState
         ensures { result ≡ row_state answer.now }
     {
         match answer.state {
@@ -45,7 +45,8 @@ impl RowState {
         }
     }
 
-    fn name(self) -> &'static [u8]
+    /// The word for the state.
+    pub fn name(self) -> &'static [u8]
         ensures { result.now ≡ state_name self }
     {
         match self {
@@ -59,7 +60,7 @@ impl RowState {
 }
 
 /// The text of an answer in UTF-8.
-pub(crate) fn answer_field(alloc: Global, text: &Option<Text>) -> Result<List<u8>, NoMemory>
+pub fn answer_field(alloc: Global, text: &Option<Text>) -> Result<List<u8>, NoMemory>
     ensures { IfOk result (λ made. made ≡ answer_field text.now) }
 {
     let mut made = List::new(alloc);

@@ -1,0 +1,14 @@
+//! The columns that words name, and records with another field in one column.
+#![tactic(auto)]
+
+mod choice;
+mod column;
+mod error;
+mod field;
+mod widths;
+
+pub use choice::{Choice, choose};
+pub use column::column_of;
+pub use error::{ChoiceError, ColumnError};
+pub use field::{fields_of, with_field};
+pub use widths::width;

@@ -1,0 +1,153 @@
+-- How the filling of a sheet ends.
+use Rattle.std.proofs.Common.{◌≡◌, ◌≢◌, ◌∙◌, ◌≤◌, ℕ, List, ◌⊎◌, inl, inr, Option, None, Some, Bool, false, true, arith, sym, subst}
+use Rattle.std.specs.Prelude.{string_bytes}
+use Rattle.std.specs.Io.KnownBytes.{Keeps}
+use Rattle.fill_edge.specs.Outside.{Files}
+use Rattle.fill_open.specs.Opened.{Held, Told, Opened, IsPassed, Unread, Refused, Passed}
+use Rattle.fill_open.specs.Stops.{Counts, Stops, IsUnread, ReadFails}
+use Rattle.fill_open.specs.declared.stop.Stop.{Stop}
+use Rattle.fill_open.specs.declared.stop.Stop.TheVariants as stop
+use Rattle.fill_open.proofs.Binds.{told_one}
+use Rattle.fill_words.specs.Words.{AskedData}
+use Rattle.fill_csv.specs.Ends.{EndsFilled, Opens, WritesFilled, WritesFilledPart, WritesFilledRows}
+use Rattle.fill_csv.specs.Lines.{unread_line}
+use Rattle.fill_csv.specs.Opening.{SheetRead, sheet_opens}
+use Rattle.fill_csv.specs.Said.{status_of, stop_line}
+
+told_all : (files : Files) (P : Held → Type 0) → ((held : Held) → P held) → Told files P
+told_all None P f = tt
+told_all (Some held) P f = f held
+
+refused_unread : (line name : List ℕ) → (let x : Opened SheetRead = Refused line in x ≡ Unread name) → ⊥
+refused_unread line name e = cc
+
+passed_unread : (x : SheetRead) (name : List ℕ) → Passed x ≡ Unread name → ⊥
+passed_unread x name e = cc
+
+passed_refused : (x : SheetRead) (line : List ℕ) → Passed x ≡ Refused line → ⊥
+passed_refused x line e = cc
+
+module _ (asked : AskedData) (files : Files) (r : ℕ) where
+  abbrev NotUnread : Held → Type 0
+  NotUnread held = (name : List ℕ) → (sheet_opens asked held).outcome ≡ Unread name → (r ≡ 3) ⊎ (r ≡ 6)
+
+  abbrev NotRefused : Held → Type 0
+  NotRefused held = (line : List ℕ) → (sheet_opens asked held).outcome ≡ Refused line → (r ≡ 5) ⊎ (r ≡ 6) ⊎ (r ≡ 3)
+
+  abbrev AlwaysReady : Held → Type 0
+  AlwaysReady held = IsPassed (sheet_opens asked held).outcome → (r ≤ 1) ⊎ (r ≡ 6) ⊎ (r ≡ 3) ⊎ (r ≡ 4)
+
+  -- the steps passed, so the file was neither missing nor refused
+  module _ (read : SheetRead) (opens : Opens asked files read) where
+    passed_no_unread : Told files NotUnread
+    passed_no_unread = told_one files (λ held. (sheet_opens asked held).outcome ≡ Passed read) NotUnread (λ held h name k. absurd (passed_unread read name (sym h ∙ k))) opens
+
+    passed_no_refused : Told files NotRefused
+    passed_no_refused = told_one files (λ held. (sheet_opens asked held).outcome ≡ Passed read) NotRefused (λ held h line k. absurd (passed_refused read line (sym h ∙ k))) opens
+
+module _ (asked : AskedData) (files : Files) (before now : Counts) (old new : Option (List ℕ)) (Said : List ℕ → Type 0) (r : ℕ) where
+  abbrev Ending : Type 0
+  Ending = EndsFilled asked files r before now old new Said
+
+  -- the file is not there, or could not be read
+  unread_ends : r ≡ 3 → Keeps old new → (name : List ℕ) → IsUnread (sheet_opens asked) files name ⊎ ReadFails (sheet_opens asked) files before now name → Said (unread_line name) → Ending
+  unread_ends is keeps name why said = record {
+    done = λ e. absurd (omega arith);
+    refusing = λ e. absurd (omega arith);
+    worded = λ e. absurd (omega arith);
+    unread = λ e. (name, why, said);
+    part = λ e. absurd (omega arith);
+    refused = λ e. absurd (omega arith);
+    memory = λ e. absurd (omega arith);
+    quiet = λ e. keeps;
+    always_unread = told_all files (NotUnread asked files r) (λ held other h. inl is);
+    always_refused = told_all files (NotRefused asked files r) (λ held line h. inr (inr is));
+    always_ready = told_all files (AlwaysReady asked files r) (λ held h. inr (inr (inl is)));
+  }
+
+  -- the file is refused
+  refused_ends : r ≡ 5 → Keeps old new → (line : List ℕ) → Told files (λ held. (sheet_opens asked held).outcome ≡ Refused line) → Said line → Ending
+  refused_ends is keeps line why said = record {
+    done = λ e. absurd (omega arith);
+    refusing = λ e. absurd (omega arith);
+    worded = λ e. absurd (omega arith);
+    unread = λ e. absurd (omega arith);
+    part = λ e. absurd (omega arith);
+    refused = λ e. (line, why, said);
+    memory = λ e. absurd (omega arith);
+    quiet = λ e. keeps;
+    always_unread = told_one files (λ held. (sheet_opens asked held).outcome ≡ Refused line) (NotUnread asked files r) (λ held h name k. absurd (refused_unread line name (sym h ∙ k))) why;
+    always_refused = told_all files (NotRefused asked files r) (λ held other h. inl is);
+    always_ready = told_one files (λ held. (sheet_opens asked held).outcome ≡ Refused line) (AlwaysReady asked files r) (λ held h p. absurd (subst (λ (o : Opened SheetRead). IsPassed o) h p)) why;
+  }
+
+  -- memory ran out
+  pub memory_ends : r ≡ 6 → Keeps old new ⊎ WritesFilledRows asked files old new → Ending
+  memory_ends is wrote = record {
+    done = λ e. absurd (omega arith);
+    refusing = λ e. absurd (omega arith);
+    worded = λ e. absurd (omega arith);
+    unread = λ e. absurd (omega arith);
+    part = λ e. absurd (omega arith);
+    refused = λ e. absurd (omega arith);
+    memory = λ e. wrote;
+    quiet = λ e. elim e [ inl three ↦ absurd (omega arith) | inr five ↦ absurd (omega arith) ];
+    always_unread = told_all files (NotUnread asked files r) (λ held other h. inr is);
+    always_refused = told_all files (NotRefused asked files r) (λ held line h. inr (inl is));
+    always_ready = told_all files (AlwaysReady asked files r) (λ held h. inr (inl is));
+  }
+
+  -- the steps stopped
+  pub stopped_ends : (why : Stop) → Stops (sheet_opens asked) files before now why → Keeps old new → (r ≢ 6 → (r ≡ status_of why) × Said (stop_line why)) → (r ≡ status_of why) ⊎ (r ≡ 6) → Ending
+  stopped_ends why stops keeps said (inr six) = memory_ends six (inl keeps)
+  stopped_ends (stop.Unread name) stops keeps said (inl three) = unread_ends three keeps (string_bytes name) stops (said (λ e. absurd (omega arith))).1
+  stopped_ends (stop.Refused line) stops keeps said (inl five) = refused_ends five keeps (string_bytes line) stops (said (λ e. absurd (omega arith))).1
+  stopped_ends stop.NoMemory stops keeps said (inl six) = memory_ends six (inl keeps)
+
+  -- all was written, and each given cell is an example
+  pub done_ends : r ≡ 0 → WritesFilled false asked files old new → Ending
+  done_ends is wrote = record {
+    done = λ e. wrote;
+    refusing = λ e. absurd (omega arith);
+    worded = λ e. absurd (omega arith);
+    unread = λ e. absurd (omega arith);
+    part = λ e. absurd (omega arith);
+    refused = λ e. absurd (omega arith);
+    memory = λ e. absurd (omega arith);
+    quiet = λ e. elim e [ inl three ↦ absurd (omega arith) | inr five ↦ absurd (omega arith) ];
+    always_unread = passed_no_unread asked files r wrote.0 wrote.3;
+    always_refused = passed_no_refused asked files r wrote.0 wrote.3;
+    always_ready = told_all files (AlwaysReady asked files r) (λ held h. inl (omega arith));
+  }
+
+  -- all was written, and some given cell is none
+  pub refusing_ends : r ≡ 1 → WritesFilled true asked files old new → Ending
+  refusing_ends is wrote = record {
+    done = λ e. absurd (omega arith);
+    refusing = λ e. wrote;
+    worded = λ e. absurd (omega arith);
+    unread = λ e. absurd (omega arith);
+    part = λ e. absurd (omega arith);
+    refused = λ e. absurd (omega arith);
+    memory = λ e. absurd (omega arith);
+    quiet = λ e. elim e [ inl three ↦ absurd (omega arith) | inr five ↦ absurd (omega arith) ];
+    always_unread = passed_no_unread asked files r wrote.0 wrote.3;
+    always_refused = passed_no_refused asked files r wrote.0 wrote.3;
+    always_ready = told_all files (AlwaysReady asked files r) (λ held h. inl (omega arith));
+  }
+
+  -- a write failed
+  pub part_ends : r ≡ 4 → WritesFilledPart asked files old new → Ending
+  part_ends is wrote = record {
+    done = λ e. absurd (omega arith);
+    refusing = λ e. absurd (omega arith);
+    worded = λ e. absurd (omega arith);
+    unread = λ e. absurd (omega arith);
+    part = λ e. wrote;
+    refused = λ e. absurd (omega arith);
+    memory = λ e. absurd (omega arith);
+    quiet = λ e. elim e [ inl three ↦ absurd (omega arith) | inr five ↦ absurd (omega arith) ];
+    always_unread = passed_no_unread asked files r wrote.0 wrote.4;
+    always_refused = passed_no_refused asked files r wrote.0 wrote.4;
+    always_ready = told_all files (AlwaysReady asked files r) (λ held h. inr (inr (inr is)));
+  }

@@ -1,0 +1,19 @@
+-- A sheet that is read has a row for each record after the header.
+use Rattle.std.proofs.Common.{◌≡◌, ◌∙◌, ℕ, List, length, map, Bool, true, false, Option, None, Some, Result, Ok, Err, sym, ap, refl}
+use Rattle.std.proofs.lemmas.List.{length-map}
+use Rattle.fill_text.specs.Data.{RowData, SheetData}
+use Rattle.fill_records.specs.Records.{records_of}
+use Rattle.fill_sheet.specs.Columns.{rising}
+use Rattle.fill_sheet.specs.Sheet.{decided, read_sheet, row_of, row_records}
+
+decided_is : (bad : Option (ℕ × ℕ)) (more : Bool) (made sheet : SheetData) → decided bad more made ≡ Ok sheet → made ≡ sheet
+decided_is (Some bad) more made sheet is = cc
+decided_is None true made sheet is = cc
+decided_is None false made sheet is = let same : made ≡ sheet = cc in same
+
+pub rows_are : (header : Bool) (inputs : List ℕ) (output : Option ℕ) (bytes : List ℕ) (sheet : SheetData)
+    → read_sheet header inputs output bytes ≡ Ok sheet → length sheet.rows ≡ length (row_records header (records_of bytes))
+unfolding read_sheet
+rows_are header inputs output bytes sheet is =
+    let same = decided_is _ _ _ sheet is in
+    ap (λ (s : SheetData). length s.rows) (sym same) ∙ length-map (row_records header (records_of bytes)) (row_of (rising inputs) output)

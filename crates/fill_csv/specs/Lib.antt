@@ -1,0 +1,6 @@
+pub mod Ends
+pub mod Ground
+pub mod Lines
+pub mod Opening
+pub mod Read
+pub mod Said

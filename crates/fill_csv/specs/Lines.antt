@@ -1,0 +1,50 @@
+-- The lines that say why no sheet was written, or not all of it.
+use Rattle.std.specs.Prelude.{◌≡◌, ℕ, List, ◌++◌, codes}
+use Rattle.std.specs.Fmt.{decimal}
+use Rattle.fill_sheet.specs.declared.error.SheetError.{SheetError}
+use Rattle.fill_sheet.specs.declared.error.SheetError.TheVariants as sheet
+use Rattle.fill_columns.specs.declared.error.ChoiceError.{ChoiceError}
+use Rattle.fill_columns.specs.declared.error.ChoiceError.TheVariants as choice
+use Rattle.fill_columns.specs.Choice.{Refusal, Missing, Ambiguous, Filled, Again, TooMany, Nothing}
+
+-- the line of a file's name and of a text, which has the line's end
+abbrev pub line_of : List ℕ → List ℕ → List ℕ
+line_of name text = codes "fillcsv: " ++ (name ++ (codes ": " ++ text))
+
+abbrev pub unread_line : List ℕ → List ℕ
+unread_line name = line_of name (codes "cannot be read\n")
+
+abbrev pub long_line : List ℕ → List ℕ
+long_line name = line_of name (codes "more than 16777216 bytes\n")
+
+abbrev pub memory_line : List ℕ
+memory_line = codes "fillcsv: out of memory\n"
+
+abbrev pub output_line : List ℕ
+output_line = codes "fillcsv: output cannot be written\n"
+
+-- the line of a file that spells no sheet
+abbrev pub sheet_line : List ℕ → SheetError → List ℕ
+sheet_line name (sheet.TooManyRows limit) = line_of name (codes "more than " ++ (decimal limit ++ codes " records\n"))
+sheet_line name (sheet.NotUtf8 number column) =
+    line_of name (codes "record " ++ (decimal number ++ (codes ", column " ++ (decimal column ++ codes ": not UTF-8\n"))))
+sheet_line name sheet.NoMemory = memory_line
+
+-- the line of words that choose no columns
+abbrev pub choice_line : List ℕ → Refusal → List ℕ
+choice_line name (Missing word) = line_of name (codes "no column \"" ++ (word ++ codes "\"\n"))
+choice_line name (Ambiguous word) = line_of name (codes "more than one column \"" ++ (word ++ codes "\"\n"))
+choice_line name (Filled word) = line_of name (codes "column \"" ++ (word ++ codes "\" is filled, and cannot be read too\n"))
+choice_line name (Again word) = line_of name (codes "column \"" ++ (word ++ codes "\" is named twice\n"))
+choice_line name TooMany = line_of name (codes "more than 8 columns to read\n")
+choice_line name Nothing = line_of name (codes "no column to read\n")
+
+-- the line says the refusal of the code
+abbrev pub IsChoiceLine : List ℕ → ChoiceError → List ℕ → Type 0
+IsChoiceLine name (choice.Missing word) line = line ≡ choice_line name (Missing word.now)
+IsChoiceLine name (choice.Ambiguous word) line = line ≡ choice_line name (Ambiguous word.now)
+IsChoiceLine name (choice.Filled word) line = line ≡ choice_line name (Filled word.now)
+IsChoiceLine name (choice.Again word) line = line ≡ choice_line name (Again word.now)
+IsChoiceLine name choice.TooMany line = line ≡ choice_line name TooMany
+IsChoiceLine name choice.Nothing line = line ≡ choice_line name Nothing
+IsChoiceLine name choice.NoMemory line = ⊥

@@ -1,0 +1,23 @@
+-- The status and the line of a stop, and what is said.
+use Rattle.std.specs.Prelude.{◌⊎◌, ℕ, List, Option, string_bytes}
+use Rattle.std.specs.Io.KnownBytes.{Appends}
+use Rattle.fill_edge.specs.Outside.{Rose, AppendsPart}
+use Rattle.fill_open.specs.declared.stop.Stop.{Stop}
+use Rattle.fill_open.specs.declared.stop.Stop.TheVariants as stop
+use Rattle.fill_csv.specs.Lines.{memory_line, unread_line}
+
+-- the status of a stop
+abbrev pub status_of : Stop → ℕ
+status_of (stop.Unread name) = 3
+status_of (stop.Refused line) = 5
+status_of stop.NoMemory = 6
+
+-- the line of a stop
+abbrev pub stop_line : Stop → List ℕ
+stop_line (stop.Unread name) = unread_line (string_bytes name)
+stop_line (stop.Refused line) = string_bytes line
+stop_line stop.NoMemory = memory_line
+
+-- the line was written, or a proper prefix of it where a write failed
+abbrev pub Says : Option (List ℕ) → Option (List ℕ) → ℕ → ℕ → List ℕ → Type 0
+Says old new before now line = Appends old new line ⊎ (Rose before now × AppendsPart old new line)

@@ -1,0 +1,159 @@
+//! Filling a sheet.
+ghost use Rattle.std.specs.Prelude.{◌≡◌, ◌⊎◌, ◌≤◌, ℕ, List as Listed, [], IfOk, IfSome, IsErrOf, drop, length};
+ghost use Rattle.std.specs.Io.KnownBytes.{Keeps};
+ghost use Rattle.fill_edge.specs.Outside.{Rose};
+ghost use Rattle.fill_sheet.specs.Sheet.{headers};
+ghost use Rattle.fill_tree.specs.declared.user.Example.{Example};
+ghost use Rattle.fill_filled.specs.Filled.{WritesPart, WritesRows};
+ghost use Rattle.fill_filled.specs.Learned.{AreLearned};
+ghost use Rattle.fill_words.specs.Words.{data_of};
+ghost use Rattle.fill_csv.specs.Ends.{EndsFilled, form_of, head_of, rows_of};
+ghost use Rattle.fill_csv.specs.Lines.{memory_line, output_line};
+ghost use Rattle.fill_csv.specs.Ground.{ground_of, settings_of};
+ghost use Rattle.fill_csv.specs.Said.{Says};
+ghost use Rattle.fill_csv.specs.Read.{AreParts, read_data};
+
+use crate::head;
+use crate::opening::{SheetRead, open_sheet};
+use crate::stop::{MEMORY_LINE, OUTPUT_LINE, say, tell};
+use crate::told::Told;
+use fill_edge::{Cabinet, Ledger, Sink, Steps};
+use fill_filled::{Filling, Form, Refused, Summary, learn, write_filled};
+use fill_records::Record;
+use fill_report::Halt;
+use fill_session::Session;
+use fill_tables::Tables;
+use fill_text::{List, NoMemory};
+use fill_tree::{Constants, Settings};
+use fill_words::Asked;
+use std::alloc::Global;
+
+/// Fills the column that the words ask for, writes the sheet, and answers the status.
+pub(crate) fn fill<C: Cabinet, O: Sink, E: Sink, L: Ledger>(
+    alloc: Global,
+    asked: &Asked,
+    cabinet: &mut C,
+    out: &mut O,
+    err: &mut E,
+    steps: &mut Steps<L>,
+) -> u8
+    ensures ends { EndsFilled (data_of asked.now) (C.files cabinet.old) result (C.faults cabinet.old) (C.faults cabinet.new) (O.written out.old) (O.written out.new)
+        (Says (E.written err.old) (E.written err.new) (E.faults err.old) (E.faults err.new)) }
+    ensures fault { result ≡ 4 → Rose (O.faults out.old) (O.faults out.new) }
+    ensures fault_said { result ≡ 4 → Says (E.written err.old) (E.written err.new) (E.faults err.old) (E.faults err.new) output_line }
+    ensures memory_said { result ≡ 6 → Says (E.written err.old) (E.written err.new) (E.faults err.old) (E.faults err.new) memory_line }
+    ensures statuses { result ≤ 6 }
+    ensures files { C.files cabinet.new ≡ C.files cabinet.old }
+{
+    let read = match open_sheet(alloc, cabinet, asked) {
+        Ok(read) => read,
+        Err(stop) => return tell(alloc, err, &stop),
+    };
+    match write(alloc, asked, read, out, steps) {
+        Ok(told) => {
+            told.say(alloc, asked.header, err);
+            if told.is_refusing() { 1 } else { 0 }
+        }
+        Err(Halt::Fault) => {
+            say(err, OUTPUT_LINE);
+            4
+        }
+        Err(Halt::NoMemory) => {
+            say(err, MEMORY_LINE);
+            6
+        }
+    }
+}
+
+/// The settings of a profile.
+fn settings_of(profile: u8) -> Settings
+    ensures { result ≡ settings_of profile }
+{
+    Settings {
+        depth: 1,
+        constants: Constants::Any,
+        profile: if profile == 2 { 2 } else { 1 },
+    }
+}
+
+/// Writes the sheet with its column filled.
+fn write<O: Sink, L: Ledger>(
+    alloc: Global,
+    asked: &Asked,
+    read: SheetRead,
+    out: &mut O,
+    steps: &mut Steps<L>,
+) -> Result<Told, Halt>
+    requires { AreParts (data_of asked.now) read }
+    ensures done { IfOk result (λ told. (examples : Listed Example) × AreLearned (ground_of (data_of asked.now) read.sheet) examples told.refused
+        × (let d = data_of asked.now in let r = read_data read in WritesRows (form_of d r) (ground_of d read.sheet) examples (rows_of d r) (head_of d r) (length (rows_of d r)) (O.written out.old) (O.written out.new))) }
+    ensures part { IsErrOf result Halt.Fault → ((examples : Listed Example) × (refused : Listed Refused) × (n : ℕ) × AreLearned (ground_of (data_of asked.now) read.sheet) examples refused
+        × (let d = data_of asked.now in let r = read_data read in (n ≤ length (rows_of d r)) × WritesPart (form_of d r) (ground_of d read.sheet) examples (rows_of d r) (head_of d r) n (O.written out.old) (O.written out.new))) }
+    ensures fault { IsErrOf result Halt.Fault → Rose (O.faults out.old) (O.faults out.new) }
+    ensures memory { IsErrOf result Halt.NoMemory → Keeps (O.written out.old) (O.written out.new) ⊎ ((examples : Listed Example) × (refused : Listed Refused) × (n : ℕ) × AreLearned (ground_of (data_of asked.now) read.sheet) examples refused
+        × (let d = data_of asked.now in let r = read_data read in (n ≤ length (rows_of d r)) × WritesRows (form_of d r) (ground_of d read.sheet) examples (rows_of d r) (head_of d r) n (O.written out.old) (O.written out.new))) }
+{
+    let form = head::form_of(asked, &read);
+    let head = head::head_of(alloc, asked, &read, &form)?;
+    let SheetRead { records, sheet, .. } = read;
+    let mut session = Session::new(alloc, settings_of(asked.profile), sheet, Tables::new(alloc))?;
+    let page = Page {
+        rows: rows_after(asked.header, records.as_slice()),
+        form,
+        head: head.as_slice(),
+    };
+    write_page(alloc, &page, &mut session, out, steps)
+}
+
+/// What is written of a sheet beside its answers.
+#[derive(Clone, Copy)]
+struct Page<'a> {
+    /// The records of its rows.
+    rows: &'a [Record],
+    /// How answers are written.
+    form: Form,
+    /// What stands before the records of rows.
+    head: &'a [u8],
+}
+
+/// The records after the header, where there is one.
+fn rows_after(header: bool, records: &[Record]) -> &[Record]
+    ensures { result.now ≡ drop (headers header) records.now }
+{
+    let start = if header { records.len().min(1) } else { 0 };
+    &records[start..]
+}
+
+/// Learns from the sheet's column, and writes the sheet with it filled.
+fn write_page<O: Sink, L: Ledger>(
+    alloc: Global,
+    page: &Page<'_>,
+    session: &mut Session,
+    out: &mut O,
+    steps: &mut Steps<L>,
+) -> Result<Told, Halt>
+    requires empty { session.old.examples ≡ [] }
+    requires rows { let p = page.now in length p.rows.now ≡ length session.old.spaces.ground.sheet.rows }
+    requires column { let p = page.now in 1 ≤ p.form.column }
+    requires states { let p = page.now in IfSome p.form.states (λ column. 1 ≤ column) }
+    ensures done { IfOk result (λ told. (examples : Listed Example) × AreLearned session.old.spaces.ground examples told.refused
+        × (let p = page.now in WritesRows p.form session.old.spaces.ground examples p.rows.now p.head.now (length p.rows.now) (O.written out.old) (O.written out.new))) }
+    ensures part { IsErrOf result Halt.Fault → ((examples : Listed Example) × (refused : Listed Refused) × (n : ℕ) × AreLearned session.old.spaces.ground examples refused
+        × (let p = page.now in (n ≤ length p.rows.now) × WritesPart p.form session.old.spaces.ground examples p.rows.now p.head.now n (O.written out.old) (O.written out.new))) }
+    ensures fault { IsErrOf result Halt.Fault → Rose (O.faults out.old) (O.faults out.new) }
+    ensures memory { IsErrOf result Halt.NoMemory → Keeps (O.written out.old) (O.written out.new) ⊎ ((examples : Listed Example) × (refused : Listed Refused) × (n : ℕ) × AreLearned session.old.spaces.ground examples refused
+        × (let p = page.now in (n ≤ length p.rows.now) × WritesRows p.form session.old.spaces.ground examples p.rows.now p.head.now n (O.written out.old) (O.written out.new))) }
+{
+    let refused = learn(alloc, session, steps)?;
+    let mut summary = Summary::NONE;
+    let filling = Filling {
+        session,
+        records: page.rows,
+        form: page.form,
+        head: page.head,
+    };
+    match write_filled(alloc, &filling, &mut summary, out) {
+        Ok(()) => Ok(Told { refused, summary }),
+        Err(halt) => Err(halt),
+    }
+}

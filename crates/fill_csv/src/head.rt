@@ -1,0 +1,107 @@
+//! What stands before the records of rows, and how answers are written.
+ghost use Rattle.std.specs.Prelude.{◌≡◌, ◌≤◌, ◌++◌, IfOk, IfSome, OnOk, option_copied};
+ghost use Rattle.fill_report.specs.Output.{report_text};
+ghost use Rattle.fill_words.specs.Words.{data_of};
+ghost use Rattle.fill_csv.specs.Ends.{form_of, head_of, heads_of, some_record, states_of};
+ghost use Rattle.fill_csv.specs.Opening.{mark_of, records_in};
+ghost use Rattle.fill_csv.specs.Read.{AreParts, read_data};
+
+use crate::opening::{SheetRead, header_of};
+use fill_columns::width;
+use fill_filled::{Form, head_fields};
+use fill_records::Record;
+use fill_sheet::put_record;
+use fill_text::{List, NoMemory};
+use fill_words::Asked;
+use std::alloc::Global;
+
+/// The mark by which some programs begin a file in UTF-8.
+const MARK: &[u8] = b"\xef\xbb\xbf";
+
+/// How answers are written into the records of a sheet.
+pub(crate) fn form_of(asked: &Asked, read: &SheetRead) -> Form
+    requires { AreParts (data_of asked.now) read.now }
+    ensures form { result ≡ form_of (data_of asked.now) (read_data read.now) }
+    ensures column { 1 ≤ result.column }
+    ensures states { IfSome result.states (λ column. 1 ≤ column) }
+{
+    Form {
+        column: read.choice.to,
+        states: states_of(asked.states, read.records.as_slice()),
+        only_sure: asked.only_sure,
+    }
+}
+
+/// The column of states, from 1, where one is asked for.
+fn states_of(states: bool, records: &[Record]) -> Option<usize>
+    ensures column { result ≡ states_of states records.now }
+    ensures first { IfSome result (λ column. 1 ≤ column) }
+{
+    if states {
+        Some(width(records).saturating_add(1))
+    } else {
+        None
+    }
+}
+
+/// What stands before the records of rows: the mark of the file, and the header.
+pub(crate) fn head_of(
+    alloc: Global,
+    asked: &Asked,
+    read: &SheetRead,
+    form: &Form,
+) -> Result<List<u8>, NoMemory>
+    requires parts { AreParts (data_of asked.now) read.now }
+    requires form { form.now ≡ form_of (data_of asked.now) (read_data read.now) }
+    requires column { 1 ≤ form.now.column }
+    requires states { IfSome form.now.states (λ column. 1 ≤ column) }
+    ensures { IfOk result (λ head. head ≡ head_of (data_of asked.now) (read_data read.now)) }
+{
+    let mut head = List::new(alloc);
+    head.append(mark_of(read.bytes.as_slice()))?;
+    put_header(
+        alloc,
+        &mut head,
+        form,
+        header_of(asked.header, read.records.as_slice()),
+    )?;
+    Ok(head)
+}
+
+/// The byte order mark in front of the bytes, or nothing.
+fn mark_of(bytes: &[u8]) -> &[u8]
+    ensures { result.now ≡ mark_of bytes.now }
+{
+    let (front, _) = bytes.split_at(bytes.len().min(3));
+    if front == MARK { front } else { &[] }
+}
+
+/// Puts the header at the end, where there is one.
+fn put_header(
+    alloc: Global,
+    to: &mut List<u8>,
+    form: &Form,
+    header: Option<&Record>,
+) -> Result<(), NoMemory>
+    requires column { 1 ≤ form.now.column }
+    requires states { IfSome form.now.states (λ column. 1 ≤ column) }
+    ensures { OnOk result (to.new ≡ to.old ++ report_text (heads_of form.now (option_copied header.entry))) }
+{
+    match header {
+        Some(header) => {
+            let fields = List::from_vec(head_fields(alloc, form, header)?);
+            put_fields(alloc, to, &fields)
+        }
+        None => Ok(()),
+    }
+}
+
+/// Puts the record of these fields at the end, where there are some.
+fn put_fields(alloc: Global, to: &mut List<u8>, fields: &List<List<u8>>) -> Result<(), NoMemory>
+    ensures { OnOk result (to.new ≡ to.old ++ report_text (some_record fields.now)) }
+{
+    if fields.len() == 0 {
+        return Ok(());
+    }
+    put_record(alloc, to, fields)
+}

@@ -1,0 +1,13 @@
+//! The run of `fillcsv`: a sheet with one of its columns filled.
+#![tactic(auto)]
+
+mod command;
+mod fill;
+mod head;
+mod lines;
+mod opening;
+mod stop;
+mod told;
+
+pub use command::run;
+pub use stop::{MEMORY_LINE, say};

@@ -1,0 +1,66 @@
+//! The lines that say why no sheet was written.
+ghost use Rattle.std.specs.Prelude.{◌≡◌, ◌≢◌, IfOk, string_bytes};
+ghost use Rattle.fill_csv.specs.Lines.{IsChoiceLine, long_line, sheet_line, unread_line};
+
+use fill_columns::ChoiceError;
+use fill_sheet::SheetError;
+use std::alloc::{AllocError, Global};
+
+/// The line of a file that could not be read.
+pub(crate) fn unread_line(alloc: Global, name: &str) -> Result<String, AllocError>
+    ensures { IfOk result (λ line. string_bytes line ≡ unread_line name.now) }
+{
+    format!(in alloc; "fillcsv: {name}: cannot be read\n")
+}
+
+/// The line of a file that has more bytes than one may have.
+pub(crate) fn long_line(alloc: Global, name: &str) -> Result<String, AllocError>
+    ensures { IfOk result (λ line. string_bytes line ≡ long_line name.now) }
+{
+    format!(in alloc; "fillcsv: {name}: more than 16777216 bytes\n")
+}
+
+/// The line of a file that spells no sheet.
+pub(crate) fn sheet_line(alloc: Global, name: &str, error: SheetError) -> Result<String, AllocError>
+    ensures line { IfOk result (λ line. string_bytes line ≡ sheet_line name.now error) }
+    ensures memory { IfOk result (λ line. error ≢ SheetError.NoMemory) }
+{
+    match error {
+        SheetError::TooManyRows { limit } => {
+            format!(in alloc; "fillcsv: {name}: more than {limit} records\n")
+        }
+        SheetError::NotUtf8 { number, column } => {
+            format!(in alloc; "fillcsv: {name}: record {number}, column {column}: not UTF-8\n")
+        }
+        SheetError::NoMemory => Err(AllocError),
+    }
+}
+
+/// The line of words that choose no columns.
+pub(crate) fn choice_line(
+    alloc: Global,
+    name: &str,
+    error: ChoiceError<'_>,
+) -> Result<String, AllocError>
+    ensures { IfOk result (λ line. IsChoiceLine name.now error.entry (string_bytes line)) }
+{
+    match error {
+        ChoiceError::Missing(word) => {
+            format!(in alloc; "fillcsv: {name}: no column \"{word}\"\n")
+        }
+        ChoiceError::Ambiguous(word) => {
+            format!(in alloc; "fillcsv: {name}: more than one column \"{word}\"\n")
+        }
+        ChoiceError::Filled(word) => {
+            format!(in alloc;
+                "fillcsv: {name}: column \"{word}\" is filled, and cannot be read too\n"
+            )
+        }
+        ChoiceError::Again(word) => {
+            format!(in alloc; "fillcsv: {name}: column \"{word}\" is named twice\n")
+        }
+        ChoiceError::TooMany => format!(in alloc; "fillcsv: {name}: more than 8 columns to read\n"),
+        ChoiceError::Nothing => format!(in alloc; "fillcsv: {name}: no column to read\n"),
+        ChoiceError::NoMemory => Err(AllocError),
+    }
+}

@@ -1,0 +1,146 @@
+//! Opening a sheet: its file, the columns that words choose, and its rows.
+ghost use Rattle.std.specs.Prelude.{◌≡◌, ◌≢◌, ◌≤◌, ℕ, List as Listed, IfOk, IfErr, MatchResult, Ok, Err, Some, length, option_copied, string_bytes};
+ghost use Rattle.fill_edge.specs.Outside.{NoneFell};
+ghost use Rattle.fill_open.specs.Opened.{Told, Passed};
+ghost use Rattle.fill_open.specs.Stops.{Refuses as IsRefusedBy, Stops};
+ghost use Rattle.fill_records.specs.Records.{records_of};
+ghost use Rattle.fill_sheet.specs.Columns.{AreInputs, IsOutput};
+ghost use Rattle.fill_sheet.specs.Sheet.{row_records};
+ghost use Rattle.fill_words.specs.Words.{data_of};
+ghost use Rattle.fill_columns.specs.Choice.{choice_data};
+ghost use Rattle.fill_csv.specs.Opening.{choice_of, file_opens, header_of, records_in, rows_in, sheet_in, sheet_opens, with_choice, with_rows};
+ghost use Rattle.fill_csv.specs.Read.{AreParts, read_data};
+
+use crate::lines::{choice_line, long_line, sheet_line};
+use fill_columns::{Choice, choose, width};
+use fill_edge::{Cabinet, LARGEST_FILE, ReadError, read_all};
+use fill_open::Stop;
+use fill_records::{Record, read_records};
+use fill_sheet::Sheet;
+use fill_text::{List, NoMemory};
+use fill_words::Asked;
+use std::alloc::{AllocError, Global};
+
+/// The most records that are read, the header among them.
+const MOST_RECORDS: usize = 20_000;
+
+/// A sheet that was read.
+#[derive(Drop)]
+pub(crate) struct SheetRead {
+    /// The bytes of its file.
+    pub bytes: List<u8>,
+    /// Its records, the header among them.
+    pub records: List<Record>,
+    /// The column that is filled, and those that rules may read.
+    pub choice: Choice,
+    /// Its rows in these columns.
+    pub sheet: Sheet,
+}
+
+/// Reads the file that the words name, and chooses their columns in it.
+pub(crate) fn open_sheet<C: Cabinet>(
+    alloc: Global,
+    cabinet: &mut C,
+    asked: &Asked,
+) -> Result<SheetRead, Stop>
+    ensures ready { IfOk result (λ read. Told (C.files cabinet.old) (λ held. (sheet_opens (data_of asked.now) held).outcome ≡ Passed (read_data read))) }
+    ensures parts { IfOk result (AreParts (data_of asked.now)) }
+    ensures stopped { IfErr result (Stops (sheet_opens (data_of asked.now)) (C.files cabinet.old) (C.faults cabinet.old) (C.faults cabinet.new)) }
+    ensures files { C.files cabinet.new ≡ C.files cabinet.old }
+    ensures later { NoneFell (C.faults cabinet.old) (C.faults cabinet.new) }
+{
+    match open_file(alloc, cabinet, asked.file.as_str()) {
+        Ok(bytes) => sheet_in(alloc, asked, bytes),
+        Err(stop) => Err(stop),
+    }
+}
+
+/// The bytes of a file.
+fn open_file<C: Cabinet>(alloc: Global, cabinet: &mut C, name: &str) -> Result<List<u8>, Stop>
+    ensures ready { IfOk result (λ bytes. Told (C.files cabinet.old) (λ held. (file_opens held name.now).outcome ≡ Passed bytes)) }
+    ensures stopped { IfErr result (Stops (λ held. file_opens held name.now) (C.files cabinet.old) (C.faults cabinet.old) (C.faults cabinet.new)) }
+    ensures files { C.files cabinet.new ≡ C.files cabinet.old }
+    ensures later { NoneFell (C.faults cabinet.old) (C.faults cabinet.new) }
+{
+    match read_all(alloc, cabinet, name, LARGEST_FILE) {
+        Ok(bytes) => Ok(bytes),
+        Err(ReadError::NoMemory) => Err(Stop::NoMemory),
+        Err(ReadError::TooLong { .. }) => Err(refused(long_line(alloc, name))),
+        Err(_) => match String::from_str(alloc, name) {
+            Ok(name) => Err(Stop::Unread(name)),
+            Err(_) => Err(Stop::NoMemory),
+        },
+    }
+}
+
+/// The refusal with this line, or want of memory where there was none for the line.
+fn refused(line: Result<String, AllocError>) -> Stop
+    ensures { MatchResult line (λ text. result ≡ Stop.Refused text) (λ _. result ≡ Stop.NoMemory) }
+{
+    match line {
+        Ok(line) => Stop::Refused(line),
+        Err(AllocError) => Stop::NoMemory,
+    }
+}
+
+/// The sheet in the bytes of its file.
+fn sheet_in(alloc: Global, asked: &Asked, bytes: List<u8>) -> Result<SheetRead, Stop>
+    ensures ready { IfOk result (λ read. sheet_in (data_of asked.now) bytes ≡ Passed (read_data read)) }
+    ensures parts { IfOk result (AreParts (data_of asked.now)) }
+    ensures stopped { IfErr result (IsRefusedBy (sheet_in (data_of asked.now) bytes)) }
+{
+    let records = match read_records(alloc, bytes.as_slice(), MOST_RECORDS) {
+        Ok(records) => records,
+        Err(NoMemory) => return Err(Stop::NoMemory),
+    };
+    let choice = match choice_in(alloc, asked, records.as_slice()) {
+        Ok(choice) => choice,
+        Err(stop) => return Err(stop),
+    };
+    let sheet = match rows_in(alloc, asked, &choice, bytes.as_slice()) {
+        Ok(sheet) => sheet,
+        Err(stop) => return Err(stop),
+    };
+    Ok(SheetRead {
+        bytes,
+        records,
+        choice,
+        sheet,
+    })
+}
+
+/// The record that names the columns, where there is one.
+pub(crate) fn header_of(header: bool, records: &[Record]) -> Option<&Record>
+    ensures { option_copied result ≡ header_of header records.now }
+{
+    if header { records.first() } else { None }
+}
+
+/// The columns that words choose among those of the records.
+fn choice_in(alloc: Global, asked: &Asked, records: &[Record]) -> Result<Choice, Stop>
+    ensures ready { IfOk result (λ choice. choice_of (data_of asked.now) records.now ≡ Ok (choice_data choice)) }
+    ensures inputs { IfOk result (λ choice. AreInputs choice.from.items) }
+    ensures output { IfOk result (λ choice. IsOutput choice.from.items (Some choice.to)) }
+    ensures stopped { IfErr result (λ why. (bytes : Listed ℕ) → IsRefusedBy (with_choice (data_of asked.now) bytes (choice_of (data_of asked.now) records.now)) why) }
+{
+    let header = header_of(asked.header, records);
+    let to = asked.to.as_str();
+    match choose(alloc, header, width(records), to, &asked.from) {
+        Ok(choice) => Ok(choice),
+        Err(e) => Err(refused(choice_line(alloc, asked.file.as_str(), e))),
+    }
+}
+
+/// The rows of the sheet in the chosen columns.
+fn rows_in(alloc: Global, asked: &Asked, choice: &Choice, bytes: &[u8]) -> Result<Sheet, Stop>
+    requires inputs { AreInputs choice.now.from.items }
+    requires output { IsOutput choice.now.from.items (Some choice.now.to) }
+    ensures ready { IfOk result (λ sheet. rows_in (data_of asked.now) bytes.now (choice_data choice.now) ≡ Passed (record { bytes = bytes.now; choice = choice_data choice.now; sheet = sheet })) }
+    ensures whole { IfOk result (λ sheet. length sheet.rows ≡ length (row_records asked.now.header (records_of bytes.now))) }
+    ensures stopped { IfErr result (IsRefusedBy (rows_in (data_of asked.now) bytes.now (choice_data choice.now))) }
+{
+    match Sheet::read(alloc, bytes, asked.header, &choice.from, Some(choice.to)) {
+        Ok(sheet) => Ok(sheet),
+        Err(e) => Err(refused(sheet_line(alloc, asked.file.as_str(), e))),
+    }
+}

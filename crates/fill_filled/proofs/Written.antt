@@ -1,0 +1,68 @@
+-- The records of first rows, and of one row more.
+use Rattle.std.proofs.Common.{◌≡◌, ℕ, ◌+◌, ◌-◌, ◌<◌, ◌≤◌, List, [], ◌∷◌, ◌++◌, length, replicate, Option, None, Some, Result, Ok, Err, sym, subst, arith, append-nil, length-append}
+use Rattle.std.specs.Prelude.{IfSome, OnOk}
+use Rattle.std.proofs.lemmas.List.{length-replicate, length-set}
+use Rattle.std.specs.Io.KnownBytes.{Appends}
+use Rattle.std.proofs.KnownBytes.{Appends-nil, Appends-trans}
+use Rattle.fill_edge.specs.Outside.{AppendsPart}
+use Rattle.fill_sheet.specs.Report.{record_text}
+use Rattle.fill_tree.specs.declared.user.Example.{Example}
+use Rattle.fill_space.specs.declared.ground.Ground.{Ground}
+use Rattle.fill_report.specs.Output.{report_text}
+use Rattle.fill_report.specs.Records.{Fields}
+use Rattle.fill_report.proofs.Bytes.{appends_more, appends_part_after, part_more}
+use Rattle.fill_report.proofs.Numbered.{rows_more}
+use Rattle.fill_session.specs.declared.answer.Answer.{Answer}
+use Rattle.fill_report.specs.Rows.{state_name}
+use Rattle.fill_columns.specs.Fields.{padded, with_field}
+use Rattle.fill_filled.specs.Filled.{IsFilledRow, WritesPart, WritesRows, cell_of, cell_state, filled_fields, with_answer, with_word}
+use Rattle.fill_filled.specs.declared.form.Form.{Form}
+
+-- what follows where a call succeeds
+pub when_ok : {A E P Q : Type 0} (r : Result A E) → (P → Q) → OnOk r P → OnOk r Q
+when_ok (Ok x) f p = f p
+when_ok (Err e) f p = tt
+
+-- a record with a field in some column is not empty
+some_field : (column : ℕ) (field : List ℕ) (fields : Fields) → 1 ≤ column → 0 < length (with_field column field fields)
+some_field column field fields first =
+    let none : List ℕ = [] in
+    let size = length-set (padded column fields) (column - 1) field in
+    let pad = length-append fields (replicate (column - length fields) none) in
+    let count = length-replicate (column - length fields) none in
+    omega (arith, first, size, pad, count)
+
+some_word : (states : Option ℕ) (word : List ℕ) (fields : Fields) → 0 < length fields → IfSome states (λ column. 1 ≤ column) → 0 < length (with_word states word fields)
+some_word None word fields some first = some
+some_word (Some column) word fields some first = some_field column word fields first
+
+-- so a row's record is not
+pub some_filled : (form : Form) (given : Option (List ℕ)) (a : Answer) (fields : Fields) → 1 ≤ form.column → IfSome form.states (λ column. 1 ≤ column)
+    → 0 < length (filled_fields form given a fields)
+some_filled form given a fields column states =
+    some_word form.states (state_name (cell_state given a)) (with_answer form given a fields) (some_field form.column (cell_of form given a fields) fields column) states
+
+module _ (form : Form) (g : Ground) (examples : List Example) (records : List Fields) (old : Option (List ℕ)) where
+  pub rows_none : WritesRows form g examples records [] 0 old old
+  rows_none = ([], tt, Appends-nil old)
+
+  pub row_next : (mid new : Option (List ℕ)) (n : ℕ) → WritesRows form g examples records [] n old mid
+      → (fields : Fields) × IsFilledRow form g examples records (n + 1) fields × Appends mid new (record_text fields) → WritesRows form g examples records [] (n + 1) old new
+  row_next mid new n w h =
+      (w.0 ++ h.0 ∷ [], rows_more (IsFilledRow form g examples records) n w.0 h.0 w.1 h.1, appends_more old mid new w.0 h.0 w.2 h.2)
+
+  pub row_part : (mid new : Option (List ℕ)) (n : ℕ) → WritesRows form g examples records [] n old mid
+      → (fields : Fields) × IsFilledRow form g examples records (n + 1) fields × AppendsPart mid new (record_text fields) → WritesPart form g examples records [] (n + 1) old new
+  row_part mid new n w h =
+      (w.0 ++ h.0 ∷ [], rows_more (IsFilledRow form g examples records) n w.0 h.0 w.1 h.1, part_more old mid new w.0 h.0 w.2 h.2)
+
+  -- the rows after the head
+  pub head_rows : (mid new : Option (List ℕ)) (head : List ℕ) (n : ℕ) → Appends old mid head → WritesRows form g examples records [] n mid new → WritesRows form g examples records head n old new
+  head_rows mid new head n before w = (w.0, w.1, Appends-trans old mid new head (report_text w.0) before w.2)
+
+  pub head_rows_part : (mid new : Option (List ℕ)) (head : List ℕ) (n : ℕ) → Appends old mid head → WritesPart form g examples records [] n mid new → WritesPart form g examples records head n old new
+  head_rows_part mid new head n before w = (w.0, w.1, appends_part_after old mid new head (report_text w.0) before w.2)
+
+  -- a part of the head
+  pub head_part : (new : Option (List ℕ)) (head : List ℕ) → AppendsPart old new head → WritesPart form g examples records head 0 old new
+  head_part new head part = ([], tt, subst (λ (l : List ℕ). AppendsPart old new l) (sym (append-nil head)) part)

@@ -1,0 +1,10 @@
+use Rattle.std.proofs.Common.{◌≡◌}
+use Rattle.fill_filled.specs.Learned.{LearnsFirst}
+use Rattle.fill_filled.proofs.learning.learn.Given as goal
+
+-- the rows so far
+abbrev pub invariant-loop-above : goal.invariant-loop-above
+invariant-loop-above g l = record {
+  ground : l.session.spaces.ground ≡ l.initial.session.spaces.ground;
+  learned : LearnsFirst l.initial.session.spaces.ground l.above l.session.examples l.refused;
+}

@@ -1,0 +1,57 @@
+//! A sheet with one of its columns filled: `fillcsv people.csv --to Label`.
+#![tactic(auto)]
+
+ghost use Rattle.std.specs.Prelude.{◌≡◌};
+
+use fill_csv::{MEMORY_LINE, run, say};
+use fill_edge::{FolderCabinet, Ledger, StdSink, Steps};
+use std::alloc::AllocError;
+use std::marker::Brand;
+use std::process::ExitCode;
+use std::sync::ledger::Blank;
+use std::{env, io};
+
+/// The words after the program's name; none where one of them is not UTF-8, and then they ask for nothing.
+fn words(rt: &HostRuntime) -> Result<Vec<String>, AllocError> {
+    let mut words = Vec::new(rt.alloc());
+    match env::args(rt) {
+        Ok(args) => {
+            for word in args.skip(1) {
+                words.push(word)?;
+            }
+            Ok(words)
+        }
+        Err(e) => {
+            if e.kind() == io::ErrorKind::OutOfMemory {
+                return Err(AllocError);
+            }
+            Ok(words)
+        }
+    }
+}
+
+/// Runs the program over the current folder and the standard streams.
+fn start<L: Ledger>(rt: HostRuntime, words: &[String], blank: Blank) -> u8
+    requires name { blank.name ≡ L.name }
+    requires parts { blank.parts ≡ L.parts }
+    requires one { blank.parts ≡ 1 }
+{
+    let alloc = rt.alloc();
+    let mut out = StdSink::new(rt.stdout());
+    let mut err = StdSink::new(rt.stderr());
+    let mut cabinet = FolderCabinet::new(rt);
+    let (book, share) = blank.open::<L>();
+    let mut steps = Steps::new(book, share);
+    run(alloc, words, &mut cabinet, &mut out, &mut err, &mut steps)
+}
+
+fn main(rt: HostRuntime) -> ExitCode {
+    match words(&rt) {
+        Ok(words) => ExitCode::from(start::<Brand>(rt, &words, Blank::new(1))),
+        Err(AllocError) => {
+            let mut err = StdSink::new(rt.stderr());
+            say(&mut err, MEMORY_LINE);
+            ExitCode::from(6)
+        }
+    }
+}

@@ -1,0 +1,5 @@
+//! What no contract says of filled sheets, through public calls: whole runs over files and output in memory.
+#![tactic(auto)]
+
+#[cfg(test)]
+mod filling;
