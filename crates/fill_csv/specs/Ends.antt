@@ -19,7 +19,7 @@ use Rattle.fill_csv.specs.Lines.{unread_line}
 use Rattle.fill_csv.specs.Ground.{ground_of}
 use Rattle.fill_csv.specs.Opening.{SheetRead, header_of, mark_of, records_in, sheet_opens}
 
--- the column of states, where one is asked for: after the last column of all records (the count stands still where no file comes to)
+-- the column of states, where one is asked for: after the last column of all records (at most 2^64 - 1, which no file reaches)
 abbrev pub states_of : Bool → List Fields → Option ℕ
 states_of false records = None
 states_of true records = Some (counted (width records) 1)
@@ -32,15 +32,17 @@ form_of asked read = record {
   only_sure = asked.only_sure;
 }
 
--- what stands before the records of rows: the byte order mark of the file, and the header with a name for the column of states
+-- a record, where it has fields
 abbrev pub some_record : Fields → List Fields
 some_record [] = []
 some_record (field ∷ more) = (field ∷ more) ∷ []
 
+-- the header with a name for the column of states, where there is a header
 abbrev pub heads_of : Form → Option Fields → List Fields
 heads_of form None = []
 heads_of form (Some header) = some_record (head_fields form header)
 
+-- what stands before the records of rows: the byte order mark of the file, and the header
 abbrev pub head_of : AskedData → SheetRead → List ℕ
 head_of asked read = mark_of read.bytes ++ report_text (heads_of (form_of asked read) (header_of asked.header (records_in read.bytes)))
 
@@ -80,6 +82,7 @@ pub record EndsFilled (asked : AskedData) (files : Files) (status : ℕ) (before
   -- 0 and 1 only where every step of the opening passed, and the whole sheet was written; 1 where a given cell is refused
   pub done : status ≡ 0 → WritesFilled false asked files old new
   pub refusing : status ≡ 1 → WritesFilled true asked files old new
+  -- 2 is for wrong words alone
   pub worded : status ≢ 2
   pub unread : status ≡ 3 → (name : List ℕ) × (IsUnread (sheet_opens asked) files name ⊎ ReadFails (sheet_opens asked) files before now name) × Said (unread_line name)
   pub part : status ≡ 4 → WritesFilledPart asked files old new

@@ -6,7 +6,7 @@ use Rattle.fill_tree.specs.declared.user.Constants.TheVariants.{Any}
 use Rattle.fill_space.specs.declared.ground.Ground.{Ground}
 use Rattle.fill_words.specs.Words.{AskedData}
 
--- the settings that words ask for: all constants, and one lookup deep, which says nothing where there are no tables
+-- the settings that words ask for: all constants, and depth 1, which has no effect without tables
 abbrev pub settings_of : ℕ → Settings
 settings_of profile = record { depth = 1; constants = Any; profile = if profile == 2 then 2 else 1 }
 

@@ -1,6 +1,5 @@
 //! The run of `fillcsv`, over any cabinet of files and any sinks.
 ghost use Rattle.std.specs.Prelude.{◌≡◌, ◌⊎◌, ◌≤◌, map, string_bytes};
-ghost use Rattle.std.specs.Io.KnownBytes.{Keeps};
 ghost use Rattle.fill_edge.specs.Outside.{Rose};
 ghost use Rattle.fill_words.specs.Words.{AskedData, Asks, Shows, Wrong, asked_in};
 ghost use Rattle.fill_csv.specs.Ends.{EndsFilled};
@@ -15,13 +14,13 @@ use std::alloc::Global;
 
 /// Runs `fillcsv` with these words, those after the program's name, and answers the status.
 ///
-/// The words name a sheet and the column that is to be filled. What the column holds are the examples; each other cell
-/// of it is filled by the rule that is learned from them, and the sheet is written to `out`, record by record. Lines on
+/// The words name a sheet and the column that is to be filled. Its filled cells are the examples, where they can be; each
+/// other cell of it is filled by the rule that is learned from them, and the sheet is written to `out`, record by record. Lines on
 /// `err` say what was filled, or why there is no sheet.
 ///
 /// | status | meaning |
 /// |---|---|
-/// | 0 | the whole sheet was written, or help was |
+/// | 0 | the whole sheet was written, or help was asked for |
 /// | 1 | the whole sheet was written, and some cell that it gives is no example |
 /// | 2 | the words are wrong |
 /// | 3 | the file is not there or could not be read |
@@ -39,7 +38,7 @@ pub fn run<C: Cabinet, O: Sink, E: Sink, L: Ledger>(
     // Where the words ask for a sheet, the run ends as its filling does.
     ensures filled { (asked : AskedData) → asked_in (map string_bytes words.now) ≡ Asks asked →
         EndsFilled asked (C.files cabinet.old) result (C.faults cabinet.old) (C.faults cabinet.new) (O.written out.old) (O.written out.new)
-        (Says (E.written err.old) (E.written err.new) (E.faults err.old) (E.faults err.new)) ⊎ ((result ≡ 6) × Keeps (O.written out.old) (O.written out.new)) }
+        (Says (E.written err.old) (E.written err.new) (E.faults err.old) (E.faults err.new)) }
 
     // Where they are wrong, nothing is read and nothing is written to `out`.
     ensures wrong { asked_in (map string_bytes words.now) ≡ Wrong → ((result ≡ 2) ⊎ (result ≡ 6)) × (cabinet.new ≡ cabinet.old) × (out.new ≡ out.old) }

@@ -24,17 +24,22 @@ impl Told {
         self.refused.len() > 0
     }
 
-    /// Tells on `err` how many cells have each state, the lines of the first ones in doubt, and which given cells are
-    /// refused. Want of memory and failed writes are passed over.
+    /// Tells on `err` which given cells are no examples, how many cells have each state, and the first rows in doubt.
+    /// Rows are numbered as a spreadsheet shows them, the header among them. Want of memory and failed writes are passed
+    /// over.
     pub(crate) fn say<E: Sink>(&self, alloc: Global, header: bool, err: &mut E) {
         let above = if header { 1 } else { 0 };
-        for cell in self.refused.as_slice() {
+        for cell in self.refused.as_slice().iter().take(MOST_REFUSALS) {
             say_line(err, refused_text(alloc, above, cell));
         }
+        say_line(err, more_text(alloc, self.refused.len()));
         say_line(err, counts_text(alloc, &self.summary));
         say_line(err, doubtful_text(alloc, above, &self.summary));
     }
 }
+
+/// How many refused cells are told one by one.
+const MOST_REFUSALS: usize = 10;
 
 /// Writes a line, where there was memory for it.
 fn say_line<E: Sink>(err: &mut E, line: Result<String, AllocError>) {
@@ -58,18 +63,27 @@ fn counts_text(alloc: Global, summary: &Summary) -> Result<String, AllocError> {
     )
 }
 
-/// The lines of the first cells in doubt; empty where there are none.
+/// How many given cells are no examples beside those that are told; empty where there are none.
+fn more_text(alloc: Global, refused: usize) -> Result<String, AllocError> {
+    let more = refused.saturating_sub(MOST_REFUSALS);
+    if more == 0 {
+        return Ok(String::new(alloc));
+    }
+    format!(in alloc; "fillcsv: {more} more cells are not learned from\n")
+}
+
+/// The rows of the first cells in doubt; empty where there are none.
 fn doubtful_text(alloc: Global, above: u32, summary: &Summary) -> Result<String, AllocError> {
     let mut text = String::new(alloc);
     for row in summary.doubtful.iter() {
         if *row == 0 {
             break;
         }
-        let line = row.saturating_add(above);
+        let number = row.saturating_add(above);
         let next = if text.is_empty() {
-            format!(in alloc; "fillcsv: look at line {line}")?
+            format!(in alloc; "fillcsv: look at row {number}")?
         } else {
-            format!(in alloc; ", {line}")?
+            format!(in alloc; ", {number}")?
         };
         text.push_str(next.as_str())?;
     }
@@ -81,14 +95,14 @@ fn doubtful_text(alloc: Global, above: u32, summary: &Summary) -> Result<String,
 
 /// Why a given cell is refused.
 fn refused_text(alloc: Global, above: u32, cell: &Refused) -> Result<String, AllocError> {
-    let line = cell.row.saturating_add(above);
+    let number = cell.row.saturating_add(above);
     match cell.reason {
         EditError::TooLong {
             part: Part::Text,
             length,
         } => {
             format!(in alloc;
-                "fillcsv: line {line}: not learned from: {length} characters, and an example has 100 at most\n"
+                "fillcsv: row {number}: not learned from: {length} characters, and an example has 100 at most\n"
             )
         }
         EditError::TooLong {
@@ -96,28 +110,28 @@ fn refused_text(alloc: Global, above: u32, cell: &Refused) -> Result<String, All
             length,
         } => {
             format!(in alloc;
-                "fillcsv: line {line}: not learned from: {length} characters to read, and an example has 1000 at most\n"
+                "fillcsv: row {number}: not learned from: {length} characters to read, and an example has 1000 at most\n"
             )
         }
         EditError::TooMany => {
-            format!(in alloc; "fillcsv: line {line}: not learned from: 64 examples are there\n")
+            format!(in alloc; "fillcsv: row {number}: not learned from: 64 examples are there\n")
         }
         EditError::NoProgram { .. } => {
-            format!(in alloc; "fillcsv: line {line}: not learned from: no rule gives this text\n")
+            format!(in alloc; "fillcsv: row {number}: not learned from: no rule gives this text\n")
         }
         EditError::TooManyBranches { .. } => {
             format!(in alloc;
-                "fillcsv: line {line}: not learned from: no rule fits it beside the examples above, and more than 8 rules would be needed\n"
+                "fillcsv: row {number}: not learned from: no rule fits it beside the examples above, and more than 8 rules would be needed\n"
             )
         }
         EditError::NoGuard { .. } => {
             format!(in alloc;
-                "fillcsv: line {line}: not learned from: no rule fits it beside the examples above, and nothing tells its line from theirs\n"
+                "fillcsv: row {number}: not learned from: no rule fits it beside the examples above, and nothing tells its row from theirs\n"
             )
         }
         EditError::NoSuchRow { .. }
         | EditError::HasExample
         | EditError::NoExample
-        | EditError::NoMemory => format!(in alloc; "fillcsv: line {line}: not learned from\n"),
+        | EditError::NoMemory => format!(in alloc; "fillcsv: row {number}: not learned from\n"),
     }
 }
