@@ -1,4 +1,4 @@
--- What stands in an arena costs little: a text has at most 100 characters, a lookup three conditions, three lookups stand
+-- What stands in an arena costs little, by any prices of 16 bits: a text has at most 100 characters, a lookup three conditions, three lookups stand
 -- inside each other at most, and a program has at most 100 atoms.
 use Rattle.std.proofs.Common.{◌≡◌, ℕ, zero, suc, ◌+◌, ◌-◌, ◌*◌, ◌<◌, ◌≤◌, ◌^◌, ◌==◌, get_or, List, [], ◌∷◌, length, Bool, true, false, cond, Some, slice_get, pos, negsuc, ℤ, refl, ap, subst, arith, mul-le-mul_right}
 use Rattle.std.specs.Int.{w32}
@@ -7,7 +7,14 @@ use Rattle.std.proofs.lemmas.List.Elements.{All-get_or}
 use Rattle.std.proofs.lemmas.List.Sums.{sum_by-le}
 use Rattle.std.proofs.lemmas.Option.{slice_get_within, get_or_from_slice_get}
 use Rattle.fill_text.specs.Classes.{is_separator}
-use Rattle.fill_tokens.specs.Place.{place_cost, fixed_cost, magnitude}
+use Rattle.fill_tokens.specs.Kind.{kind_of}
+use Rattle.fill_tokens.specs.Prices.{ArePrices, count_cost, fixed_cost, kind_cost, place_cost, run_cost, seq_cost, token_cost}
+use Rattle.fill_tokens.specs.declared.kind.Kind.{Kind}
+use Rattle.fill_tokens.specs.declared.kind.Kind.TheVariants.{AtStart, AtEnd, Run, Single}
+use Rattle.fill_tokens.specs.declared.kind.RunClass.{RunClass}
+use Rattle.fill_tokens.specs.declared.kind.RunClass.TheVariants as class
+use Rattle.fill_tokens.specs.declared.prices.Prices.{Prices}
+use Rattle.fill_tokens.specs.declared.token.Token.{Token}
 use Rattle.fill_tokens.specs.PlaceGrammar.{IsPlace}
 use Rattle.fill_tokens.specs.declared.place.Place.{Place}
 use Rattle.fill_tokens.specs.declared.place.Place.TheVariants.{CPos, Pos}
@@ -30,74 +37,108 @@ either : (b : Bool) (m n most : ℕ) → m ≤ most → n ≤ most → cond b m 
 either true m n most h k = h
 either false m n most h k = k
 
-fixed_few : (k : ℤ) → fixed_cost k ≤ 10
-fixed_few (pos n) = either (n == 0) 1 10 10 (omega arith) (omega arith)
-fixed_few (negsuc n) = either (n == 0) 1 10 10 (omega arith) (omega arith)
+module _ (prices : Prices) (small : ArePrices prices) where
+  fixed_few : (k : ℤ) → fixed_cost prices k ≤ 65535
+  fixed_few (pos n) = let end = small.text_end in let other = small.position in either (n == 0) prices.text_end prices.position 65535 (omega arith) (omega arith)
+  fixed_few (negsuc n) = let end = small.text_end in let other = small.position in either (n == 0) prices.text_end prices.position 65535 (omega arith) (omega arith)
 
-size_few : (k : ℤ) → FitsSigned w32 k → magnitude k ≤ 2147483648
-size_few (pos n) h = let lt = h.sfits in omega arith
-size_few (negsuc n) h = let lt = h.sfits in omega arith
+  run_few : (r : RunClass) → run_cost prices r ≤ 65535
+  run_few class.Space = let few = small.sign in omega arith
+  run_few class.NonSpace = let few = small.sign in omega arith
+  run_few _ = let few = small.run in omega arith
 
-pub place_few : (p : Place) → IsPlace p → place_cost p ≤ 4294967310
-place_few (CPos k) h = let few = fixed_few k in omega arith
-place_few (Pos r s k) h =
-    let size = size_few k h.0 in
-    let left = h.2.short_left in
-    let right = h.2.short_right in
-    omega arith
+  kind_few : (k : Kind) → kind_cost prices k ≤ 65535
+  kind_few AtStart = let few = small.edge in omega arith
+  kind_few AtEnd = let few = small.edge in omega arith
+  kind_few (Run r) = run_few r
+  kind_few (Single c) = let few = small.sign in omega arith
 
-char_few : (c : ℕ) → char_cost c ≤ 12
-char_few c = either (is_separator c) 1 12 12 (omega arith) (omega arith)
+  seq_few : (r : List Token) → length r ≤ 3 → seq_cost prices r ≤ 196605
+  seq_few r h = let few = sum_by-le (token_cost prices) 65535 r (λ k d lt. kind_few (kind_of (get_or r k d))) in omega arith
 
-text_few : (t : List ℕ) → length t ≤ 100 → text_cost t ≤ 1210
-text_few t h = let few = sum_by-le char_cost 12 t (λ k d lt. char_few (get_or t k d)) in omega arith
+  -- the greatest number that is passed by, below 2^31
+  count_few : (k : ℤ) → FitsSigned w32 k → count_cost prices k ≤ 140735340871680
+  count_few (pos n) h =
+      let lt = h.sfits in
+      let few : prices.step ≤ 65535 = let own = small.step in omega arith in
+      let steps = mul-le-mul_right (n - 1) few in
+      omega arith
+  count_few (negsuc n) h =
+      let lt = h.sfits in
+      let few : prices.step ≤ 65535 = let own = small.step in omega arith in
+      let steps = mul-le-mul_right n few in
+      let own = small.from_right in
+      omega arith
+
+  pub place_few : (p : Place) → IsPlace p → place_cost prices p ≤ 140735341330425
+  place_few (CPos k) h = let few = fixed_few k in omega arith
+  place_few (Pos r s k) h =
+      let count = count_few k h.0 in
+      let left = seq_few r h.2.short_left in
+      let right = seq_few s h.2.short_right in
+      let own = small.cut in
+      omega arith
+
+  char_few : (c : ℕ) → char_cost prices c ≤ 65535
+  char_few c = let first = small.separator in let second = small.character in either (is_separator c) prices.separator prices.character 65535 (omega arith) (omega arith)
+
+  text_few : (t : List ℕ) → length t ≤ 100 → text_cost prices t ≤ 6619035
+  text_few t h = let few = sum_by-le (char_cost prices) 65535 t (λ k d lt. char_few (get_or t k d)) in let own = small.constant in omega arith
 
 -- the most that a source costs in which so many lookups stand inside each other
 abbrev pub most : ℕ → ℕ
-most zero = 0
-most (suc d) = 3 * (most d + 8589934635) + 8
+most zero = 65535
+most (suc d) = 3 * (most d + 281470682791920) + 65535
 
-deeper : (d : ℕ) → 3 * (most d + 8589934635) + 8 ≡ most (suc d)
+deeper : (d : ℕ) → 3 * (most d + 281470682791920) + 65535 ≡ most (suc d)
 deeper d = refl
 
-module _ (c : List Entry) (made : IsWellMade c) where
-  pub place_in : (s : ℕ) (p : Place) → PlaceStands c s p → place_cost p ≤ 4294967310
+least_most : (d : ℕ) → 65535 ≤ most d
+least_most zero = omega arith
+least_most (suc d) = omega arith
+
+module _ (prices : Prices) (small : ArePrices prices) (c : List Entry) (made : IsWellMade c) where
+  pub place_in : (s : ℕ) (p : Place) → PlaceStands c s p → place_cost prices p ≤ 140735341330425
   place_in s p h =
       let all = (made s (kind.Places h.0) h.1).grammar in
       let there = h.2 in
       let within = slice_get_within h.0 there.0 p there.1 in
       let is = All-get_or IsPlace h.0 there.0 p within all in
-      place_few p (subst IsPlace (get_or_from_slice_get h.0 there.0 p p there.1) is)
+      place_few prices small p (subst IsPlace (get_or_from_slice_get h.0 there.0 p p there.1) is)
 
   -- a source of a set, where the items' sources cost little
-  source_in : (x : SourceTree) (most : ℕ) → ((n : ℕ) (i : SourceItem) → IsSourceItem c n i → SourceFits x c i → source_cost x ≤ most) → (s : ℕ) → SomeSource c s (SourceFits x c) → source_cost x ≤ most
+  source_in : (x : SourceTree) (most : ℕ) → ((n : ℕ) (i : SourceItem) → IsSourceItem c n i → SourceFits x c i → source_cost prices x ≤ most) → (s : ℕ) → SomeSource c s (SourceFits x c) → source_cost prices x ≤ most
   source_in x most few s h =
       let all = (made s (kind.Sources h.0) h.1).each in
       let there = h.2.1 in
       few s h.2.0 (all there.0 h.2.0 there.1) h.2.2
 
-  whole_in : (x : SourceTree) (most : ℕ) → ((n : ℕ) (i : SourceItem) → IsSourceItem c n i → SourceFits x c i → source_cost x ≤ most) → (i : AtomItem) → AtomFits (whole x) c i → source_cost x ≤ most
+  whole_in : (x : SourceTree) (most : ℕ) → ((n : ℕ) (i : SourceItem) → IsSourceItem c n i → SourceFits x c i → source_cost prices x ≤ most) → (i : AtomItem) → AtomFits (whole x) c i → source_cost prices x ≤ most
   whole_in x most few (atom.Const t) h = absurd h
   whole_in x most few (atom.Whole b) h = source_in x most few b h
   whole_in x most few (atom.Sub b l r) h = absurd h
 
-  sub_in : (x : SourceTree) (p q : Place) (most : ℕ) → ((n : ℕ) (i : SourceItem) → IsSourceItem c n i → SourceFits x c i → source_cost x ≤ most) → (i : AtomItem) → AtomFits (sub x p q) c i →
-      (source_cost x ≤ most) × (place_cost p ≤ 4294967310) × (place_cost q ≤ 4294967310)
+  sub_in : (x : SourceTree) (p q : Place) (most : ℕ) → ((n : ℕ) (i : SourceItem) → IsSourceItem c n i → SourceFits x c i → source_cost prices x ≤ most) → (i : AtomItem) → AtomFits (sub x p q) c i →
+      (source_cost prices x ≤ most) × (place_cost prices p ≤ 140735341330425) × (place_cost prices q ≤ 140735341330425)
   sub_in x p q most few (atom.Const t) h = absurd h
   sub_in x p q most few (atom.Whole b) h = absurd h
   sub_in x p q most few (atom.Sub b l r) h = (source_in x most few b h.0, place_in l p h.1, place_in r q h.2)
 
   mutual
-    pub source_few : (x : SourceTree) (d : ℕ) → source_depth x ≤ d → (n : ℕ) (i : SourceItem) → IsSourceItem c n i → SourceFits x c i → source_cost x ≤ most d
-    source_few (col k) d deep n i is fits = omega arith
+    pub source_few : (x : SourceTree) (d : ℕ) → source_depth x ≤ d → (n : ℕ) (i : SourceItem) → IsSourceItem c n i → SourceFits x c i → source_cost prices x ≤ most d
+    source_few (col k) d deep n i is fits =
+        let own = small.column in
+        let least = least_most d in
+        omega arith
     source_few (select column table key conditions) d deep n (Col m) is fits = absurd fits
     source_few (select column table key conditions) zero deep n (Select i) is fits = absurd (omega arith)
     source_few (select column table key conditions) (suc d) deep n (Select i) is fits =
         let each = conditions_few conditions d (omega arith) n i.conditions is.older fits.4 in
-        let short = mul-le-mul_right (most d + 8589934635) is.few in
+        let short = mul-le-mul_right (most d + 281470682791920) is.few in
+        let own = small.lookup in
         omega arith
 
-    pub conditions_few : (cs : Atoms) (d : ℕ) → greatest_depth cs ≤ d → (n : ℕ) (is : List ConditionItem) → EachIn (IsConditionItem c n) is → ConditionsFit cs c is → conditions_cost cs ≤ length is * (most d + 8589934635)
+    pub conditions_few : (cs : Atoms) (d : ℕ) → greatest_depth cs ≤ d → (n : ℕ) (is : List ConditionItem) → EachIn (IsConditionItem c n) is → ConditionsFit cs c is → conditions_cost prices cs ≤ length is * (most d + 281470682791920)
     conditions_few end d deep n [] older fits = omega arith
     conditions_few end d deep n (i ∷ is) older fits = absurd fits
     conditions_few (more a rest) d deep n [] older fits = absurd fits
@@ -106,16 +147,20 @@ module _ (c : List Entry) (made : IsWellMade c) where
         let others = conditions_few rest d (omega arith) n is (λ k x there. older (suc k) x there) fits.1 in
         omega arith
 
-    condition_few : (a : AtomTree) (d : ℕ) → atom_depth a ≤ d → (i : ConditionItem) → ConditionFits a c i (AtomFits a c) → condition_cost a ≤ most d + 8589934635
-    condition_few (constant t) d deep i fits = omega arith
+    condition_few : (a : AtomTree) (d : ℕ) → atom_depth a ≤ d → (i : ConditionItem) → ConditionFits a c i (AtomFits a c) → condition_cost prices a ≤ most d + 281470682791920
+    condition_few (constant t) d deep i fits = let own = small.constant_condition in omega arith
     condition_few (whole x) d deep i fits =
         let few = whole_in x (most d) (λ n j is f. source_few x d deep n j is f) fits.2.2.0 fits.2.2.2 in
+        let own = small.whole in
+        let more = small.condition in
         omega arith
     condition_few (sub x p q) d deep i fits =
         let few = sub_in x p q (most d) (λ n j is f. source_few x d deep n j is f) fits.2.2.0 fits.2.2.2 in
         let first = few.0 in
         let second = few.1 in
         let third = few.2 in
+        let own = small.piece in
+        let more = small.condition in
         omega arith
 
   source_shallow : (x : SourceTree) (n : ℕ) (i : SourceItem) → IsSourceItem c n i → SourceFits x c i → source_depth x ≤ 3
@@ -123,22 +168,23 @@ module _ (c : List Entry) (made : IsWellMade c) where
   source_shallow (select column table key conditions) n (Col m) is fits = absurd fits
   source_shallow (select column table key conditions) n (Select i) is fits = is.shallow (select column table key conditions) fits
 
-  pub source_item_few : (x : SourceTree) (n : ℕ) (i : SourceItem) → IsSourceItem c n i → SourceFits x c i → source_cost x ≤ most 3
+  pub source_item_few : (x : SourceTree) (n : ℕ) (i : SourceItem) → IsSourceItem c n i → SourceFits x c i → source_cost prices x ≤ most 3
   source_item_few x n i is fits = source_few x 3 (source_shallow x n i is fits) n i is fits
 
-  pub atom_item_few : (a : AtomTree) (n : ℕ) (i : AtomItem) → IsAtomItem c n i → AtomFits a c i → atom_cost a ≤ most 3 + 8589935840
-  atom_item_few (constant t) n (atom.Const u) is fits = let few = text_few t (subst (λ v. length v ≤ 100) fits is) in omega arith
+  pub atom_item_few : (a : AtomTree) (n : ℕ) (i : AtomItem) → IsAtomItem c n i → AtomFits a c i → atom_cost prices a ≤ most 3 + 281470682726385
+  atom_item_few (constant t) n (atom.Const u) is fits = let few = text_few prices small t (subst (λ v. length v ≤ 100) fits is) in omega arith
   atom_item_few (constant t) n (atom.Whole b) is fits = absurd fits
   atom_item_few (constant t) n (atom.Sub b l r) is fits = absurd fits
-  atom_item_few (whole x) n i is fits = let few = whole_in x (most 3) (source_item_few x) i fits in omega arith
+  atom_item_few (whole x) n i is fits = let few = whole_in x (most 3) (source_item_few x) i fits in let own = small.whole in omega arith
   atom_item_few (sub x p q) n i is fits =
       let few = sub_in x p q (most 3) (source_item_few x) i fits in
       let first = few.0 in
       let second = few.1 in
       let third = few.2 in
+      let own = small.piece in
       omega arith
 
-  pub atom_few : (s : ℕ) (a : AtomTree) → AtomStands c s a → atom_cost a ≤ most 3 + 8589935840
+  pub atom_few : (s : ℕ) (a : AtomTree) → AtomStands c s a → atom_cost prices a ≤ most 3 + 281470682726385
   atom_few s a h =
       let all = (made s (kind.Atoms h.0) h.1).each in
       let there = h.2.1 in
@@ -168,10 +214,10 @@ module _ (c : List Entry) (made : IsWellMade c) where
       let others = row_shallow rest is fits.1 in
       omega arith
 
-  pub row_few : (cs : Atoms) (n : ℕ) (is : List ConditionItem) → EachIn (IsConditionItem c n) is → length is ≤ 3 → ConditionsFit cs c is → conditions_cost cs ≤ 3 * (most 3 + 8589934635)
+  pub row_few : (cs : Atoms) (n : ℕ) (is : List ConditionItem) → EachIn (IsConditionItem c n) is → length is ≤ 3 → ConditionsFit cs c is → conditions_cost prices cs ≤ 3 * (most 3 + 281470682791920)
   row_few cs n is older short fits =
       let few = conditions_few cs 3 (row_shallow cs is fits) n is older fits in
-      let whole = mul-le-mul_right (most 3 + 8589934635) short in
+      let whole = mul-le-mul_right (most 3 + 281470682791920) short in
       omega arith
 
   -- a walk of so many atoms is a path of as many edges
@@ -181,39 +227,40 @@ module _ (c : List Entry) (made : IsWellMade c) where
       let path = walk_path rest edges last h.0.to h.2.2 in
       (h.0 ∷ path.0, (h.1, h.2.0, path.1), ap suc path.2)
 
-  walk_few : (p : Atoms) (edges : List Edge) (last at : ℕ) → Walks p c edges last at → program_cost p ≤ number_of_atoms p * (most 3 + 8589935845)
+  walk_few : (p : Atoms) (edges : List Edge) (last at : ℕ) → Walks p c edges last at → program_cost prices p ≤ number_of_atoms p * (most 3 + 281470682791920)
   walk_few end edges last at h = omega arith
   walk_few (more a rest) edges last at h =
       let first = atom_few h.0.atoms a h.2.1 in
       let others = walk_few rest edges last h.0.to h.2.2 in
+      let own = small.atom in
       omega arith
 
-  pub rest_few : (p : Atoms) (g nodes : ℕ) (edges : List Edge) (last at : ℕ) → slice_get c g ≡ Some (kind.Graph nodes edges) → Walks p c edges last at → program_cost p ≤ 100 * (most 3 + 8589935845)
+  pub rest_few : (p : Atoms) (g nodes : ℕ) (edges : List Edge) (last at : ℕ) → slice_get c g ≡ Some (kind.Graph nodes edges) → Walks p c edges last at → program_cost prices p ≤ 100 * (most 3 + 281470682791920)
   rest_few p g nodes edges last at is h =
       let path = walk_path p edges last at h in
       let short : number_of_atoms p ≤ 100 = subst (λ n. n ≤ 100) path.2 ((made g (kind.Graph nodes edges) is).short at last path.0 path.1) in
-      let whole = mul-le-mul_right (most 3 + 8589935845) short in
+      let whole = mul-le-mul_right (most 3 + 281470682791920) short in
       let few = walk_few p edges last at h in
       omega arith
 
   -- the bounds are below those of the machine's numbers
-  pub source_item_present : (x : SourceTree) (n : ℕ) (i : SourceItem) → IsSourceItem c n i → SourceFits x c i → source_cost x < 2 ^ 64
+  pub source_item_present : (x : SourceTree) (n : ℕ) (i : SourceItem) → IsSourceItem c n i → SourceFits x c i → source_cost prices x < 2 ^ 64
   source_item_present x n i is fits = let few = source_item_few x n i is fits in omega arith
 
-  pub atom_item_present : (a : AtomTree) (n : ℕ) (i : AtomItem) → IsAtomItem c n i → AtomFits a c i → atom_cost a < 2 ^ 64
+  pub atom_item_present : (a : AtomTree) (n : ℕ) (i : AtomItem) → IsAtomItem c n i → AtomFits a c i → atom_cost prices a < 2 ^ 64
   atom_item_present a n i is fits = let few = atom_item_few a n i is fits in omega arith
 
-  pub source_present : (s : ℕ) (x : SourceTree) → SourceStands c s x → source_cost x < 2 ^ 64
+  pub source_present : (s : ℕ) (x : SourceTree) → SourceStands c s x → source_cost prices x < 2 ^ 64
   source_present s x h = let few = source_in x (most 3) (source_item_few x) s h in omega arith
 
-  pub atom_present : (s : ℕ) (a : AtomTree) → AtomStands c s a → atom_cost a < 2 ^ 64
+  pub atom_present : (s : ℕ) (a : AtomTree) → AtomStands c s a → atom_cost prices a < 2 ^ 64
   atom_present s a h = let few = atom_few s a h in omega arith
 
-  pub row_present : (n : ℕ) (is : List ConditionItem) (cs : Atoms) → EachIn (IsConditionItem c n) is → length is ≤ 3 → ConditionsFit cs c is → conditions_cost cs < 2 ^ 64
+  pub row_present : (n : ℕ) (is : List ConditionItem) (cs : Atoms) → EachIn (IsConditionItem c n) is → length is ≤ 3 → ConditionsFit cs c is → conditions_cost prices cs < 2 ^ 64
   row_present n is cs older short fits = let few = row_few cs n is older short fits in omega arith
 
-  pub rest_present : (g nodes : ℕ) (edges : List Edge) (last at : ℕ) (p : Atoms) → slice_get c g ≡ Some (kind.Graph nodes edges) → Walks p c edges last at → program_cost p < 2 ^ 64
+  pub rest_present : (g nodes : ℕ) (edges : List Edge) (last at : ℕ) (p : Atoms) → slice_get c g ≡ Some (kind.Graph nodes edges) → Walks p c edges last at → program_cost prices p < 2 ^ 64
   rest_present g nodes edges last at p is h = let few = rest_few p g nodes edges last at is h in omega arith
 
-  pub program_present : (g : ℕ) (p : Atoms) → ProgramStands c g p → program_cost p < 2 ^ 64
+  pub program_present : (g : ℕ) (p : Atoms) → ProgramStands c g p → program_cost prices p < 2 ^ 64
   program_present g p h = rest_present g h.0 h.1 (h.0 - 1) 0 p h.2 h.3

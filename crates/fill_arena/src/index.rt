@@ -28,7 +28,7 @@ impl Hash for Slot {
 
     ghost respects_eq = { λ x y alike. let same : (x.hash ≡ y.hash) × (x.turn ≡ y.turn) = Prim.search rules in ap (λ n. fed.u64 ((n + x.turn) % 2 ^ 64)) same.0 ∙ ap (λ n. fed.u64 ((y.hash + n) % 2 ^ 64)) same.1 };
 
-    /// One number is written, since the hash of an entry is spread well as it is.
+    /// Writes one number, the sum: turns are nearly always 0, and two slots with one sum cost time alone.
     fn hash<H: Hasher>(&self, state: &mut H) {
         state.write_u64(self.hash.wrapping_add(self.turn));
     }

@@ -2,7 +2,9 @@
 //!
 //! Each function does nothing: what it tells is its clauses, which hold for all arenas, trees and numbers.
 ghost use Rattle.std.specs.Prelude.{◌≡◌, ◌↔◌, ◌≤◌, ◌<◌, ◌^◌, ℕ, List, length, take};
+ghost use Rattle.fill_tokens.specs.Prices.{ArePrices};
 ghost use Rattle.fill_tokens.specs.declared.place.Place.{Place};
+ghost use Rattle.fill_tokens.specs.declared.prices.Prices.{Prices};
 ghost use Rattle.fill_tree.specs.Cost.{atom_cost, conditions_cost, program_cost, source_cost};
 ghost use Rattle.fill_tree.specs.Tree.{SourceTree, AtomTree, Atoms};
 ghost use Rattle.fill_arena.specs.Contents.{EachIn, Extends, HasEdges, IsAtomSet, IsGraph, IsPlaceSet, IsSourceSet};
@@ -37,14 +39,17 @@ pub fn something_stands()
     ensures programs { (c : List Entry) → IsWellMade c → (g : ℕ) → IsGraph c g → (p : Atoms) × ProgramStands c g p }
 {}
 
-/// The cost of what stands in a set or a graph is one of 64 bits: of a source, of an atom, of a row of up to three
-/// conditions, of a program, and of what follows a node on a walk.
+/// The cost of what stands in a set or a graph, by any prices of 16 bits, is one of 64 bits: of a source, of an atom, of a
+/// row of up to three conditions, of a program, and of what follows a node on a walk.
 pub fn costs_are_present()
-    ensures sources { (c : List Entry) → IsWellMade c → (s : ℕ) (x : SourceTree) → SourceStands c s x → source_cost x < 2 ^ 64 }
-    ensures atoms { (c : List Entry) → IsWellMade c → (s : ℕ) (a : AtomTree) → AtomStands c s a → atom_cost a < 2 ^ 64 }
-    ensures conditions { (c : List Entry) → IsWellMade c → (n : ℕ) (items : List ConditionItem) (row : Atoms) →
-        EachIn (IsConditionItem c n) items → length items ≤ 3 → ConditionsFit row c items → conditions_cost row < 2 ^ 64 }
-    ensures programs { (c : List Entry) → IsWellMade c → (g : ℕ) (p : Atoms) → ProgramStands c g p → program_cost p < 2 ^ 64 }
-    ensures rests { (c : List Entry) → IsWellMade c → (g : ℕ) (edges : List Edge) (last at : ℕ) (p : Atoms) →
-        HasEdges c g edges → Walks p c edges last at → program_cost p < 2 ^ 64 }
+    ensures sources { (prices : Prices) → ArePrices prices → (c : List Entry) → IsWellMade c → (s : ℕ) (x : SourceTree) →
+        SourceStands c s x → source_cost prices x < 2 ^ 64 }
+    ensures atoms { (prices : Prices) → ArePrices prices → (c : List Entry) → IsWellMade c → (s : ℕ) (a : AtomTree) →
+        AtomStands c s a → atom_cost prices a < 2 ^ 64 }
+    ensures conditions { (prices : Prices) → ArePrices prices → (c : List Entry) → IsWellMade c → (n : ℕ) (items : List ConditionItem) (row : Atoms) →
+        EachIn (IsConditionItem c n) items → length items ≤ 3 → ConditionsFit row c items → conditions_cost prices row < 2 ^ 64 }
+    ensures programs { (prices : Prices) → ArePrices prices → (c : List Entry) → IsWellMade c → (g : ℕ) (p : Atoms) →
+        ProgramStands c g p → program_cost prices p < 2 ^ 64 }
+    ensures rests { (prices : Prices) → ArePrices prices → (c : List Entry) → IsWellMade c → (g : ℕ) (edges : List Edge) (last at : ℕ) (p : Atoms) →
+        HasEdges c g edges → Walks p c edges last at → program_cost prices p < 2 ^ 64 }
 {}

@@ -1,9 +1,12 @@
 -- What stands in items of sets: the single items, and the products of what stands in the sets that they name.
 use Rattle.std.proofs.Common.{◌≡◌, ◌⊎◌, ℕ, ◌+◌, ◌<◌, ◌≤◌, ◌^◌, inl, inr, List, [], ◌∷◌, length, Some, slice_get, refl, ap, subst, arith}
 use Rattle.std.specs.Prelude.{Contains}
-use Rattle.fill_tokens.specs.Place.{place_cost, place_cmp}
+use Rattle.fill_tokens.specs.Place.{place_cmp}
+use Rattle.fill_tokens.specs.Prices.{place_cost}
 use Rattle.fill_tokens.specs.declared.place.Place.{Place}
 use Rattle.fill_tokens.proofs.PlaceLaws.{place_total}
+use Rattle.fill_tokens.specs.declared.prices.Prices.{Prices}
+use Rattle.fill_tokens.specs.Prices.{ArePrices}
 use Rattle.fill_tree.specs.Cost.{source_cost, atom_cost, conditions_cost}
 use Rattle.fill_tree.specs.Grammar.{HasPart, IsPart}
 use Rattle.fill_tree.specs.Order.{source_cmp, atom_cmp, atoms_cmp}
@@ -90,26 +93,26 @@ module _ (c : List Entry) (s : ℕ) (items : List AtomItem) (is : slice_get c s 
   constant_stands a h = (items_atom c s items is (λ b. ¬ (IsPart b)) a h).1
 
 -- the bounds of a piece
-module _ (c : List Entry) (l r : ℕ) (k : ℕ) (xs ys : List (Costed Place)) (lefts : AreCheapest place_cost place_cmp (PlaceStands c l) k xs) (rights : AreCheapest place_cost place_cmp (PlaceStands c r) k ys) where
+module _ (prices : Prices) (small : ArePrices prices) (c : List Entry) (l r : ℕ) (k : ℕ) (xs ys : List (Costed Place)) (lefts : AreCheapest (place_cost prices) place_cmp (PlaceStands c l) k xs) (rights : AreCheapest (place_cost prices) place_cmp (PlaceStands c r) k ys) where
   pub first_bounds : (old zs : List (Costed Bounds)) → old ≡ [] → AreFirst (by_cost bounds_cmp) (λ z. Contains old z ⊎ IsMade (linked bounds_of 0) (Contains xs) (Contains ys) z) k zs →
-      AreCheapest bounds_cost bounds_cmp (BoundsStand c l r) k zs
+      AreCheapest (bounds_cost prices) bounds_cmp (BoundsStand c l r) k zs
   first_bounds old zs empty made =
-      takes_all bounds_cost bounds_cmp bounds_total exact_bounds k (BoundsStand c l r) old zs empty
-      (first_of_made place_cmp place_cmp bounds_cmp (place_total, place_total, bounds_total) exact_bounds bounds_of (λ a b p q. refl) 0 place_cost place_cost bounds_cost
+      takes_all (bounds_cost prices) bounds_cmp bounds_total exact_bounds k (BoundsStand c l r) old zs empty
+      (first_of_made place_cmp place_cmp bounds_cmp (place_total, place_total, bounds_total) exact_bounds bounds_of (λ a b p q. refl) 0 (place_cost prices) (place_cost prices) (bounds_cost prices)
       (PlaceStands c l) (PlaceStands c r) (BoundsStand c l r) (λ a b p q. (p, q)) (λ b h. (b.left, b.right, h.0, h.1, refl)) (λ a b p q. omega arith) k xs ys lefts rights (Contains old) zs made)
 
   pub bounds_cheap : IsWellMade c → (x y : Costed Place) → Contains xs x → Contains ys y → 0 + x.cost + y.cost < 2 ^ 64
   bounds_cheap made x y left right =
       let p = lefts.have x left in
       let q = rights.have y right in
-      let first = place_in c made l x.item p.1 in
-      let second = place_in c made r y.item q.1 in
+      let first = place_in prices small c made l x.item p.1 in
+      let second = place_in prices small c made r y.item q.1 in
       let one = p.0 in
       let two = q.0 in
       omega arith
 
 -- the lookups of an item
-module _ (c : List Entry) (i : SelectItem) (k : ℕ) (some : 1 ≤ k) (ys : List (Costed Atoms)) (rows : AreCheapest conditions_cost atoms_cmp (λ p. HasPart p × ConditionsFit p c i.conditions) k ys) where
+module _ (prices : Prices) (small : ArePrices prices) (c : List Entry) (i : SelectItem) (k : ℕ) (some : 1 ≤ k) (ys : List (Costed Atoms)) (rows : AreCheapest (conditions_cost prices) atoms_cmp (λ p. HasPart p × ConditionsFit p c i.conditions) k ys) where
   abbrev pub target : Target
   target = record { column = i.column; table = i.table; key = i.key }
 
@@ -133,18 +136,18 @@ module _ (c : List Entry) (i : SelectItem) (k : ℕ) (some : 1 ≤ k) (ys : List
       let key : i.key ≡ d = h.2 in
       (target, p, refl, (h.3, h.4), λ j. select (column j) (table j) (key j) p)
 
-  pub first_lookups : (C : Costed SourceTree → Type 0) (zs : List (Costed SourceTree)) → AreFirst (by_cost source_cmp) (λ z. C z ⊎ IsMade (linked lookup_of 8) (Contains targets) (Contains ys) z) k zs →
-      AreFirst (by_cost source_cmp) (λ z. C z ⊎ Priced source_cost (λ x. SourceFits x c (Select i)) z) k zs
-  first_lookups = first_of_made target_cmp atoms_cmp source_cmp (target_total, atoms_total, source_total) exact_sources lookup_of lookup_by_parts 8 (λ t. 0) conditions_cost source_cost
+  pub first_lookups : (C : Costed SourceTree → Type 0) (zs : List (Costed SourceTree)) → AreFirst (by_cost source_cmp) (λ z. C z ⊎ IsMade (linked lookup_of prices.lookup) (Contains targets) (Contains ys) z) k zs →
+      AreFirst (by_cost source_cmp) (λ z. C z ⊎ Priced (source_cost prices) (λ x. SourceFits x c (Select i)) z) k zs
+  first_lookups = first_of_made target_cmp atoms_cmp source_cmp (target_total, atoms_total, source_total) exact_sources lookup_of lookup_by_parts prices.lookup (λ t. 0) (conditions_cost prices) (source_cost prices)
       (λ t. target ≡ t) (λ p. HasPart p × ConditionsFit p c i.conditions) (λ x. SourceFits x c (Select i)) lookup_fits fits_lookup (λ t p e h. omega arith) k targets ys only rows
 
-  pub lookups_cheap : (n : ℕ) → IsWellMade c → IsSelectItem c n i → (x : Costed Target) (y : Costed Atoms) → Contains targets x → Contains ys y → 8 + x.cost + y.cost < 2 ^ 64
-  lookups_cheap n made is = made_cheap target_cmp atoms_cmp source_cmp (target_total, atoms_total, source_total) exact_sources lookup_of lookup_by_parts 8 (λ t. 0) conditions_cost source_cost
+  pub lookups_cheap : (n : ℕ) → IsWellMade c → IsSelectItem c n i → (x : Costed Target) (y : Costed Atoms) → Contains targets x → Contains ys y → prices.lookup + x.cost + y.cost < 2 ^ 64
+  lookups_cheap n made is = made_cheap target_cmp atoms_cmp source_cmp (target_total, atoms_total, source_total) exact_sources lookup_of lookup_by_parts prices.lookup (λ t. 0) (conditions_cost prices) (source_cost prices)
       (λ t. target ≡ t) (λ p. HasPart p × ConditionsFit p c i.conditions) (λ x. SourceFits x c (Select i)) lookup_fits fits_lookup (λ t p e h. omega arith) k targets ys only rows
-      (λ x fits. source_item_present c made x n (Select i) is fits)
+      (λ x fits. source_item_present prices small c made x n (Select i) is fits)
 
 -- whole sources, and pieces of them
-module _ (c : List Entry) (b : ℕ) (k : ℕ) (xs : List (Costed SourceTree)) (sources : AreCheapest source_cost source_cmp (SourceStands c b) k xs) where
+module _ (prices : Prices) (small : ArePrices prices) (c : List Entry) (b : ℕ) (k : ℕ) (xs : List (Costed SourceTree)) (sources : AreCheapest (source_cost prices) source_cmp (SourceStands c b) k xs) where
   abbrev pub all_text : List (Costed WholeText)
   all_text = record { cost = 0; item = record {} } ∷ []
 
@@ -157,31 +160,31 @@ module _ (c : List Entry) (b : ℕ) (k : ℕ) (xs : List (Costed SourceTree)) (s
     fits_whole (whole x) h = (x, record {}, h.1, tt, refl)
     fits_whole (sub x p q) h = absurd h.1
 
-    pub first_wholes : (C : Costed AtomTree → Type 0) (zs : List (Costed AtomTree)) → AreFirst (by_cost atom_cmp) (λ z. C z ⊎ IsMade (linked whole_of 2) (Contains xs) (Contains all_text) z) k zs →
-        AreFirst (by_cost atom_cmp) (λ z. C z ⊎ Priced atom_cost (PartFits c (Whole b)) z) k zs
-    first_wholes = first_of_made source_cmp whole_cmp atom_cmp (source_total, whole_total, atom_total) exact_atoms whole_of whole_by_parts 2 source_cost (λ w. 0) atom_cost
+    pub first_wholes : (C : Costed AtomTree → Type 0) (zs : List (Costed AtomTree)) → AreFirst (by_cost atom_cmp) (λ z. C z ⊎ IsMade (linked whole_of prices.whole) (Contains xs) (Contains all_text) z) k zs →
+        AreFirst (by_cost atom_cmp) (λ z. C z ⊎ Priced (atom_cost prices) (PartFits c (Whole b)) z) k zs
+    first_wholes = first_of_made source_cmp whole_cmp atom_cmp (source_total, whole_total, atom_total) exact_atoms whole_of whole_by_parts prices.whole (source_cost prices) (λ w. 0) (atom_cost prices)
         (SourceStands c b) (λ w. Unit {0}) (PartFits c (Whole b)) (λ x w s u. (tt, s)) fits_whole (λ x w s u. omega arith) k xs all_text sources the_text
 
-    pub wholes_cheap : (n : ℕ) → IsWellMade c → IsAtomItem c n (Whole b) → (x : Costed SourceTree) (y : Costed WholeText) → Contains xs x → Contains all_text y → 2 + x.cost + y.cost < 2 ^ 64
-    wholes_cheap n made is = made_cheap source_cmp whole_cmp atom_cmp (source_total, whole_total, atom_total) exact_atoms whole_of whole_by_parts 2 source_cost (λ w. 0) atom_cost
+    pub wholes_cheap : (n : ℕ) → IsWellMade c → IsAtomItem c n (Whole b) → (x : Costed SourceTree) (y : Costed WholeText) → Contains xs x → Contains all_text y → prices.whole + x.cost + y.cost < 2 ^ 64
+    wholes_cheap n made is = made_cheap source_cmp whole_cmp atom_cmp (source_total, whole_total, atom_total) exact_atoms whole_of whole_by_parts prices.whole (source_cost prices) (λ w. 0) (atom_cost prices)
         (SourceStands c b) (λ w. Unit {0}) (PartFits c (Whole b)) (λ x w s u. (tt, s)) fits_whole (λ x w s u. omega arith) k xs all_text sources the_text
-        (λ a fits. atom_item_present c made a n (Whole b) is fits.1)
+        (λ a fits. atom_item_present prices small c made a n (Whole b) is fits.1)
 
-  module _ (l r : ℕ) (ys : List (Costed Bounds)) (bounds : AreCheapest bounds_cost bounds_cmp (BoundsStand c l r) k ys) where
+  module _ (l r : ℕ) (ys : List (Costed Bounds)) (bounds : AreCheapest (bounds_cost prices) bounds_cmp (BoundsStand c l r) k ys) where
     fits_piece : (a : AtomTree) → PartFits c (Sub b l r) a → IsMade piece_of (SourceStands c b) (BoundsStand c l r) a
     fits_piece (constant u) h = absurd h.1
     fits_piece (whole x) h = absurd h.1
     fits_piece (sub x p q) h = (x, record { left = p; right = q }, h.1.0, (h.1.1, h.1.2), refl)
 
-    pub first_pieces : (C : Costed AtomTree → Type 0) (zs : List (Costed AtomTree)) → AreFirst (by_cost atom_cmp) (λ z. C z ⊎ IsMade (linked piece_of 6) (Contains xs) (Contains ys) z) k zs →
-        AreFirst (by_cost atom_cmp) (λ z. C z ⊎ Priced atom_cost (PartFits c (Sub b l r)) z) k zs
-    first_pieces = first_of_made source_cmp bounds_cmp atom_cmp (source_total, bounds_total, atom_total) exact_atoms piece_of (λ a b p q. refl) 6 source_cost bounds_cost atom_cost
+    pub first_pieces : (C : Costed AtomTree → Type 0) (zs : List (Costed AtomTree)) → AreFirst (by_cost atom_cmp) (λ z. C z ⊎ IsMade (linked piece_of prices.piece) (Contains xs) (Contains ys) z) k zs →
+        AreFirst (by_cost atom_cmp) (λ z. C z ⊎ Priced (atom_cost prices) (PartFits c (Sub b l r)) z) k zs
+    first_pieces = first_of_made source_cmp bounds_cmp atom_cmp (source_total, bounds_total, atom_total) exact_atoms piece_of (λ a b p q. refl) prices.piece (source_cost prices) (bounds_cost prices) (atom_cost prices)
         (SourceStands c b) (BoundsStand c l r) (PartFits c (Sub b l r)) (λ x w s u. (tt, (s, u.0, u.1))) fits_piece (λ x w s u. omega arith) k xs ys sources bounds
 
-    pub pieces_cheap : (n : ℕ) → IsWellMade c → IsAtomItem c n (Sub b l r) → (x : Costed SourceTree) (y : Costed Bounds) → Contains xs x → Contains ys y → 6 + x.cost + y.cost < 2 ^ 64
-    pieces_cheap n made is = made_cheap source_cmp bounds_cmp atom_cmp (source_total, bounds_total, atom_total) exact_atoms piece_of (λ a b p q. refl) 6 source_cost bounds_cost atom_cost
+    pub pieces_cheap : (n : ℕ) → IsWellMade c → IsAtomItem c n (Sub b l r) → (x : Costed SourceTree) (y : Costed Bounds) → Contains xs x → Contains ys y → prices.piece + x.cost + y.cost < 2 ^ 64
+    pieces_cheap n made is = made_cheap source_cmp bounds_cmp atom_cmp (source_total, bounds_total, atom_total) exact_atoms piece_of (λ a b p q. refl) prices.piece (source_cost prices) (bounds_cost prices) (atom_cost prices)
         (SourceStands c b) (BoundsStand c l r) (PartFits c (Sub b l r)) (λ x w s u. (tt, (s, u.0, u.1))) fits_piece (λ x w s u. omega arith) k xs ys sources bounds
-        (λ a fits. atom_item_present c made a n (Sub b l r) is fits.1)
+        (λ a fits. atom_item_present prices small c made a n (Sub b l r) is fits.1)
 
-pub text_cheap : (t : List ℕ) → length t ≤ 100 → atom_cost (constant t) < 2 ^ 64
-text_cheap t short = atom_item_present [] (λ n e h. absurd cc) (constant t) 0 (Const t) short refl
+pub text_cheap : (prices : Prices) (small : ArePrices prices) (t : List ℕ) → length t ≤ 100 → atom_cost prices (constant t) < 2 ^ 64
+text_cheap prices small t short = atom_item_present prices small [] (λ n e h. absurd cc) (constant t) 0 (Const t) short refl

@@ -7,10 +7,12 @@ use Rattle.std.specs.declared.cmp.Ordering.TheVariants.{Less, Equal, Greater}
 use Rattle.std.specs.Ordering.{nat_cmp, ordering_then}
 use Rattle.std.proofs.lemmas.Cmp.{nat_cmp_total, on_total, then_total}
 use Rattle.std.proofs.lemmas.Map.Lookups.{CmpEqualImpliesEq, exact_unsigned}
-use Rattle.fill_tokens.specs.Place.{place_cmp, place_cost}
+use Rattle.fill_tokens.specs.Place.{place_cmp}
+use Rattle.fill_tokens.specs.Prices.{place_cost}
 use Rattle.fill_tokens.specs.declared.place.Place.{Place}
 use Rattle.fill_tokens.proofs.OrderingLemmas.{then_first, then_second}
 use Rattle.fill_tokens.proofs.PlaceLaws.{place_total, exact_places}
+use Rattle.fill_tokens.specs.declared.prices.Prices.{Prices}
 use Rattle.fill_tree.specs.Order.{source_cmp, atoms_cmp}
 use Rattle.fill_tree.specs.Tree.{SourceTree, AtomTree, Atoms, select, whole, sub}
 use Rattle.fill_arena.specs.Stands.{PlaceStands}
@@ -20,8 +22,8 @@ use Rattle.fill_best.specs.declared.parts.Target.{Target}
 use Rattle.fill_best.specs.declared.parts.WholeText.{WholeText}
 
 -- what two places cost
-abbrev pub bounds_cost : Bounds → ℕ
-bounds_cost b = place_cost b.left + place_cost b.right
+abbrev pub bounds_cost : Prices → Bounds → ℕ
+bounds_cost prices b = place_cost prices b.left + place_cost prices b.right
 
 -- two places in order
 abbrev pub bounds_cmp : Bounds → Bounds → Ordering

@@ -20,18 +20,25 @@ use crate::plain::PlainAtom;
 use crate::sets::scan_parts;
 use fill_arena::{Arena, AtomItem, AtomSet};
 use fill_text::{NoMemory, Text};
+use fill_tokens::Prices;
 use std::alloc::Global;
 use std::rc::Rc;
 
 /// Puts a constant of a text.
-fn put_text(limit: usize, text: &Text, kept: &mut Vec<Costed<PlainAtom>>) -> Result<(), NoMemory>
+fn put_text(
+    prices: &Prices,
+    limit: usize,
+    text: &Text,
+    kept: &mut Vec<Costed<PlainAtom>>,
+) -> Result<(), NoMemory>
     requires short { length text.now ≤ 100 }
     requires rising { Rises (by_cost atom_cmp) kept.old.items }
     requires few { length kept.old.items ≤ limit }
-    ensures { OnOk result (TakesIn atom_cost atom_cmp (λ a. constant text.now ≡ a) limit kept.old.items kept.new.items) }
+    ensures { OnOk result (TakesIn (atom_cost prices.now) atom_cmp (λ a. constant text.now ≡ a) limit kept.old.items kept.new.items) }
 {
+    prices.keep_small();
     let item = PlainAtom::constant(text)?;
-    let Some(cost) = item.cost() else {
+    let Some(cost) = item.cost(prices) else {
         unreachable!()
     };
     put(kept, limit, Costed { cost, item })?;
@@ -40,6 +47,7 @@ fn put_text(limit: usize, text: &Text, kept: &mut Vec<Costed<PlainAtom>>) -> Res
 
 /// Puts the constant that an item stands for, if it is one.
 fn put_constant(
+    prices: &Prices,
     limit: usize,
     item: &AtomItem,
     kept: &mut Vec<Costed<PlainAtom>>,
@@ -47,16 +55,17 @@ fn put_constant(
     requires item { (c : Items Entry) × (n : ℕ) × IsAtomItem c n item.now }
     requires rising { Rises (by_cost atom_cmp) kept.old.items }
     requires few { length kept.old.items ≤ limit }
-    ensures { OnOk result ((c : Items Entry) → TakesIn atom_cost atom_cmp (ConstantFits c item.now) limit kept.old.items kept.new.items) }
+    ensures { OnOk result ((c : Items Entry) → TakesIn (atom_cost prices.now) atom_cmp (ConstantFits c item.now) limit kept.old.items kept.new.items) }
 {
     match item {
-        AtomItem::Const(text) => put_text(limit, text, kept),
+        AtomItem::Const(text) => put_text(prices, limit, text, kept),
         _ => Ok(()),
     }
 }
 
 /// Puts the constants among some items.
 fn put_constants(
+    prices: &Prices,
     limit: usize,
     items: &[AtomItem],
     kept: &mut Vec<Costed<PlainAtom>>,
@@ -64,10 +73,10 @@ fn put_constants(
     requires items { (c : Items Entry) × (n : ℕ) × EachIn (IsAtomItem c n) items.now }
     requires rising { Rises (by_cost atom_cmp) kept.old.items }
     requires few { length kept.old.items ≤ limit }
-    ensures { OnOk result ((c : Items Entry) → TakesIn atom_cost atom_cmp (λ a. SomeIn (λ i. ConstantFits c i a) items.now) limit kept.old.items kept.new.items) }
+    ensures { OnOk result ((c : Items Entry) → TakesIn (atom_cost prices.now) atom_cmp (λ a. SomeIn (λ i. ConstantFits c i a) items.now) limit kept.old.items kept.new.items) }
 {
     for item in items {
-        put_constant(limit, item, kept)?;
+        put_constant(prices, limit, item, kept)?;
     }
     Ok(())
 }
@@ -75,6 +84,7 @@ fn put_constants(
 /// The first atoms of a set.
 pub(crate) fn atoms_of(
     alloc: Global,
+    prices: &Prices,
     arena: &Arena,
     limit: usize,
     known: &mut Known,
@@ -82,16 +92,17 @@ pub(crate) fn atoms_of(
 ) -> Result<Found<PlainAtom>, NoMemory>
     requires set { IsAtomSet arena.now s }
     requires some { 1 ≤ limit }
-    requires known { AreKnown arena.now limit known.old }
-    ensures known { OnOk result (AreKnown arena.now limit known.new) }
-    ensures first { IfOk result (λ found. AreCheapest atom_cost atom_cmp (AtomStands arena.now s) limit found.value.items) }
+    requires known { AreKnown prices.now arena.now limit known.old }
+    ensures known { OnOk result (AreKnown prices.now arena.now limit known.new) }
+    ensures first { IfOk result (λ found. AreCheapest (atom_cost prices.now) atom_cmp (AtomStands arena.now s) limit found.value.items) }
 {
     if let Some(found) = known.atoms(s) {
         return Ok(found.clone()?);
     }
     arena.keeps_made();
-    let mut kept = scan_parts(alloc, arena, limit, known, s)?;
-    put_constants(limit, arena.atoms(s), &mut kept)?;
+    prices.keep_small();
+    let mut kept = scan_parts(alloc, prices, arena, limit, known, s)?;
+    put_constants(prices, limit, arena.atoms(s), &mut kept)?;
     let found = Rc::new(alloc, kept)?;
     known.keep_atoms(s, found.clone()?)?;
     Ok(found)

@@ -1,5 +1,6 @@
 //! The first programs of a graph.
 ghost use Rattle.std.specs.Prelude.{◌≡◌, ℕ, ◌-◌, ◌<◌, ◌≤◌, ◌∷◌, [], map, List as Items, IfOk, OnOk, length};
+ghost use Rattle.fill_tokens.specs.declared.prices.Prices.{Prices as Table};
 ghost use Rattle.fill_tree.specs.Meaning.{program_tree};
 ghost use Rattle.fill_tree.specs.Order.{program_cmp};
 ghost use Rattle.fill_arena.specs.Contents.{IsAtomSet, IsGraph};
@@ -18,21 +19,28 @@ use crate::known::Known;
 use crate::plain::PlainAtoms;
 use fill_arena::{Arena, Edge, GraphId};
 use fill_text::{List, NoMemory};
-use fill_tree::Program;
+use fill_tree::{Prices, Program};
 use std::alloc::Global;
 use std::mem;
 
-/// The first `k` programs that stand in a graph, by the order of programs; all of them where they are fewer.
+/// The first `k` programs that stand in a graph, by the prices and the order of programs; all of them where they are fewer.
 ///
 /// The edges into a node stand before those out of it. So going over the edges from the back, all that lead on from
 /// where an edge ends are done, and a table of each node's first rests of programs is enough.
-pub fn best(alloc: Global, arena: &Arena, g: GraphId, k: u32) -> Result<List<Program>, NoMemory>
+pub fn best(
+    alloc: Global,
+    prices: &Prices,
+    arena: &Arena,
+    g: GraphId,
+    k: u32,
+) -> Result<List<Program>, NoMemory>
     requires live { IsGraph arena.now g }
     requires some { 1 ≤ k }
     requires few { k ≤ 20 }
-    ensures { IfOk result (λ made. AreFirst program_cmp (ProgramStands arena.now g) k (map program_tree made)) }
+    ensures { IfOk result (λ made. AreFirst (program_cmp prices.now) (ProgramStands arena.now g) k (map program_tree made)) }
 {
     arena.keeps_made();
+    prices.keep_small();
     let limit = k as usize;
     let edges = arena.edges(g);
     let mut rests = no_edges(alloc, arena.nodes(g))?;
@@ -40,7 +48,15 @@ pub fn best(alloc: Global, arena: &Arena, g: GraphId, k: u32) -> Result<List<Pro
     let mut left = edges.len();
     while left > 0 {
         left -= 1;
-        take_edge(alloc, arena, limit, &mut known, &mut rests, edges[left])?;
+        take_edge(
+            alloc,
+            prices,
+            arena,
+            limit,
+            &mut known,
+            &mut rests,
+            edges[left],
+        )?;
     }
     programs_of(alloc, mem::replace(&mut rests[0], Vec::new(alloc)))
 }
@@ -49,7 +65,7 @@ pub fn best(alloc: Global, arena: &Arena, g: GraphId, k: u32) -> Result<List<Pro
 fn no_edges(alloc: Global, nodes: usize) -> Result<Vec<Vec<Costed<PlainAtoms>>>, NoMemory>
     requires { 0 < nodes }
     ensures length { IfOk result (λ rests. length rests.items ≡ nodes) }
-    ensures first { IfOk result (λ rests. (c : Items Entry) (k : ℕ) → 1 ≤ k → AreFirstRests c [] (nodes - 1) k rests.items) }
+    ensures first { IfOk result (λ rests. (prices : Table) (c : Items Entry) (k : ℕ) → 1 ≤ k → AreFirstRests prices c [] (nodes - 1) k rests.items) }
 {
     let mut rests = Vec::new(alloc);
     for _node in 1..nodes {
@@ -67,6 +83,7 @@ fn no_edges(alloc: Global, nodes: usize) -> Result<Vec<Vec<Costed<PlainAtoms>>>,
 /// Takes one more edge, at the front of the others.
 fn take_edge(
     alloc: Global,
+    prices: &Prices,
     arena: &Arena,
     limit: usize,
     known: &mut Known,
@@ -77,20 +94,20 @@ fn take_edge(
     requires some { 1 ≤ limit }
     requires onward { edge.from < edge.to }
     requires within { edge.to < length rests.old.items }
-    requires known { AreKnown arena.now limit known.old }
-    requires cheap { (others : Items Listed) × (last : ℕ) × AreFirstRests arena.now others last limit rests.old.items × WalksAreCheap arena.now (edge ∷ others) last }
-    ensures known { OnOk result (AreKnown arena.now limit known.new) }
+    requires known { AreKnown prices.now arena.now limit known.old }
+    requires cheap { (others : Items Listed) × (last : ℕ) × AreFirstRests prices.now arena.now others last limit rests.old.items × WalksAreCheap prices.now arena.now (edge ∷ others) last }
+    ensures known { OnOk result (AreKnown prices.now arena.now limit known.new) }
     ensures length { length rests.new.items ≡ length rests.old.items }
     ensures first { OnOk result ((others : Items Listed) (last : ℕ) → IsFirstEdge edge others →
-        AreFirstRests arena.now others last limit rests.old.items → AreFirstRests arena.now (edge ∷ others) last limit rests.new.items) }
+        AreFirstRests prices.now arena.now others last limit rests.old.items → AreFirstRests prices.now arena.now (edge ∷ others) last limit rests.new.items) }
 {
-    let atoms = atoms_of(alloc, arena, limit, known, edge.atoms)?;
+    let atoms = atoms_of(alloc, prices, arena, limit, known, edge.atoms)?;
     let mut kept = mem::replace(&mut rests[edge.from], Vec::new(alloc));
     put_products(
         alloc,
         &mut kept,
         limit,
-        5,
+        prices.atom as u64,
         atoms.as_slice(),
         rests[edge.to].as_slice(),
     )?;

@@ -1,6 +1,8 @@
 //! What was found of sets already, so that each is looked at once.
 ghost use Rattle.std.specs.Prelude.{◌≡◌, ℕ, List as Items, IfSome, OnOk};
-ghost use Rattle.fill_tokens.specs.Place.{place_cmp, place_cost};
+ghost use Rattle.fill_tokens.specs.Place.{place_cmp};
+ghost use Rattle.fill_tokens.specs.Prices.{place_cost};
+ghost use Rattle.fill_tokens.specs.declared.prices.Prices.{Prices};
 ghost use Rattle.fill_tree.specs.Cost.{atom_cost, source_cost};
 ghost use Rattle.fill_tree.specs.Order.{atom_cmp, source_cmp};
 ghost use Rattle.fill_arena.specs.Stands.{AtomStands, PlaceStands, SourceStands};
@@ -32,7 +34,7 @@ pub(crate) struct Known {
 
 impl Known {
     pub fn new(alloc: Global) -> Known
-        ensures { (c : Items Entry) (k : ℕ) → AreKnown c k result }
+        ensures { (prices : Prices) (c : Items Entry) (k : ℕ) → AreKnown prices c k result }
     {
         Known {
             places: HashMap::new(alloc),
@@ -43,36 +45,36 @@ impl Known {
     }
 
     pub fn places(&self, s: PlaceSet) -> Option<&Found<Place>>
-        ensures { (c : Items Entry) (k : ℕ) → AreKnown c k self.now →
-            IfSome result (λ o. AreCheapest place_cost place_cmp (PlaceStands c s) k o.now.value.items) }
+        ensures { (prices : Prices) (c : Items Entry) (k : ℕ) → AreKnown prices c k self.now →
+            IfSome result (λ o. AreCheapest (place_cost prices) place_cmp (PlaceStands c s) k o.now.value.items) }
     {
         self.places.get(&s)
     }
 
     pub fn sources(&self, s: SourceSet) -> Option<&Found<PlainSource>>
-        ensures { (c : Items Entry) (k : ℕ) → AreKnown c k self.now →
-            IfSome result (λ o. AreCheapest source_cost source_cmp (SourceStands c s) k o.now.value.items) }
+        ensures { (prices : Prices) (c : Items Entry) (k : ℕ) → AreKnown prices c k self.now →
+            IfSome result (λ o. AreCheapest (source_cost prices) source_cmp (SourceStands c s) k o.now.value.items) }
     {
         self.sources.get(&s)
     }
 
     pub fn parts(&self, s: AtomSet) -> Option<&Found<PlainAtom>>
-        ensures { (c : Items Entry) (k : ℕ) → AreKnown c k self.now →
-            IfSome result (λ o. AreCheapest atom_cost atom_cmp (PartStands c s) k o.now.value.items) }
+        ensures { (prices : Prices) (c : Items Entry) (k : ℕ) → AreKnown prices c k self.now →
+            IfSome result (λ o. AreCheapest (atom_cost prices) atom_cmp (PartStands c s) k o.now.value.items) }
     {
         self.parts.get(&s)
     }
 
     pub fn atoms(&self, s: AtomSet) -> Option<&Found<PlainAtom>>
-        ensures { (c : Items Entry) (k : ℕ) → AreKnown c k self.now →
-            IfSome result (λ o. AreCheapest atom_cost atom_cmp (AtomStands c s) k o.now.value.items) }
+        ensures { (prices : Prices) (c : Items Entry) (k : ℕ) → AreKnown prices c k self.now →
+            IfSome result (λ o. AreCheapest (atom_cost prices) atom_cmp (AtomStands c s) k o.now.value.items) }
     {
         self.atoms.get(&s)
     }
 
     pub fn keep_places(&mut self, s: PlaceSet, found: Found<Place>) -> Result<(), NoMemory>
-        ensures { OnOk result ((c : Items Entry) (k : ℕ) → AreKnown c k self.old →
-            AreCheapest place_cost place_cmp (PlaceStands c s) k found.value.items → AreKnown c k self.new) }
+        ensures { OnOk result ((prices : Prices) (c : Items Entry) (k : ℕ) → AreKnown prices c k self.old →
+            AreCheapest (place_cost prices) place_cmp (PlaceStands c s) k found.value.items → AreKnown prices c k self.new) }
     {
         match self.places.insert(s, found) {
             Ok(_) => Ok(()),
@@ -81,8 +83,8 @@ impl Known {
     }
 
     pub fn keep_sources(&mut self, s: SourceSet, found: Found<PlainSource>) -> Result<(), NoMemory>
-        ensures { OnOk result ((c : Items Entry) (k : ℕ) → AreKnown c k self.old →
-            AreCheapest source_cost source_cmp (SourceStands c s) k found.value.items → AreKnown c k self.new) }
+        ensures { OnOk result ((prices : Prices) (c : Items Entry) (k : ℕ) → AreKnown prices c k self.old →
+            AreCheapest (source_cost prices) source_cmp (SourceStands c s) k found.value.items → AreKnown prices c k self.new) }
     {
         match self.sources.insert(s, found) {
             Ok(_) => Ok(()),
@@ -91,8 +93,8 @@ impl Known {
     }
 
     pub fn keep_parts(&mut self, s: AtomSet, found: Found<PlainAtom>) -> Result<(), NoMemory>
-        ensures { OnOk result ((c : Items Entry) (k : ℕ) → AreKnown c k self.old →
-            AreCheapest atom_cost atom_cmp (PartStands c s) k found.value.items → AreKnown c k self.new) }
+        ensures { OnOk result ((prices : Prices) (c : Items Entry) (k : ℕ) → AreKnown prices c k self.old →
+            AreCheapest (atom_cost prices) atom_cmp (PartStands c s) k found.value.items → AreKnown prices c k self.new) }
     {
         match self.parts.insert(s, found) {
             Ok(_) => Ok(()),
@@ -101,8 +103,8 @@ impl Known {
     }
 
     pub fn keep_atoms(&mut self, s: AtomSet, found: Found<PlainAtom>) -> Result<(), NoMemory>
-        ensures { OnOk result ((c : Items Entry) (k : ℕ) → AreKnown c k self.old →
-            AreCheapest atom_cost atom_cmp (AtomStands c s) k found.value.items → AreKnown c k self.new) }
+        ensures { OnOk result ((prices : Prices) (c : Items Entry) (k : ℕ) → AreKnown prices c k self.old →
+            AreCheapest (atom_cost prices) atom_cmp (AtomStands c s) k found.value.items → AreKnown prices c k self.new) }
     {
         match self.atoms.insert(s, found) {
             Ok(_) => Ok(()),

@@ -1,6 +1,7 @@
 //! The first of sets of places, and of the bounds of pieces.
 ghost use Rattle.std.specs.Prelude.{◌≡◌, ℕ, ◌+◌, ◌^◌, ◌<◌, Contains, List as Items, IfOk, OnOk};
-ghost use Rattle.fill_tokens.specs.Place.{place_cmp, place_cost};
+ghost use Rattle.fill_tokens.specs.Place.{place_cmp};
+ghost use Rattle.fill_tokens.specs.Prices.{place_cost};
 ghost use Rattle.fill_tokens.specs.declared.place.Place.{Place as Spot};
 ghost use Rattle.fill_arena.specs.Contents.{In, IsPlaceSet};
 ghost use Rattle.fill_arena.specs.Stands.{PlaceStands};
@@ -16,22 +17,23 @@ use crate::known::{Found, Known};
 use crate::parts::Bounds;
 use fill_arena::{Arena, PlaceSet};
 use fill_text::NoMemory;
-use fill_tokens::Place;
+use fill_tokens::{Place, Prices};
 use std::alloc::Global;
 use std::rc::Rc;
 
 /// The first of some places.
 fn first_places(
     alloc: Global,
+    prices: &Prices,
     limit: usize,
     places: &[Place],
 ) -> Result<Vec<Costed<Place>>, NoMemory>
-    ensures { IfOk result (λ first. AreCheapest place_cost place_cmp (λ p. In p places.now) limit first.items) }
+    ensures { IfOk result (λ first. AreCheapest (place_cost prices.now) place_cmp (λ p. In p places.now) limit first.items) }
 {
     let mut kept = Vec::new(alloc);
     for place in places {
         let next = Costed {
-            cost: place.cost(),
+            cost: place.cost(prices),
             item: *place,
         };
         put(&mut kept, limit, next)?;
@@ -42,20 +44,21 @@ fn first_places(
 /// The first places of a set.
 pub(crate) fn places_of(
     alloc: Global,
+    prices: &Prices,
     arena: &Arena,
     limit: usize,
     known: &mut Known,
     s: PlaceSet,
 ) -> Result<Found<Place>, NoMemory>
     requires set { IsPlaceSet arena.now s }
-    requires known { AreKnown arena.now limit known.old }
-    ensures known { OnOk result (AreKnown arena.now limit known.new) }
-    ensures first { IfOk result (λ found. AreCheapest place_cost place_cmp (PlaceStands arena.now s) limit found.value.items) }
+    requires known { AreKnown prices.now arena.now limit known.old }
+    ensures known { OnOk result (AreKnown prices.now arena.now limit known.new) }
+    ensures first { IfOk result (λ found. AreCheapest (place_cost prices.now) place_cmp (PlaceStands arena.now s) limit found.value.items) }
 {
     if let Some(found) = known.places(s) {
         return Ok(found.clone()?);
     }
-    let found = Rc::new(alloc, first_places(alloc, limit, arena.places(s))?)?;
+    let found = Rc::new(alloc, first_places(alloc, prices, limit, arena.places(s))?)?;
     known.keep_places(s, found.clone()?)?;
     Ok(found)
 }
@@ -63,15 +66,17 @@ pub(crate) fn places_of(
 /// The first bounds of two sets of places.
 pub(crate) fn bounds_of(
     alloc: Global,
+    prices: &Prices,
     limit: usize,
     lefts: &[Costed<Place>],
     rights: &[Costed<Place>],
 ) -> Result<Vec<Costed<Bounds>>, NoMemory>
-    requires rising { (c : Items Entry) × (r : ℕ) × AreCheapest place_cost place_cmp (PlaceStands c r) limit rights.now }
+    requires rising { (c : Items Entry) × (r : ℕ) × AreCheapest (place_cost prices.now) place_cmp (PlaceStands c r) limit rights.now }
     requires cheap { (x y : Cost Spot) → Contains lefts.now x → Contains rights.now y → 0 + x.cost + y.cost < 2 ^ 64 }
-    ensures { IfOk result (λ first. (c : Items Entry) (l r : ℕ) → AreCheapest place_cost place_cmp (PlaceStands c l) limit lefts.now →
-        AreCheapest place_cost place_cmp (PlaceStands c r) limit rights.now → AreCheapest bounds_cost bounds_cmp (BoundsStand c l r) limit first.items) }
+    ensures { IfOk result (λ first. (c : Items Entry) (l r : ℕ) → AreCheapest (place_cost prices.now) place_cmp (PlaceStands c l) limit lefts.now →
+        AreCheapest (place_cost prices.now) place_cmp (PlaceStands c r) limit rights.now → AreCheapest (bounds_cost prices.now) bounds_cmp (BoundsStand c l r) limit first.items) }
 {
+    prices.keep_small();
     let mut bounds = Vec::new(alloc);
     put_products(alloc, &mut bounds, limit, 0, lefts, rights)?;
     Ok(bounds)

@@ -7,7 +7,7 @@ ghost use Rattle.fill_tree.specs.Tree.{col, constant, more};
 use crate::costed::{Made, Ordered};
 use crate::parts::{Bounds, Target, WholeText};
 use fill_text::{List, NoMemory, Text};
-use fill_tree::{Atom, Program, Select, Source};
+use fill_tree::{Atom, Prices, Program, Select, Source};
 use std::alloc::Global;
 use std::cmp::Ordering;
 use std::marker::Model;
@@ -85,11 +85,11 @@ impl PlainAtom {
         })
     }
 
-    pub fn cost(&self) -> Option<u64>
-        ensures some { IfSome result (λ n. n ≡ atom_cost self.now) }
-        ensures none { IfNone result (2 ^ 64 ≤ atom_cost self.now) }
+    pub fn cost(&self, prices: &Prices) -> Option<u64>
+        ensures some { IfSome result (λ n. n ≡ atom_cost prices.now self.now) }
+        ensures none { IfNone result (2 ^ 64 ≤ atom_cost prices.now self.now) }
     {
-        self.atom.cost()
+        self.atom.cost(prices)
     }
 }
 

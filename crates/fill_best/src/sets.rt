@@ -25,6 +25,7 @@ use crate::plain::{PlainAtom, PlainSource};
 use crate::rows::{Rows, constants_of, no_conditions, put_in_front};
 use fill_arena::{Arena, AtomItem, AtomSet, ConditionItem, SelectItem, SourceItem, SourceSet};
 use fill_text::NoMemory;
+use fill_tokens::Prices;
 use std::alloc::Global;
 use std::rc::Rc;
 
@@ -32,6 +33,7 @@ use std::rc::Rc;
 #[cycle(sets)]
 fn sources_of(
     alloc: Global,
+    prices: &Prices,
     arena: &Arena,
     limit: usize,
     known: &mut Known,
@@ -39,14 +41,14 @@ fn sources_of(
 ) -> Result<Found<PlainSource>, NoMemory>
     requires set { IsSourceSet arena.now s }
     requires some { 1 ≤ limit }
-    requires known { AreKnown arena.now limit known.old }
-    ensures known { OnOk result (AreKnown arena.now limit known.new) }
-    ensures first { IfOk result (λ found. AreCheapest source_cost source_cmp (SourceStands arena.now s) limit found.value.items) }
+    requires known { AreKnown prices.now arena.now limit known.old }
+    ensures known { OnOk result (AreKnown prices.now arena.now limit known.new) }
+    ensures first { IfOk result (λ found. AreCheapest (source_cost prices.now) source_cmp (SourceStands arena.now s) limit found.value.items) }
 {
     if let Some(found) = known.sources(s) {
         return Ok(found.clone()?);
     }
-    let found = Rc::new(alloc, scan_sources(alloc, arena, limit, known, s)?)?;
+    let found = Rc::new(alloc, scan_sources(alloc, prices, arena, limit, known, s)?)?;
     known.keep_sources(s, found.clone()?)?;
     Ok(found)
 }
@@ -54,6 +56,7 @@ fn sources_of(
 #[cycle(sets)]
 fn scan_sources(
     alloc: Global,
+    prices: &Prices,
     arena: &Arena,
     limit: usize,
     known: &mut Known,
@@ -61,15 +64,16 @@ fn scan_sources(
 ) -> Result<Vec<Costed<PlainSource>>, NoMemory>
     requires set { IsSourceSet arena.now s }
     requires some { 1 ≤ limit }
-    requires known { AreKnown arena.now limit known.old }
-    ensures known { OnOk result (AreKnown arena.now limit known.new) }
-    ensures first { IfOk result (λ kept. AreCheapest source_cost source_cmp (SourceStands arena.now s) limit kept.items) }
+    requires known { AreKnown prices.now arena.now limit known.old }
+    ensures known { OnOk result (AreKnown prices.now arena.now limit known.new) }
+    ensures first { IfOk result (λ kept. AreCheapest (source_cost prices.now) source_cmp (SourceStands arena.now s) limit kept.items) }
 {
     arena.keeps_made();
+    prices.keep_small();
     let items = arena.sources(s);
     let mut kept = Vec::new(alloc);
     for item in items {
-        put_source(alloc, arena, limit, known, s, item, &mut kept)?;
+        put_source(alloc, prices, arena, limit, known, s, item, &mut kept)?;
     }
     Ok(kept)
 }
@@ -78,6 +82,7 @@ fn scan_sources(
 #[cycle(sets)]
 fn put_source(
     alloc: Global,
+    prices: &Prices,
     arena: &Arena,
     limit: usize,
     known: &mut Known,
@@ -89,20 +94,22 @@ fn put_source(
     requires some { 1 ≤ limit }
     requires rising { Rises (by_cost source_cmp) kept.old.items }
     requires few { length kept.old.items ≤ limit }
-    requires known { AreKnown arena.now limit known.old }
-    ensures known { OnOk result (AreKnown arena.now limit known.new) }
-    ensures first { OnOk result (TakesIn source_cost source_cmp (λ x. SourceFits x arena.now item.now) limit kept.old.items kept.new.items) }
+    requires known { AreKnown prices.now arena.now limit known.old }
+    ensures known { OnOk result (AreKnown prices.now arena.now limit known.new) }
+    ensures first { OnOk result (TakesIn (source_cost prices.now) source_cmp (λ x. SourceFits x arena.now item.now) limit kept.old.items kept.new.items) }
 {
     match item {
         SourceItem::Col(number) => {
             let next = Costed {
-                cost: 0,
+                cost: prices.column as u64,
                 item: PlainSource::column(*number),
             };
             put(kept, limit, next)?;
             Ok(())
         }
-        SourceItem::Select(listed) => put_lookups(alloc, arena, limit, known, set, listed, kept),
+        SourceItem::Select(listed) => put_lookups(
+            alloc, prices, arena, limit, known, set, listed, kept,
+        ),
     }
 }
 
@@ -110,6 +117,7 @@ fn put_source(
 #[cycle(sets)]
 fn put_lookups(
     alloc: Global,
+    prices: &Prices,
     arena: &Arena,
     limit: usize,
     known: &mut Known,
@@ -121,11 +129,19 @@ fn put_lookups(
     requires some { 1 ≤ limit }
     requires rising { Rises (by_cost source_cmp) kept.old.items }
     requires few { length kept.old.items ≤ limit }
-    requires known { AreKnown arena.now limit known.old }
-    ensures known { OnOk result (AreKnown arena.now limit known.new) }
-    ensures first { OnOk result (TakesIn source_cost source_cmp (λ x. SourceFits x arena.now (SourceItem.Select item.now)) limit kept.old.items kept.new.items) }
+    requires known { AreKnown prices.now arena.now limit known.old }
+    ensures known { OnOk result (AreKnown prices.now arena.now limit known.new) }
+    ensures first { OnOk result (TakesIn (source_cost prices.now) source_cmp (λ x. SourceFits x arena.now (SourceItem.Select item.now)) limit kept.old.items kept.new.items) }
 {
-    let rows = rows_of(alloc, arena, limit, known, set, item.conditions.as_slice())?;
+    let rows = rows_of(
+        alloc,
+        prices,
+        arena,
+        limit,
+        known,
+        set,
+        item.conditions.as_slice(),
+    )?;
     let target = Target {
         column: item.column,
         table: item.table,
@@ -136,13 +152,22 @@ fn put_lookups(
         item: target,
     }];
     arena.keeps_made();
-    put_products(alloc, kept, limit, 8, &targets, rows.mixed.as_slice())
+    prices.keep_small();
+    put_products(
+        alloc,
+        kept,
+        limit,
+        prices.lookup as u64,
+        &targets,
+        rows.mixed.as_slice(),
+    )
 }
 
 /// The first rows of conditions, put together from the last condition on.
 #[cycle(sets)]
 fn rows_of(
     alloc: Global,
+    prices: &Prices,
     arena: &Arena,
     limit: usize,
     known: &mut Known,
@@ -152,15 +177,15 @@ fn rows_of(
     requires items { EachIn (IsConditionItem arena.now set) items.now }
     requires short { length items.now ≤ 3 }
     requires some { 1 ≤ limit }
-    requires known { AreKnown arena.now limit known.old }
-    ensures known { OnOk result (AreKnown arena.now limit known.new) }
-    ensures first { IfOk result (λ rows. AreFirstRows arena.now items.now limit rows) }
+    requires known { AreKnown prices.now arena.now limit known.old }
+    ensures known { OnOk result (AreKnown prices.now arena.now limit known.new) }
+    ensures first { IfOk result (λ rows. AreFirstRows prices.now arena.now items.now limit rows) }
 {
     let mut rows = no_conditions(alloc, limit)?;
     let mut left = items.len();
     while left > 0 {
         left -= 1;
-        rows = longer_rows(alloc, arena, limit, known, set, &items[left], rows)?;
+        rows = longer_rows(alloc, prices, arena, limit, known, set, &items[left], rows)?;
     }
     Ok(rows)
 }
@@ -168,6 +193,7 @@ fn rows_of(
 #[cycle(sets)]
 fn longer_rows(
     alloc: Global,
+    prices: &Prices,
     arena: &Arena,
     limit: usize,
     known: &mut Known,
@@ -176,20 +202,37 @@ fn longer_rows(
     rows: Rows,
 ) -> Result<Rows, NoMemory>
     requires item { IsConditionItem arena.now set item.now }
-    requires rows { (is : Items Listed) × EachIn (IsConditionItem arena.now set) (item.now ∷ is) × (length (item.now ∷ is) ≤ 3) × AreFirstRows arena.now is limit rows }
+    requires rows { (is : Items Listed) × EachIn (IsConditionItem arena.now set) (item.now ∷ is) × (length (item.now ∷ is) ≤ 3) × AreFirstRows prices.now arena.now is limit rows }
     requires some { 1 ≤ limit }
-    requires known { AreKnown arena.now limit known.old }
-    ensures known { OnOk result (AreKnown arena.now limit known.new) }
-    ensures first { IfOk result (λ made. (is : Items Listed) → AreFirstRows arena.now is limit rows → AreFirstRows arena.now (item.now ∷ is) limit made) }
+    requires known { AreKnown prices.now arena.now limit known.old }
+    ensures known { OnOk result (AreKnown prices.now arena.now limit known.new) }
+    ensures first { IfOk result (λ made. (is : Items Listed) → AreFirstRows prices.now arena.now is limit rows → AreFirstRows prices.now arena.now (item.now ∷ is) limit made) }
 {
-    let constants = constants_of(alloc, item)?;
-    let parts = conditions_of(alloc, arena, limit, known, set, item)?;
+    let constants = constants_of(alloc, prices, item)?;
+    let parts = conditions_of(alloc, prices, arena, limit, known, set, item)?;
     arena.keeps_made();
+    prices.keep_small();
     let fixed = constants.as_slice();
     let others = parts.as_slice();
     let any = rows.any.as_slice();
-    let longer = put_in_front(alloc, limit, fixed, any, others, any)?;
-    let mixed = put_in_front(alloc, limit, fixed, rows.mixed.as_slice(), others, any)?;
+    let longer = put_in_front(
+        alloc,
+        limit,
+        prices.condition as u64,
+        fixed,
+        any,
+        others,
+        any,
+    )?;
+    let mixed = put_in_front(
+        alloc,
+        limit,
+        prices.condition as u64,
+        fixed,
+        rows.mixed.as_slice(),
+        others,
+        any,
+    )?;
     Ok(Rows { any: longer, mixed })
 }
 
@@ -197,6 +240,7 @@ fn longer_rows(
 #[cycle(sets)]
 fn conditions_of(
     alloc: Global,
+    prices: &Prices,
     arena: &Arena,
     limit: usize,
     known: &mut Known,
@@ -205,12 +249,12 @@ fn conditions_of(
 ) -> Result<Found<PlainAtom>, NoMemory>
     requires item { IsConditionItem arena.now set item.now }
     requires some { 1 ≤ limit }
-    requires known { AreKnown arena.now limit known.old }
-    ensures known { OnOk result (AreKnown arena.now limit known.new) }
-    ensures first { IfOk result (λ found. AreFirstParts arena.now item.now limit found.value.items) }
+    requires known { AreKnown prices.now arena.now limit known.old }
+    ensures known { OnOk result (AreKnown prices.now arena.now limit known.new) }
+    ensures first { IfOk result (λ found. AreFirstParts prices.now arena.now item.now limit found.value.items) }
 {
     match item.atoms {
-        Some(s) => parts_of(alloc, arena, limit, known, s),
+        Some(s) => parts_of(alloc, prices, arena, limit, known, s),
         None => Ok(Rc::new(alloc, Vec::new(alloc))?),
     }
 }
@@ -219,6 +263,7 @@ fn conditions_of(
 #[cycle(sets)]
 fn parts_of(
     alloc: Global,
+    prices: &Prices,
     arena: &Arena,
     limit: usize,
     known: &mut Known,
@@ -226,14 +271,14 @@ fn parts_of(
 ) -> Result<Found<PlainAtom>, NoMemory>
     requires set { IsAtomSet arena.now s }
     requires some { 1 ≤ limit }
-    requires known { AreKnown arena.now limit known.old }
-    ensures known { OnOk result (AreKnown arena.now limit known.new) }
-    ensures first { IfOk result (λ found. AreCheapest atom_cost atom_cmp (PartStands arena.now s) limit found.value.items) }
+    requires known { AreKnown prices.now arena.now limit known.old }
+    ensures known { OnOk result (AreKnown prices.now arena.now limit known.new) }
+    ensures first { IfOk result (λ found. AreCheapest (atom_cost prices.now) atom_cmp (PartStands arena.now s) limit found.value.items) }
 {
     if let Some(found) = known.parts(s) {
         return Ok(found.clone()?);
     }
-    let found = Rc::new(alloc, scan_parts(alloc, arena, limit, known, s)?)?;
+    let found = Rc::new(alloc, scan_parts(alloc, prices, arena, limit, known, s)?)?;
     known.keep_parts(s, found.clone()?)?;
     Ok(found)
 }
@@ -241,6 +286,7 @@ fn parts_of(
 #[cycle(sets)]
 pub(crate) fn scan_parts(
     alloc: Global,
+    prices: &Prices,
     arena: &Arena,
     limit: usize,
     known: &mut Known,
@@ -248,15 +294,16 @@ pub(crate) fn scan_parts(
 ) -> Result<Vec<Costed<PlainAtom>>, NoMemory>
     requires set { IsAtomSet arena.now s }
     requires some { 1 ≤ limit }
-    requires known { AreKnown arena.now limit known.old }
-    ensures known { OnOk result (AreKnown arena.now limit known.new) }
-    ensures first { IfOk result (λ kept. AreCheapest atom_cost atom_cmp (PartStands arena.now s) limit kept.items) }
+    requires known { AreKnown prices.now arena.now limit known.old }
+    ensures known { OnOk result (AreKnown prices.now arena.now limit known.new) }
+    ensures first { IfOk result (λ kept. AreCheapest (atom_cost prices.now) atom_cmp (PartStands arena.now s) limit kept.items) }
 {
     arena.keeps_made();
+    prices.keep_small();
     let items = arena.atoms(s);
     let mut kept = Vec::new(alloc);
     for item in items {
-        put_parts(alloc, arena, limit, known, s, item, &mut kept)?;
+        put_parts(alloc, prices, arena, limit, known, s, item, &mut kept)?;
     }
     Ok(kept)
 }
@@ -265,6 +312,7 @@ pub(crate) fn scan_parts(
 #[cycle(sets)]
 fn put_parts(
     alloc: Global,
+    prices: &Prices,
     arena: &Arena,
     limit: usize,
     known: &mut Known,
@@ -276,27 +324,42 @@ fn put_parts(
     requires some { 1 ≤ limit }
     requires rising { Rises (by_cost atom_cmp) kept.old.items }
     requires few { length kept.old.items ≤ limit }
-    requires known { AreKnown arena.now limit known.old }
-    ensures known { OnOk result (AreKnown arena.now limit known.new) }
-    ensures first { OnOk result (TakesIn atom_cost atom_cmp (PartFits arena.now item.now) limit kept.old.items kept.new.items) }
+    requires known { AreKnown prices.now arena.now limit known.old }
+    ensures known { OnOk result (AreKnown prices.now arena.now limit known.new) }
+    ensures first { OnOk result (TakesIn (atom_cost prices.now) atom_cmp (PartFits arena.now item.now) limit kept.old.items kept.new.items) }
 {
     arena.keeps_made();
+    prices.keep_small();
     match item {
         AtomItem::Const(_) => Ok(()),
         AtomItem::Whole(sources) => {
-            let found = sources_of(alloc, arena, limit, known, *sources)?;
+            let found = sources_of(alloc, prices, arena, limit, known, *sources)?;
             let whole = [Costed {
                 cost: 0,
                 item: WholeText,
             }];
-            put_products(alloc, kept, limit, 2, found.as_slice(), &whole)
+            put_products(
+                alloc,
+                kept,
+                limit,
+                prices.whole as u64,
+                found.as_slice(),
+                &whole,
+            )
         }
         AtomItem::Sub(sources, lefts, rights) => {
-            let found = sources_of(alloc, arena, limit, known, *sources)?;
-            let left = places_of(alloc, arena, limit, known, *lefts)?;
-            let right = places_of(alloc, arena, limit, known, *rights)?;
-            let bounds = bounds_of(alloc, limit, left.as_slice(), right.as_slice())?;
-            put_products(alloc, kept, limit, 6, found.as_slice(), bounds.as_slice())
+            let found = sources_of(alloc, prices, arena, limit, known, *sources)?;
+            let left = places_of(alloc, prices, arena, limit, known, *lefts)?;
+            let right = places_of(alloc, prices, arena, limit, known, *rights)?;
+            let bounds = bounds_of(alloc, prices, limit, left.as_slice(), right.as_slice())?;
+            put_products(
+                alloc,
+                kept,
+                limit,
+                prices.piece as u64,
+                found.as_slice(),
+                bounds.as_slice(),
+            )
         }
     }
 }

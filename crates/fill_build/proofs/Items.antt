@@ -4,7 +4,7 @@ use Rattle.std.specs.Char.{IsScalar}
 use Rattle.std.proofs.lemmas.List.Elements.{All-take, All-drop}
 use Rattle.std.proofs.lemmas.Option.{slice_get_within}
 use Rattle.fill_tokens.specs.Value.{HasValue}
-use Rattle.fill_tokens.specs.Profile.{IsPlaceOf}
+use Rattle.fill_tokens.specs.TokenSet.{IsPlaceOf}
 use Rattle.fill_tree.specs.Tree.{SourceTree, AtomTree, constant, whole, sub}
 use Rattle.fill_arena.specs.Contents.{EachIn, Extends, IsPlaceSet}
 use Rattle.fill_arena.specs.Stands.{AtomFits, SourceStands}
@@ -164,8 +164,8 @@ module _ (on : OnRow) (texts : List (List ℕ)) (h : Hit) (width : ℕ) (t : Lis
             λ r.
                 let same = one_text texts h.text r.0 t r.1 at in (
                   (later d o x).1 (subst (λ v. Gives on v x) same r.2),
-                  ps.0 ((lefts.1 p).1 (subst (λ v. IsPlaceOf on.settings.profile p × HasValue p v h.at) same r.3)),
-                  qs.0 ((rights.1 q).1 (subst (λ v. IsPlaceOf on.settings.profile q × HasValue q v (h.at + width)) same r.4)),
+                  ps.0 ((lefts.1 p).1 (subst (λ v. IsPlaceOf on.settings.profile.tokens p × HasValue p v h.at) same r.3)),
+                  qs.0 ((rights.1 q).1 (subst (λ v. IsPlaceOf on.settings.profile.tokens q × HasValue q v (h.at + width)) same r.4)),
                 ),
           )
 

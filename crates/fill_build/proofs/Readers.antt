@@ -5,7 +5,7 @@ use Rattle.std.proofs.lemmas.Bool.{cases_lt}
 use Rattle.std.proofs.lemmas.List.{take-take, take_all, length-take-le}
 use Rattle.std.proofs.lemmas.Option.{slice_get_within}
 use Rattle.fill_tokens.specs.Value.{HasValue}
-use Rattle.fill_tokens.specs.Profile.{IsPlaceOf}
+use Rattle.fill_tokens.specs.TokenSet.{IsPlaceOf}
 use Rattle.fill_tokens.specs.declared.place.Place.{Place}
 use Rattle.fill_tokens.proofs.ValueLaws.{value_within}
 use Rattle.fill_tree.specs.Tree.{SourceTree, AtomTree, constant, whole, sub}
@@ -168,7 +168,7 @@ module _ (on : OnRow) (texts : List (List ℕ)) (p : Piece) (hits : List Hit) wh
 
     -- what the hit at the place reads
     between_at : (x : SourceTree) (l q : Place) (t : List ℕ) (a b n : ℕ) (h : Hit) (k : ℕ) → slice_get hits n ≡ Some h → h.text ≡ k → h.at ≡ a → slice_get texts k ≡ Some t → b ≡ a + p.width
-        → Gives on t x → IsPlaceOf on.settings.profile l → IsPlaceOf on.settings.profile q → HasValue l t a → HasValue q t b → ReadsSome on texts p hits (length hits) (sub x l q)
+        → Gives on t x → IsPlaceOf on.settings.profile.tokens l → IsPlaceOf on.settings.profile.tokens q → HasValue l t a → HasValue q t b → ReadsSome on texts p hits (length hits) (sub x l q)
     between_at x l q t a b n h k at text start there ends given is_l is_q left right_end =
         let stop : b ≡ h.at + p.width = omega arith in (
           n,
@@ -192,7 +192,7 @@ module _ (on : OnRow) (texts : List (List ℕ)) (p : Piece) (hits : List Hit) wh
       text_there : (v : List ℕ) (x : SourceTree) → Gives on v x → (k : ℕ) × (slice_get texts k ≡ Some v)
       text_there v x given = let has = (known v).1 (x, given) in (has.0, here texts has.0 v has.1 (sym has.2))
 
-      between_read : (x : SourceTree) (l q : Place) (t : List ℕ) (a b : ℕ) → Gives on t x → IsPlaceOf on.settings.profile l → IsPlaceOf on.settings.profile q → HasValue l t a → HasValue q t b
+      between_read : (x : SourceTree) (l q : Place) (t : List ℕ) (a b : ℕ) → Gives on t x → IsPlaceOf on.settings.profile.tokens l → IsPlaceOf on.settings.profile.tokens q → HasValue l t a → HasValue q t b
           → a < b → piece_text p ≡ slice_range t a b → ReadsSome on texts p hits (length hits) (sub x l q)
       between_read x l q t a b given is_l is_q left right_end less same =
           let text = text_there t x given in

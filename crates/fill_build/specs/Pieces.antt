@@ -2,7 +2,7 @@
 use Rattle.std.specs.Prelude.{◌≡◌, ◌↔◌, ◌⊎◌, ℕ, ◌+◌, ◌≤◌, true, List, length, take, drop, All, Some, slice_get}
 use Rattle.std.specs.Char.{IsScalar}
 use Rattle.fill_tokens.specs.Value.{HasValue}
-use Rattle.fill_tokens.specs.Profile.{IsPlaceOf}
+use Rattle.fill_tokens.specs.TokenSet.{IsPlaceOf}
 use Rattle.fill_tree.specs.Tree.{AtomTree, constant, whole, sub}
 use Rattle.fill_tree.specs.Grammar.{Allows, IsAtom}
 use Rattle.fill_tree.specs.Value.{AtomIs}
@@ -69,7 +69,7 @@ abbrev pub ReadsBetween : OnRow → List (List ℕ) → Hit → ℕ → AtomTree
 ReadsBetween on texts h width (constant u) = ⊥
 ReadsBetween on texts h width (whole x) = ⊥
 ReadsBetween on texts h width (sub x p q) = (t : List ℕ) × (slice_get texts h.text ≡ Some t) × Gives on t x
-    × (IsPlaceOf on.settings.profile p × HasValue p t h.at) × (IsPlaceOf on.settings.profile q × HasValue q t (h.at + width))
+    × (IsPlaceOf on.settings.profile.tokens p × HasValue p t h.at) × (IsPlaceOf on.settings.profile.tokens q × HasValue q t (h.at + width))
 
 abbrev pub ReadsHit : OnRow → List (List ℕ) → Hit → ℕ → AtomTree → Type 0
 ReadsHit on texts h width a = ReadsWhole on texts h width a ⊎ ReadsBetween on texts h width a

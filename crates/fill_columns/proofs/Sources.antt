@@ -11,7 +11,7 @@ use Rattle.std.proofs.lemmas.Bool.Decides.{nat_tests}
 use Rattle.fill_script.specs.Number.{number_in}
 use Rattle.fill_sheet.specs.Columns.{AreInputs, IsColumn, IsOutput}
 use Rattle.fill_columns.specs.Columns.{column_in, column_of, named, numbered, of_number, within}
-use Rattle.fill_columns.specs.Choice.{Again, ChoiceData, Filled, Refusal, TooMany, choice_in, choice_with, chosen, further, of_word, one_more, others, some_of, sources_in, with_word, with_words}
+use Rattle.fill_columns.specs.Choice.{Again, ChoiceData, Filled, Full, Present, Refusal, TooMany, choice_in, choice_with, chosen, further, new_among, of_word, one_more, others, some_of, sources_in, with_word, with_words}
 use Rattle.fill_columns.specs.declared.error.ColumnError.{ColumnError}
 use Rattle.fill_columns.specs.declared.error.ColumnError.TheVariants as fault
 
@@ -183,3 +183,13 @@ inputs_good to from good = record { some = good.1; few = good.0.few; columns = g
 
 pub output_good : (to : ℕ) (from : List ℕ) → AreSources to from → ¬ (Contains from to)
 output_good to from good there = All-contains (λ a. a ≢ to) from to good.apart there refl
+
+-- a new column has a number
+pub new_is_column : (columns : List ℕ) (width : ℕ) (name : List ℕ) (n : ℕ) → new_among columns width name ≡ Ok n → IsColumn n
+new_is_column [] width name n is =
+    let found = if_not (nat_le 1000 width) Full (Ok (width + 1)) n is in
+    let test : nat_le 1000 width ≡ false = found.0 in
+    let few : width < 1000 = grind (arith, nat_tests) in
+    let same : width + 1 ≡ n = (let made : Ok (width + 1) ≡ Ok n = found.1 in cc) in
+    record { first = omega arith; last = omega arith }
+new_is_column (column ∷ more) width name n is = cc

@@ -1,7 +1,7 @@
 -- Which column is filled, and which ones rules may read.
-use Rattle.std.specs.Prelude.{◌≡◌, ℕ, ◌==◌, not, List, [], ◌∷◌, ◌++◌, length, take, filter, Result, Ok, Err, if◌then◌else◌, nat_le, min}
+use Rattle.std.specs.Prelude.{◌≡◌, ℕ, ◌+◌, ◌==◌, not, List, [], ◌∷◌, ◌++◌, length, take, filter, Result, Ok, Err, if◌then◌else◌, nat_le, min}
 use Rattle.std.specs.List.{list_any, range_with_len}
-use Rattle.fill_columns.specs.Columns.{column_in}
+use Rattle.fill_columns.specs.Columns.{column_in, named}
 use Rattle.fill_columns.specs.declared.choice.Choice.{Choice}
 use Rattle.fill_columns.specs.declared.error.ColumnError.{ColumnError}
 use Rattle.fill_columns.specs.declared.error.ColumnError.TheVariants as column
@@ -17,13 +17,15 @@ pub record ChoiceData : Type 0 where
 abbrev pub choice_data : Choice → ChoiceData
 choice_data c = record { to = c.to; from = c.from.items }
 
--- why words choose no columns: a word names none or several, or one that is filled or named before; or there are too many
--- columns to read, or none
+-- why words choose no columns: a word names none or several, or one that is filled or named before; a new column is there
+-- already, or a thousand others are; or there are too many columns to read, or none
 pub data Refusal : Type 0 where
   Missing : List ℕ → Refusal
   Ambiguous : List ℕ → Refusal
   Filled : List ℕ → Refusal
   Again : List ℕ → Refusal
+  Present : List ℕ → Refusal
+  Full : Refusal
   TooMany : Refusal
   Nothing : Refusal
 
@@ -33,6 +35,8 @@ Refuses r (choice.Missing word) = r ≡ Err (Missing word.now)
 Refuses r (choice.Ambiguous word) = r ≡ Err (Ambiguous word.now)
 Refuses r (choice.Filled word) = r ≡ Err (Filled word.now)
 Refuses r (choice.Again word) = r ≡ Err (Again word.now)
+Refuses r (choice.Present word) = r ≡ Err (Present word.now)
+Refuses r choice.Full = r ≡ Err Full
 Refuses r choice.TooMany = r ≡ Err TooMany
 Refuses r choice.Nothing = r ≡ Err Nothing
 Refuses r choice.NoMemory = Unit {0}
@@ -52,6 +56,15 @@ of_word word (Err column.NoMemory) = Err (Missing word)
 -- the column that a word chooses
 abbrev pub chosen : List (List ℕ) → ℕ → List ℕ → Result ℕ Refusal
 chosen names width word = of_word word (column_in names width word)
+
+-- the number of a new column after so many, where these columns have its name
+abbrev pub new_among : List ℕ → ℕ → List ℕ → Result ℕ Refusal
+new_among [] width name = if nat_le 1000 width then Err Full else Ok (width + 1)
+new_among (column ∷ more) width name = Err (Present name)
+
+-- the new column of a name, after all others
+abbrev pub new_column : List (List ℕ) → ℕ → List ℕ → Result ℕ Refusal
+new_column names width name = new_among (named name 1 names) width name
 
 -- one more column to read, which a word names: another one than that which is filled, named once, and the eighth at most
 abbrev pub one_more : ℕ → List ℕ → List ℕ → ℕ → Result (List ℕ) Refusal
@@ -89,3 +102,7 @@ choice_with names width from to = further (λ sources. Ok (record { to = to; fro
 -- the columns that words choose in a sheet with these names and so many columns: the one to fill, and those to read
 abbrev pub choice_in : List (List ℕ) → ℕ → List ℕ → List (List ℕ) → Result ChoiceData Refusal
 choice_in names width to from = further (choice_with names width from) (chosen names width to)
+
+-- the same where a new column of this name is filled
+abbrev pub choice_after : List (List ℕ) → ℕ → List ℕ → List (List ℕ) → Result ChoiceData Refusal
+choice_after names width name from = further (choice_with names width from) (new_column names width name)

@@ -3,9 +3,9 @@ ghost use Rattle.std.specs.Prelude.{◌≡◌, ◌≢◌, ◌≤◌, [], ◌==�
 ghost use Rattle.std.specs.List.{list_any};
 ghost use Rattle.fill_sheet.specs.Columns.{AreInputs, IsOutput};
 ghost use Rattle.fill_columns.specs.Columns.{names_of};
-ghost use Rattle.fill_columns.specs.Choice.{Refuses, choice_data, choice_in, choice_with, chosen, one_more, others, sources_in, with_word, with_words};
+ghost use Rattle.fill_columns.specs.Choice.{Refuses, choice_after, choice_data, choice_in, choice_with, chosen, new_among, new_column, one_more, others, sources_in, with_word, with_words};
 
-use crate::column::column_of;
+use crate::column::{column_of, named};
 use crate::{ChoiceError, ColumnError};
 use fill_records::Record;
 use fill_text::NoMemory;
@@ -43,6 +43,57 @@ pub fn choose<'a>(
     let to = chosen(alloc, header, width, to)?;
     let from = sources(alloc, header, width, to, from)?;
     Ok(Choice { to, from })
+}
+
+/// The same where a new column is filled, which no column has the name of. It comes after all others.
+pub fn choose_new<'a>(
+    alloc: Global,
+    header: Option<&Record>,
+    width: usize,
+    name: &'a str,
+    from: &'a [String],
+) -> Result<Choice, ChoiceError<'a>>
+    ensures ok { IfOk result (λ c. choice_after (names_of (option_copied header.entry)) width name.now (map string_bytes from.now) ≡ Ok (choice_data c)) }
+    ensures err { IfErr result (Refuses (choice_after (names_of (option_copied header.entry)) width name.now (map string_bytes from.now))) }
+    ensures inputs { IfOk result (λ c. AreInputs c.from.items) }
+    ensures output { IfOk result (λ c. IsOutput c.from.items (Some c.to)) }
+{
+    let to = new_column(alloc, header, width, name)?;
+    let from = sources(alloc, header, width, to, from)?;
+    Ok(Choice { to, from })
+}
+
+/// The new column of a name.
+fn new_column<'a>(
+    alloc: Global,
+    header: Option<&Record>,
+    width: usize,
+    name: &'a str,
+) -> Result<u32, ChoiceError<'a>>
+    ensures ok { IfOk result (λ n. new_column (names_of (option_copied header.entry)) width name.now ≡ Ok n) }
+    ensures err { IfErr result (Refuses (new_column (names_of (option_copied header.entry)) width name.now)) }
+{
+    let Some(names) = header else {
+        return new_among(&[], width, name);
+    };
+    match named(alloc, names, name.as_bytes()) {
+        Ok(columns) => new_among(columns.as_slice(), width, name),
+        Err(NoMemory) => Err(ChoiceError::NoMemory),
+    }
+}
+
+/// The new column of a name that these columns have.
+fn new_among<'a>(columns: &[usize], width: usize, name: &'a str) -> Result<u32, ChoiceError<'a>>
+    ensures ok { IfOk result (λ n. new_among columns.now width name.now ≡ Ok n) }
+    ensures err { IfErr result (Refuses (new_among columns.now width name.now)) }
+{
+    if !columns.is_empty() {
+        return Err(ChoiceError::Present(name));
+    }
+    if width >= 1_000 {
+        return Err(ChoiceError::Full);
+    }
+    Ok(width as u32 + 1)
 }
 
 /// The column that a word chooses.

@@ -52,7 +52,7 @@ fn column_among(columns: &[usize], width: usize, word: &[u8]) -> Result<u32, Col
 }
 
 /// The columns of this name.
-fn named(alloc: Global, names: &Record, word: &[u8]) -> Result<Vec<usize>, NoMemory>
+pub(crate) fn named(alloc: Global, names: &Record, word: &[u8]) -> Result<Vec<usize>, NoMemory>
     ensures { IfOk result (λ columns. columns.items ≡ named word.now 1 names.now) }
 {
     let mut columns = Vec::new(alloc);

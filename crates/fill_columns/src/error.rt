@@ -22,6 +22,10 @@ pub enum ChoiceError<'a> {
     Filled(&'a str),
     /// The column is named before.
     Again(&'a str),
+    /// A new column is to have the name of one that is there.
+    Present(&'a str),
+    /// After a thousand columns there is no number for a new one.
+    Full,
     /// More columns are to be read than a rule may read.
     TooMany,
     /// There is no column to read.

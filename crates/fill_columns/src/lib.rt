@@ -7,7 +7,7 @@ mod error;
 mod field;
 mod widths;
 
-pub use choice::{Choice, choose};
+pub use choice::{Choice, choose, choose_new};
 pub use column::column_of;
 pub use error::{ChoiceError, ColumnError};
 pub use field::{fields_of, with_field};

@@ -104,7 +104,7 @@ module _ (asked : AskedData) (files : Files) (before now : Counts) (old new : Op
   stopped_ends (stop.Refused line) stops keeps said (inl five) = refused_ends five keeps (string_bytes line) stops (said (λ e. absurd (omega arith))).1
   stopped_ends stop.NoMemory stops keeps said (inl six) = memory_ends six (inl keeps)
 
-  -- all was written, and each given cell is an example
+  -- all was written, and nothing is left to do
   pub done_ends : r ≡ 0 → WritesFilled false asked files old new → Ending
   done_ends is wrote = record {
     done = λ e. wrote;
@@ -115,12 +115,12 @@ module _ (asked : AskedData) (files : Files) (before now : Counts) (old new : Op
     refused = λ e. absurd (omega arith);
     memory = λ e. absurd (omega arith);
     quiet = λ e. elim e [ inl three ↦ absurd (omega arith) | inr five ↦ absurd (omega arith) ];
-    always_unread = passed_no_unread asked files r wrote.0 wrote.3;
-    always_refused = passed_no_refused asked files r wrote.0 wrote.3;
+    always_unread = passed_no_unread asked files r wrote.0 wrote.4;
+    always_refused = passed_no_refused asked files r wrote.0 wrote.4;
     always_ready = told_all files (AlwaysReady asked files r) (λ held h. inl (omega arith));
   }
 
-  -- all was written, and some given cell is none
+  -- all was written, and something is left to do
   pub refusing_ends : r ≡ 1 → WritesFilled true asked files old new → Ending
   refusing_ends is wrote = record {
     done = λ e. absurd (omega arith);
@@ -131,8 +131,8 @@ module _ (asked : AskedData) (files : Files) (before now : Counts) (old new : Op
     refused = λ e. absurd (omega arith);
     memory = λ e. absurd (omega arith);
     quiet = λ e. elim e [ inl three ↦ absurd (omega arith) | inr five ↦ absurd (omega arith) ];
-    always_unread = passed_no_unread asked files r wrote.0 wrote.3;
-    always_refused = passed_no_refused asked files r wrote.0 wrote.3;
+    always_unread = passed_no_unread asked files r wrote.0 wrote.4;
+    always_refused = passed_no_refused asked files r wrote.0 wrote.4;
     always_ready = told_all files (AlwaysReady asked files r) (λ held h. inl (omega arith));
   }
 

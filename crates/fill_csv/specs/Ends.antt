@@ -1,5 +1,6 @@
 -- What a run of `fillcsv` leaves on its output, what it says, and its status.
-use Rattle.std.specs.Prelude.{◌≡◌, ◌≢◌, ◌⊎◌, ℕ, ◌+◌, ◌≤◌, List, [], ◌∷◌, ◌++◌, length, Bool, true, false, Option, None, Some}
+use Rattle.std.specs.Prelude.{◌≡◌, ◌≢◌, ◌⊎◌, ℕ, ◌+◌, ◌≤◌, List, [], ◌∷◌, ◌++◌, ◌||◌, ◌&&◌, length, max, Bool, true, false, Option, None, Some}
+use Rattle.std.specs.List.{list_any}
 use Rattle.std.specs.Io.KnownBytes.{Keeps}
 use Rattle.fill_edge.specs.Outside.{Files, counted}
 use Rattle.fill_sheet.specs.Sheet.{row_records}
@@ -9,26 +10,28 @@ use Rattle.fill_open.specs.Opened.{Told, Opened, IsPassed, Unread, Refused, Pass
 use Rattle.fill_open.specs.Stops.{Counts, IsUnread, ReadFails}
 use Rattle.fill_report.specs.Output.{report_text}
 use Rattle.fill_report.specs.Records.{Fields}
+use Rattle.fill_report.specs.declared.rows.RowState.{RowState}
 use Rattle.fill_columns.specs.Columns.{width}
-use Rattle.fill_filled.specs.Filled.{WritesPart, WritesRows, head_fields}
-use Rattle.fill_filled.specs.Learned.{AreLearned}
+use Rattle.fill_filled.specs.Filled.{AreCellStates, WritesPart, WritesRows, head_fields, is_unsure}
+use Rattle.fill_filled.specs.Learned.{AreLearned, counts}
 use Rattle.fill_filled.specs.declared.form.Form.{Form}
-use Rattle.fill_filled.specs.declared.learning.Refused.{Refused as RefusedCell}
-use Rattle.fill_words.specs.Words.{AskedData}
+use Rattle.fill_filled.specs.declared.learning.Refused.{Refused as RefusedText}
+use Rattle.fill_words.specs.Words.{AskedData, New, TargetData, There}
 use Rattle.fill_csv.specs.Lines.{unread_line}
 use Rattle.fill_csv.specs.Ground.{ground_of}
 use Rattle.fill_csv.specs.Opening.{SheetRead, header_of, mark_of, records_in, sheet_opens}
 
--- the column of states, where one is asked for: after the last column of all records (at most 2^64 - 1, which no file reaches)
-abbrev pub states_of : Bool → List Fields → Option ℕ
-states_of false records = None
-states_of true records = Some (counted (width records) 1)
+-- the column of states, where one is asked for: after the last column of all records and the one that is filled (at most
+-- 2^64 - 1, which no file reaches)
+abbrev pub states_of : Bool → ℕ → List Fields → Option ℕ
+states_of false column records = None
+states_of true column records = Some (counted (max (width records) column) 1)
 
 -- how answers are written
 abbrev pub form_of : AskedData → SheetRead → Form
 form_of asked read = record {
   column = read.choice.to;
-  states = states_of asked.states (records_in read.bytes);
+  states = states_of asked.states read.choice.to (records_in read.bytes);
   only_sure = asked.only_sure;
 }
 
@@ -37,14 +40,19 @@ abbrev pub some_record : Fields → List Fields
 some_record [] = []
 some_record (field ∷ more) = (field ∷ more) ∷ []
 
--- the header with a name for the column of states, where there is a header
-abbrev pub heads_of : Form → Option Fields → List Fields
-heads_of form None = []
-heads_of form (Some header) = some_record (head_fields form header)
+-- the name of a new column
+abbrev pub name_of : TargetData → Option (List ℕ)
+name_of (There column) = None
+name_of (New name) = Some name
+
+-- the header with the names of the columns that are added, where there is a header
+abbrev pub heads_of : Form → Option (List ℕ) → Option Fields → List Fields
+heads_of form name None = []
+heads_of form name (Some header) = some_record (head_fields form name header)
 
 -- what stands before the records of rows: the byte order mark of the file, and the header
 abbrev pub head_of : AskedData → SheetRead → List ℕ
-head_of asked read = mark_of read.bytes ++ report_text (heads_of (form_of asked read) (header_of asked.header (records_in read.bytes)))
+head_of asked read = mark_of read.bytes ++ report_text (heads_of (form_of asked read) (name_of asked.to) (header_of asked.header (records_in read.bytes)))
 
 -- the records of rows
 abbrev pub rows_of : AskedData → SheetRead → List Fields
@@ -54,32 +62,34 @@ rows_of asked read = row_records asked.header (records_of read.bytes)
 abbrev pub Opens : AskedData → Files → SheetRead → Type 0
 Opens asked files read = Told files (λ held. (sheet_opens asked held).outcome ≡ Passed read)
 
--- the flag tells whether a given cell is refused
-abbrev pub AreRefused : Bool → List RefusedCell → Type 0
-AreRefused false refused = refused ≡ []
-AreRefused true refused = refused ≢ []
+-- whether a sheet that was written leaves something to do: a given text is refused, not counting those after the
+-- sixty-fourth example, or a cell is neither given nor sure where all are to be
+abbrev pub is_wanting : Bool → List RefusedText → List RowState → Bool
+is_wanting strict refused states = list_any counts refused || (strict && list_any is_unsure states)
 
--- the words opened a sheet, and all of it was written with its column filled; the flag tells whether a given cell was refused
+-- the words opened a sheet, and all of it was written with its column filled; the flag tells whether something is left to do
 abbrev pub WritesFilled : Bool → AskedData → Files → Option (List ℕ) → Option (List ℕ) → Type 0
-WritesFilled flag asked files old new = (read : SheetRead) × (examples : List Example) × (refused : List RefusedCell)
-    × Opens asked files read × AreLearned (ground_of asked read.sheet) examples refused × AreRefused flag refused
-    × WritesRows (form_of asked read) (ground_of asked read.sheet) examples (rows_of asked read) (head_of asked read) (length (rows_of asked read)) old new
+WritesFilled flag asked files old new = (read : SheetRead) × (examples : List Example) × (refused : List RefusedText) × (states : List RowState)
+    × Opens asked files read × AreLearned read.typed (ground_of asked read.sheet) examples refused
+    × AreCellStates read.typed (ground_of asked read.sheet) examples (length (rows_of asked read)) states
+    × (flag ≡ is_wanting asked.strict refused states)
+    × WritesRows (form_of asked read) read.typed (ground_of asked read.sheet) examples (rows_of asked read) (head_of asked read) (length (rows_of asked read)) old new
 
 -- the words opened a sheet, and a part of what is to be written was written: a proper prefix of the head and the first rows
 abbrev pub WritesFilledPart : AskedData → Files → Option (List ℕ) → Option (List ℕ) → Type 0
-WritesFilledPart asked files old new = (read : SheetRead) × (examples : List Example) × (refused : List RefusedCell) × (n : ℕ)
-    × Opens asked files read × AreLearned (ground_of asked read.sheet) examples refused × (n ≤ length (rows_of asked read))
-    × WritesPart (form_of asked read) (ground_of asked read.sheet) examples (rows_of asked read) (head_of asked read) n old new
+WritesFilledPart asked files old new = (read : SheetRead) × (examples : List Example) × (refused : List RefusedText) × (n : ℕ)
+    × Opens asked files read × AreLearned read.typed (ground_of asked read.sheet) examples refused × (n ≤ length (rows_of asked read))
+    × WritesPart (form_of asked read) read.typed (ground_of asked read.sheet) examples (rows_of asked read) (head_of asked read) n old new
 
 -- the words opened a sheet, and the head and the first rows were written whole
 abbrev pub WritesFilledRows : AskedData → Files → Option (List ℕ) → Option (List ℕ) → Type 0
-WritesFilledRows asked files old new = (read : SheetRead) × (examples : List Example) × (refused : List RefusedCell) × (n : ℕ)
-    × Opens asked files read × AreLearned (ground_of asked read.sheet) examples refused × (n ≤ length (rows_of asked read))
-    × WritesRows (form_of asked read) (ground_of asked read.sheet) examples (rows_of asked read) (head_of asked read) n old new
+WritesFilledRows asked files old new = (read : SheetRead) × (examples : List Example) × (refused : List RefusedText) × (n : ℕ)
+    × Opens asked files read × AreLearned read.typed (ground_of asked read.sheet) examples refused × (n ≤ length (rows_of asked read))
+    × WritesRows (form_of asked read) read.typed (ground_of asked read.sheet) examples (rows_of asked read) (head_of asked read) n old new
 
 -- how the filling of a sheet ends, by its status: what its output got, what it said, and why
 pub record EndsFilled (asked : AskedData) (files : Files) (status : ℕ) (before now : Counts) (old new : Option (List ℕ)) (Said : List ℕ → Type 0) : Type 0 where
-  -- 0 and 1 only where every step of the opening passed, and the whole sheet was written; 1 where a given cell is refused
+  -- 0 and 1 only where every step of the opening passed, and the whole sheet was written; 1 where something is left to do
   pub done : status ≡ 0 → WritesFilled false asked files old new
   pub refusing : status ≡ 1 → WritesFilled true asked files old new
   -- 2 is for wrong words alone

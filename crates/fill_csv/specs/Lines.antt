@@ -5,7 +5,7 @@ use Rattle.fill_sheet.specs.declared.error.SheetError.{SheetError}
 use Rattle.fill_sheet.specs.declared.error.SheetError.TheVariants as sheet
 use Rattle.fill_columns.specs.declared.error.ChoiceError.{ChoiceError}
 use Rattle.fill_columns.specs.declared.error.ChoiceError.TheVariants as choice
-use Rattle.fill_columns.specs.Choice.{Refusal, Missing, Ambiguous, Filled, Again, TooMany, Nothing}
+use Rattle.fill_columns.specs.Choice.{Refusal, Missing, Ambiguous, Filled, Again, Present, Full, TooMany, Nothing}
 
 -- the line of a file's name and of a text, which has the line's end
 abbrev pub line_of : List ℕ → List ℕ → List ℕ
@@ -30,12 +30,18 @@ sheet_line name (sheet.NotUtf8 number column) =
     line_of name (codes "record " ++ (decimal number ++ (codes ", column " ++ (decimal column ++ codes ": not UTF-8\n"))))
 sheet_line name sheet.NoMemory = memory_line
 
+-- the line of an example for a row that is not there
+abbrev pub row_line : List ℕ → ℕ → List ℕ
+row_line name row = line_of name (codes "row " ++ (decimal row ++ codes ": no such row, and --example names it\n"))
+
 -- the line of words that choose no columns
 abbrev pub choice_line : List ℕ → Refusal → List ℕ
 choice_line name (Missing word) = line_of name (codes "no column \"" ++ (word ++ codes "\"\n"))
 choice_line name (Ambiguous word) = line_of name (codes "more than one column \"" ++ (word ++ codes "\"\n"))
 choice_line name (Filled word) = line_of name (codes "column \"" ++ (word ++ codes "\" is filled, and cannot be read too\n"))
 choice_line name (Again word) = line_of name (codes "column \"" ++ (word ++ codes "\" is named twice\n"))
+choice_line name (Present word) = line_of name (codes "column \"" ++ (word ++ codes "\" is there already\n"))
+choice_line name Full = line_of name (codes "1000 columns are there, and no more can be named\n")
 choice_line name TooMany = line_of name (codes "more than 8 columns to read\n")
 choice_line name Nothing = line_of name (codes "no column to read\n")
 
@@ -45,6 +51,8 @@ IsChoiceLine name (choice.Missing word) line = line ≡ choice_line name (Missin
 IsChoiceLine name (choice.Ambiguous word) line = line ≡ choice_line name (Ambiguous word.now)
 IsChoiceLine name (choice.Filled word) line = line ≡ choice_line name (Filled word.now)
 IsChoiceLine name (choice.Again word) line = line ≡ choice_line name (Again word.now)
+IsChoiceLine name (choice.Present word) line = line ≡ choice_line name (Present word.now)
+IsChoiceLine name choice.Full line = line ≡ choice_line name Full
 IsChoiceLine name choice.TooMany line = line ≡ choice_line name TooMany
 IsChoiceLine name choice.Nothing line = line ≡ choice_line name Nothing
 IsChoiceLine name choice.NoMemory line = ⊥

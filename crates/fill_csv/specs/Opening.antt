@@ -1,15 +1,16 @@
 -- From the file of a sheet to what is learned from: the steps, and what each one may stop at.
-use Rattle.std.specs.Prelude.{ℕ, List, [], ◌∷◌, length, min, take, Bool, true, false, if◌then◌else◌, nat_lt, Option, None, Some, Result, Ok, Err}
-use Rattle.std.specs.Str.{bytes_eq}
+use Rattle.std.specs.Prelude.{ℕ, ◌+◌, ◌-◌, ◌&&◌, List, [], ◌∷◌, length, map, nat_le, min, take, Bool, true, false, if◌then◌else◌, nat_lt, Option, None, Some, Result, Ok, Err}
+use Rattle.std.specs.Str.{bytes_eq, chars}
 use Rattle.fill_text.specs.Data.{SheetData}
 use Rattle.fill_records.specs.Records.{records_of}
-use Rattle.fill_sheet.specs.Sheet.{read_sheet}
+use Rattle.fill_sheet.specs.Sheet.{headers, read_sheet}
 use Rattle.fill_sheet.specs.declared.error.SheetError.{SheetError}
-use Rattle.fill_open.specs.Opened.{Held, Opened, Opening, Unread, Refused, Passed, at_once, and_then}
+use Rattle.fill_open.specs.Opened.{Held, Opened, Opening, NotACommand, Unread, Refused, Passed, at_once, and_then}
 use Rattle.fill_columns.specs.Columns.{names_of, width}
-use Rattle.fill_columns.specs.Choice.{ChoiceData, Refusal, choice_in}
-use Rattle.fill_words.specs.Words.{AskedData}
-use Rattle.fill_csv.specs.Lines.{choice_line, long_line, sheet_line}
+use Rattle.fill_columns.specs.Choice.{ChoiceData, Refusal, choice_after, choice_in}
+use Rattle.fill_tree.specs.declared.user.Example.{Example}
+use Rattle.fill_words.specs.Words.{AskedData, New, TargetData, There, TypedData}
+use Rattle.fill_csv.specs.Lines.{choice_line, long_line, row_line, sheet_line}
 
 -- the bytes of a file that is there and not too long
 abbrev pub bytes_of : List ℕ → Option (List ℕ) → Opened (List ℕ)
@@ -20,11 +21,13 @@ bytes_of name (Some bytes) = if nat_lt 16777216 (length bytes) then Refused (lon
 abbrev pub file_opens : Held → List ℕ → Opening (List ℕ)
 file_opens held name = record { reads = name ∷ []; outcome = bytes_of name (held name) }
 
--- a sheet that was read: its bytes, the columns that were chosen in it, and its rows in these columns
+-- a sheet that was read: its bytes, the columns that were chosen in it, its rows in these columns, and the texts that are
+-- typed for rows
 pub record SheetRead : Type 0 where
   pub bytes : List ℕ
   pub choice : ChoiceData
   pub sheet : SheetData
+  pub typed : List Example
 
 -- the records that are read: a sheet has 20,000 at most
 abbrev pub records_in : List ℕ → List (List (List ℕ))
@@ -36,17 +39,58 @@ header_of false records = None
 header_of true [] = None
 header_of true (header ∷ rows) = Some header
 
+-- the columns that words choose where this one is filled
+abbrev pub choice_for : TargetData → List (List ℕ) → ℕ → List (List ℕ) → Result ChoiceData Refusal
+choice_for (There column) names width from = choice_in names width column from
+choice_for (New name) names width from = choice_after names width name from
+
 -- the columns that words choose among those of the records
 abbrev pub choice_of : AskedData → List (List (List ℕ)) → Result ChoiceData Refusal
-choice_of asked records = choice_in (names_of (header_of asked.header records)) (width records) asked.to asked.from
+choice_of asked records = choice_for asked.to (names_of (header_of asked.header records)) (width records) asked.from
 
--- the rows in the chosen columns, or why there are none
+-- ---- examples that are typed
+
+-- a row as a spreadsheet shows it, where so many records stand above the rows, is one of so many
+abbrev pub is_there : ℕ → ℕ → ℕ → Bool
+is_there above rows row = nat_lt above row && nat_le row (above + rows)
+
+-- the row of the first example whose row is not there
+abbrev pub missing_row : ℕ → ℕ → List TypedData → Option ℕ
+missing_row above rows [] = None
+missing_row above rows (e ∷ more) = if is_there above rows e.row then missing_row above rows more else Some e.row
+
+-- an example by the number of its row among the rows, and the characters of its text
+abbrev pub example_of : ℕ → TypedData → Example
+example_of above e = record { row = e.row - above; text = chars e.text }
+
+abbrev pub with_missing : AskedData → Option ℕ → Opened (List Example)
+with_missing asked None = Passed (map (example_of (headers asked.header)) asked.examples)
+with_missing asked (Some row) = Refused (row_line asked.file row)
+
+-- the texts that the words give for rows of a sheet of so many, where each row is there
+abbrev pub examples_in : AskedData → ℕ → Opened (List Example)
+examples_in asked rows = with_missing asked (missing_row (headers asked.header) rows asked.examples)
+
+-- ---- the sheet
+
+-- the column whose cells are examples: that which is filled, if its cells are not to be replaced
+abbrev pub output_of : Bool → ℕ → Option ℕ
+output_of false column = Some column
+output_of true column = None
+
+abbrev pub with_examples : List ℕ → ChoiceData → SheetData → Opened (List Example) → Opened SheetRead
+with_examples bytes choice sheet NotACommand = NotACommand
+with_examples bytes choice sheet (Unread name) = Unread name
+with_examples bytes choice sheet (Refused line) = Refused line
+with_examples bytes choice sheet (Passed typed) = Passed (record { bytes = bytes; choice = choice; sheet = sheet; typed = typed })
+
+-- the rows in the chosen columns with the texts for them, or why there are none
 abbrev pub with_rows : AskedData → List ℕ → ChoiceData → Result SheetData SheetError → Opened SheetRead
-with_rows asked bytes choice (Ok sheet) = Passed (record { bytes = bytes; choice = choice; sheet = sheet })
+with_rows asked bytes choice (Ok sheet) = with_examples bytes choice sheet (examples_in asked (length sheet.rows))
 with_rows asked bytes choice (Err e) = Refused (sheet_line asked.file e)
 
 abbrev pub rows_in : AskedData → List ℕ → ChoiceData → Opened SheetRead
-rows_in asked bytes choice = with_rows asked bytes choice (read_sheet asked.header choice.from (Some choice.to) bytes)
+rows_in asked bytes choice = with_rows asked bytes choice (read_sheet asked.header choice.from (output_of asked.replace choice.to) bytes)
 
 abbrev pub with_choice : AskedData → List ℕ → Result ChoiceData Refusal → Opened SheetRead
 with_choice asked bytes (Ok choice) = rows_in asked bytes choice

@@ -1,5 +1,5 @@
 //! The run of `fillcsv`, over any cabinet of files and any sinks.
-ghost use Rattle.std.specs.Prelude.{◌≡◌, ◌⊎◌, ◌≤◌, map, string_bytes};
+ghost use Rattle.std.specs.Prelude.{◌≡◌, ◌⊎◌, ◌≤◌, map, string_bytes, true};
 ghost use Rattle.fill_edge.specs.Outside.{Rose};
 ghost use Rattle.fill_words.specs.Words.{AskedData, Asks, Shows, Wrong, asked_in};
 ghost use Rattle.fill_csv.specs.Ends.{EndsFilled};
@@ -14,18 +14,18 @@ use std::alloc::Global;
 
 /// Runs `fillcsv` with these words, those after the program's name, and answers the status.
 ///
-/// The words name a sheet and the column that is to be filled. Its filled cells are the examples, where they can be; each
-/// other cell of it is filled by the rule that is learned from them, and the sheet is written to `out`, record by record. Lines on
-/// `err` say what was filled, or why there is no sheet.
+/// The words name a sheet and the column that is to be filled. What they give for rows and its filled cells are the
+/// examples, where they can be; each other cell of it is filled by the rule that is learned from them, and the sheet is
+/// written to `out`, record by record. Lines on `err` say what was filled, or why there is no sheet.
 ///
 /// | status | meaning |
 /// |---|---|
 /// | 0 | the whole sheet was written, or help was asked for |
-/// | 1 | the whole sheet was written, and some cell that it gives is no example |
+/// | 1 | the whole sheet was written, and some given text is no example, or with `--strict` some cell is neither given nor sure |
 /// | 2 | the words are wrong |
 /// | 3 | the file is not there or could not be read |
 /// | 4 | the output could not be written |
-/// | 5 | the file is refused, or has no such columns |
+/// | 5 | the file is refused, or has no such columns or rows |
 /// | 6 | want of memory |
 pub fn run<C: Cabinet, O: Sink, E: Sink, L: Ledger>(
     alloc: Global,
@@ -45,6 +45,9 @@ pub fn run<C: Cabinet, O: Sink, E: Sink, L: Ledger>(
 
     // Where they ask for help, nothing is read.
     ensures shown { asked_in (map string_bytes words.now) ≡ Shows → ((result ≡ 0) ⊎ (result ≡ 4) ⊎ (result ≡ 6)) × (cabinet.new ≡ cabinet.old) }
+
+    // Where they ask for quiet, nothing is said of a sheet that was written.
+    ensures silent { (asked : AskedData) → asked_in (map string_bytes words.now) ≡ Asks asked → asked.quiet ≡ true → result ≤ 1 → err.new ≡ err.old }
 
     ensures fault { result ≡ 4 → Rose (O.faults out.old) (O.faults out.new) }
     ensures fault_said { result ≡ 4 → Says (E.written err.old) (E.written err.new) (E.faults err.old) (E.faults err.new) output_line }

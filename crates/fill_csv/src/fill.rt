@@ -1,15 +1,18 @@
 //! Filling a sheet.
-ghost use Rattle.std.specs.Prelude.{◌≡◌, ◌⊎◌, ◌≤◌, ℕ, List as Listed, [], IfOk, IfSome, IsErrOf, drop, length};
+ghost use Rattle.std.specs.Prelude.{◌≡◌, ◌⊎◌, ◌≤◌, ℕ, List as Listed, [], IfOk, IfSome, IsErrOf, drop, length, true};
+ghost use Rattle.std.specs.List.{list_any};
 ghost use Rattle.std.specs.Io.KnownBytes.{Keeps};
 ghost use Rattle.fill_edge.specs.Outside.{Rose};
 ghost use Rattle.fill_sheet.specs.Sheet.{headers};
+ghost use Rattle.fill_tree.specs.Grammar.{AreSettings};
 ghost use Rattle.fill_tree.specs.declared.user.Example.{Example};
-ghost use Rattle.fill_filled.specs.Filled.{WritesPart, WritesRows};
+ghost use Rattle.fill_report.specs.declared.rows.RowState.{RowState};
+ghost use Rattle.fill_filled.specs.Filled.{AreCellStates, WritesPart, WritesRows, is_unsure};
 ghost use Rattle.fill_filled.specs.Learned.{AreLearned};
 ghost use Rattle.fill_words.specs.Words.{data_of};
 ghost use Rattle.fill_csv.specs.Ends.{EndsFilled, form_of, head_of, rows_of};
 ghost use Rattle.fill_csv.specs.Lines.{memory_line, output_line};
-ghost use Rattle.fill_csv.specs.Ground.{ground_of, settings_of};
+ghost use Rattle.fill_csv.specs.Ground.{ground_of, profile_of, settings_of};
 ghost use Rattle.fill_csv.specs.Said.{Says};
 ghost use Rattle.fill_csv.specs.Read.{AreParts, read_data};
 
@@ -24,7 +27,7 @@ use fill_report::Halt;
 use fill_session::Session;
 use fill_tables::Tables;
 use fill_text::{List, NoMemory};
-use fill_tree::{Constants, Settings};
+use fill_tree::{Constants, Example, Profile, Settings};
 use fill_words::Asked;
 use std::alloc::Global;
 
@@ -42,6 +45,7 @@ pub(crate) fn fill<C: Cabinet, O: Sink, E: Sink, L: Ledger>(
     ensures fault { result ≡ 4 → Rose (O.faults out.old) (O.faults out.new) }
     ensures fault_said { result ≡ 4 → Says (E.written err.old) (E.written err.new) (E.faults err.old) (E.faults err.new) output_line }
     ensures memory_said { result ≡ 6 → Says (E.written err.old) (E.written err.new) (E.faults err.old) (E.faults err.new) memory_line }
+    ensures silent { asked.now.quiet ≡ true → result ≤ 1 → err.new ≡ err.old }
     ensures statuses { result ≤ 6 }
     ensures files { C.files cabinet.new ≡ C.files cabinet.old }
 {
@@ -51,8 +55,8 @@ pub(crate) fn fill<C: Cabinet, O: Sink, E: Sink, L: Ledger>(
     };
     match write(alloc, asked, read, out, steps) {
         Ok(told) => {
-            told.say(alloc, asked.header, err);
-            if told.is_refusing() { 1 } else { 0 }
+            tell_of(alloc, asked, &told, err);
+            if told.is_wanting(asked.strict) { 1 } else { 0 }
         }
         Err(Halt::Fault) => {
             say(err, OUTPUT_LINE);
@@ -65,14 +69,38 @@ pub(crate) fn fill<C: Cabinet, O: Sink, E: Sink, L: Ledger>(
     }
 }
 
-/// The settings of a profile.
+/// Tells of a sheet that was written, if the words do not ask for quiet.
+fn tell_of<E: Sink>(alloc: Global, asked: &Asked, told: &Told, err: &mut E)
+    ensures { asked.now.quiet ≡ true → err.new ≡ err.old }
+{
+    if asked.quiet {
+        return;
+    }
+    told.say(alloc, asked.header, err);
+}
+
+/// The settings that words ask for, by the number of the profile.
 fn settings_of(profile: u8) -> Settings
-    ensures { result ≡ settings_of profile }
+    ensures value { result ≡ settings_of profile }
+    ensures bounded { AreSettings result }
 {
     Settings {
         depth: 1,
         constants: Constants::Any,
-        profile: if profile == 2 { 2 } else { 1 },
+        profile: profile_of(profile),
+    }
+}
+
+/// The profile of a number.
+fn profile_of(number: u8) -> Profile
+    ensures value { result ≡ profile_of number }
+    ensures deep { 1 ≤ result.depth }
+    ensures bounded { result.depth ≤ 3 }
+{
+    match number {
+        1 => Profile::FIRST,
+        2 => Profile::SECOND,
+        _ => Profile::THIRD,
     }
 }
 
@@ -85,20 +113,29 @@ fn write<O: Sink, L: Ledger>(
     steps: &mut Steps<L>,
 ) -> Result<Told, Halt>
     requires { AreParts (data_of asked.now) read }
-    ensures done { IfOk result (λ told. (examples : Listed Example) × AreLearned (ground_of (data_of asked.now) read.sheet) examples told.refused
-        × (let d = data_of asked.now in let r = read_data read in WritesRows (form_of d r) (ground_of d read.sheet) examples (rows_of d r) (head_of d r) (length (rows_of d r)) (O.written out.old) (O.written out.new))) }
-    ensures part { IsErrOf result Halt.Fault → ((examples : Listed Example) × (refused : Listed Refused) × (n : ℕ) × AreLearned (ground_of (data_of asked.now) read.sheet) examples refused
-        × (let d = data_of asked.now in let r = read_data read in (n ≤ length (rows_of d r)) × WritesPart (form_of d r) (ground_of d read.sheet) examples (rows_of d r) (head_of d r) n (O.written out.old) (O.written out.new))) }
+    ensures done { IfOk result (λ told. (examples : Listed Example) × (states : Listed RowState)
+        × AreLearned read.typed (ground_of (data_of asked.now) read.sheet) examples told.refused
+        × AreCellStates read.typed (ground_of (data_of asked.now) read.sheet) examples (length (rows_of (data_of asked.now) (read_data read))) states
+        × (told.summary.unsure ≡ list_any is_unsure states)
+        × (let d = data_of asked.now in let r = read_data read in WritesRows (form_of d r) read.typed (ground_of d read.sheet) examples (rows_of d r) (head_of d r) (length (rows_of d r)) (O.written out.old) (O.written out.new))) }
+    ensures part { IsErrOf result Halt.Fault → ((examples : Listed Example) × (refused : Listed Refused) × (n : ℕ) × AreLearned read.typed (ground_of (data_of asked.now) read.sheet) examples refused
+        × (let d = data_of asked.now in let r = read_data read in (n ≤ length (rows_of d r)) × WritesPart (form_of d r) read.typed (ground_of d read.sheet) examples (rows_of d r) (head_of d r) n (O.written out.old) (O.written out.new))) }
     ensures fault { IsErrOf result Halt.Fault → Rose (O.faults out.old) (O.faults out.new) }
-    ensures memory { IsErrOf result Halt.NoMemory → Keeps (O.written out.old) (O.written out.new) ⊎ ((examples : Listed Example) × (refused : Listed Refused) × (n : ℕ) × AreLearned (ground_of (data_of asked.now) read.sheet) examples refused
-        × (let d = data_of asked.now in let r = read_data read in (n ≤ length (rows_of d r)) × WritesRows (form_of d r) (ground_of d read.sheet) examples (rows_of d r) (head_of d r) n (O.written out.old) (O.written out.new))) }
+    ensures memory { IsErrOf result Halt.NoMemory → Keeps (O.written out.old) (O.written out.new) ⊎ ((examples : Listed Example) × (refused : Listed Refused) × (n : ℕ) × AreLearned read.typed (ground_of (data_of asked.now) read.sheet) examples refused
+        × (let d = data_of asked.now in let r = read_data read in (n ≤ length (rows_of d r)) × WritesRows (form_of d r) read.typed (ground_of d read.sheet) examples (rows_of d r) (head_of d r) n (O.written out.old) (O.written out.new))) }
 {
     let form = head::form_of(asked, &read);
     let head = head::head_of(alloc, asked, &read, &form)?;
-    let SheetRead { records, sheet, .. } = read;
+    let SheetRead {
+        records,
+        sheet,
+        typed,
+        ..
+    } = read;
     let mut session = Session::new(alloc, settings_of(asked.profile), sheet, Tables::new(alloc))?;
     let page = Page {
         rows: rows_after(asked.header, records.as_slice()),
+        typed: typed.as_slice(),
         form,
         head: head.as_slice(),
     };
@@ -110,6 +147,8 @@ fn write<O: Sink, L: Ledger>(
 struct Page<'a> {
     /// The records of its rows.
     rows: &'a [Record],
+    /// The texts that are typed for rows.
+    typed: &'a [Example],
     /// How answers are written.
     form: Form,
     /// What stands before the records of rows.
@@ -136,18 +175,22 @@ fn write_page<O: Sink, L: Ledger>(
     requires rows { let p = page.now in length p.rows.now ≡ length session.old.spaces.ground.sheet.rows }
     requires column { let p = page.now in 1 ≤ p.form.column }
     requires states { let p = page.now in IfSome p.form.states (λ column. 1 ≤ column) }
-    ensures done { IfOk result (λ told. (examples : Listed Example) × AreLearned session.old.spaces.ground examples told.refused
-        × (let p = page.now in WritesRows p.form session.old.spaces.ground examples p.rows.now p.head.now (length p.rows.now) (O.written out.old) (O.written out.new))) }
-    ensures part { IsErrOf result Halt.Fault → ((examples : Listed Example) × (refused : Listed Refused) × (n : ℕ) × AreLearned session.old.spaces.ground examples refused
-        × (let p = page.now in (n ≤ length p.rows.now) × WritesPart p.form session.old.spaces.ground examples p.rows.now p.head.now n (O.written out.old) (O.written out.new))) }
+    ensures done { IfOk result (λ told. (examples : Listed Example) × (states : Listed RowState)
+        × AreLearned page.now.typed.now session.old.spaces.ground examples told.refused
+        × AreCellStates page.now.typed.now session.old.spaces.ground examples (length page.now.rows.now) states
+        × (told.summary.unsure ≡ list_any is_unsure states)
+        × (let p = page.now in WritesRows p.form p.typed.now session.old.spaces.ground examples p.rows.now p.head.now (length p.rows.now) (O.written out.old) (O.written out.new))) }
+    ensures part { IsErrOf result Halt.Fault → ((examples : Listed Example) × (refused : Listed Refused) × (n : ℕ) × AreLearned page.now.typed.now session.old.spaces.ground examples refused
+        × (let p = page.now in (n ≤ length p.rows.now) × WritesPart p.form p.typed.now session.old.spaces.ground examples p.rows.now p.head.now n (O.written out.old) (O.written out.new))) }
     ensures fault { IsErrOf result Halt.Fault → Rose (O.faults out.old) (O.faults out.new) }
-    ensures memory { IsErrOf result Halt.NoMemory → Keeps (O.written out.old) (O.written out.new) ⊎ ((examples : Listed Example) × (refused : Listed Refused) × (n : ℕ) × AreLearned session.old.spaces.ground examples refused
-        × (let p = page.now in (n ≤ length p.rows.now) × WritesRows p.form session.old.spaces.ground examples p.rows.now p.head.now n (O.written out.old) (O.written out.new))) }
+    ensures memory { IsErrOf result Halt.NoMemory → Keeps (O.written out.old) (O.written out.new) ⊎ ((examples : Listed Example) × (refused : Listed Refused) × (n : ℕ) × AreLearned page.now.typed.now session.old.spaces.ground examples refused
+        × (let p = page.now in (n ≤ length p.rows.now) × WritesRows p.form p.typed.now session.old.spaces.ground examples p.rows.now p.head.now n (O.written out.old) (O.written out.new))) }
 {
-    let refused = learn(alloc, session, steps)?;
+    let refused = learn(alloc, session, page.typed, steps)?;
     let mut summary = Summary::NONE;
     let filling = Filling {
         session,
+        typed: page.typed,
         records: page.rows,
         form: page.form,
         head: page.head,

@@ -1,8 +1,8 @@
 //! What stands before the records of rows, and how answers are written.
 ghost use Rattle.std.specs.Prelude.{◌≡◌, ◌≤◌, ◌++◌, IfOk, IfSome, OnOk, option_copied};
 ghost use Rattle.fill_report.specs.Output.{report_text};
-ghost use Rattle.fill_words.specs.Words.{data_of};
-ghost use Rattle.fill_csv.specs.Ends.{form_of, head_of, heads_of, some_record, states_of};
+ghost use Rattle.fill_words.specs.Words.{data_of, target_data};
+ghost use Rattle.fill_csv.specs.Ends.{form_of, head_of, heads_of, name_of, some_record, states_of};
 ghost use Rattle.fill_csv.specs.Opening.{mark_of, records_in};
 ghost use Rattle.fill_csv.specs.Read.{AreParts, read_data};
 
@@ -12,7 +12,7 @@ use fill_filled::{Form, head_fields};
 use fill_records::Record;
 use fill_sheet::put_record;
 use fill_text::{List, NoMemory};
-use fill_words::Asked;
+use fill_words::{Asked, Target};
 use std::alloc::Global;
 
 /// The mark by which some programs begin a file in UTF-8.
@@ -27,18 +27,18 @@ pub(crate) fn form_of(asked: &Asked, read: &SheetRead) -> Form
 {
     Form {
         column: read.choice.to,
-        states: states_of(asked.states, read.records.as_slice()),
+        states: states_of(asked.states, read.choice.to, read.records.as_slice()),
         only_sure: asked.only_sure,
     }
 }
 
 /// The column of states, from 1, where one is asked for.
-fn states_of(states: bool, records: &[Record]) -> Option<usize>
-    ensures column { result ≡ states_of states records.now }
+fn states_of(states: bool, column: u32, records: &[Record]) -> Option<usize>
+    ensures column { result ≡ states_of states column records.now }
     ensures first { IfSome result (λ column. 1 ≤ column) }
 {
     if states {
-        Some(width(records).saturating_add(1))
+        Some(width(records).max(column as usize).saturating_add(1))
     } else {
         None
     }
@@ -63,9 +63,20 @@ pub(crate) fn head_of(
         alloc,
         &mut head,
         form,
+        name_of(&asked.to),
         header_of(asked.header, read.records.as_slice()),
     )?;
     Ok(head)
+}
+
+/// The name of a new column.
+fn name_of(to: &Target) -> Option<&[u8]>
+    ensures { option_copied result ≡ name_of (target_data to.now) }
+{
+    match to {
+        Target::There(_) => None,
+        Target::New(name) => Some(name.as_bytes()),
+    }
 }
 
 /// The byte order mark in front of the bytes, or nothing.
@@ -81,15 +92,16 @@ fn put_header(
     alloc: Global,
     to: &mut List<u8>,
     form: &Form,
+    name: Option<&[u8]>,
     header: Option<&Record>,
 ) -> Result<(), NoMemory>
     requires column { 1 ≤ form.now.column }
     requires states { IfSome form.now.states (λ column. 1 ≤ column) }
-    ensures { OnOk result (to.new ≡ to.old ++ report_text (heads_of form.now (option_copied header.entry))) }
+    ensures { OnOk result (to.new ≡ to.old ++ report_text (heads_of form.now (option_copied name.entry) (option_copied header.entry))) }
 {
     match header {
         Some(header) => {
-            let fields = List::from_vec(head_fields(alloc, form, header)?);
+            let fields = List::from_vec(head_fields(alloc, form, name, header)?);
             put_fields(alloc, to, &fields)
         }
         None => Ok(()),

@@ -8,6 +8,7 @@ mod lines;
 mod opening;
 mod stop;
 mod told;
+mod typed;
 
 pub use command::run;
 pub use stop::{MEMORY_LINE, say};

@@ -1,6 +1,6 @@
 //! The lines that say why no sheet was written.
 ghost use Rattle.std.specs.Prelude.{◌≡◌, ◌≢◌, IfOk, string_bytes};
-ghost use Rattle.fill_csv.specs.Lines.{IsChoiceLine, long_line, sheet_line, unread_line};
+ghost use Rattle.fill_csv.specs.Lines.{IsChoiceLine, long_line, row_line, sheet_line, unread_line};
 
 use fill_columns::ChoiceError;
 use fill_sheet::SheetError;
@@ -36,6 +36,13 @@ pub(crate) fn sheet_line(alloc: Global, name: &str, error: SheetError) -> Result
     }
 }
 
+/// The line of an example for a row that is not there.
+pub(crate) fn row_line(alloc: Global, name: &str, row: u32) -> Result<String, AllocError>
+    ensures { IfOk result (λ line. string_bytes line ≡ row_line name.now row) }
+{
+    format!(in alloc; "fillcsv: {name}: row {row}: no such row, and --example names it\n")
+}
+
 /// The line of words that choose no columns.
 pub(crate) fn choice_line(
     alloc: Global,
@@ -58,6 +65,12 @@ pub(crate) fn choice_line(
         }
         ChoiceError::Again(word) => {
             format!(in alloc; "fillcsv: {name}: column \"{word}\" is named twice\n")
+        }
+        ChoiceError::Present(word) => {
+            format!(in alloc; "fillcsv: {name}: column \"{word}\" is there already\n")
+        }
+        ChoiceError::Full => {
+            format!(in alloc; "fillcsv: {name}: 1000 columns are there, and no more can be named\n")
         }
         ChoiceError::TooMany => format!(in alloc; "fillcsv: {name}: more than 8 columns to read\n"),
         ChoiceError::Nothing => format!(in alloc; "fillcsv: {name}: no column to read\n"),

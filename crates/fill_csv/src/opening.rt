@@ -1,24 +1,27 @@
 //! Opening a sheet: its file, the columns that words choose, and its rows.
-ghost use Rattle.std.specs.Prelude.{◌≡◌, ◌≢◌, ◌≤◌, ℕ, List as Listed, IfOk, IfErr, MatchResult, Ok, Err, Some, length, option_copied, string_bytes};
+ghost use Rattle.std.specs.Prelude.{◌≡◌, ◌≢◌, ◌≤◌, ℕ, List as Listed, IfOk, IfErr, MatchResult, Ok, Err, Some, length, map, option_copied, string_bytes};
 ghost use Rattle.fill_edge.specs.Outside.{NoneFell};
 ghost use Rattle.fill_open.specs.Opened.{Told, Passed};
 ghost use Rattle.fill_open.specs.Stops.{Refuses as IsRefusedBy, Stops};
 ghost use Rattle.fill_records.specs.Records.{records_of};
 ghost use Rattle.fill_sheet.specs.Columns.{AreInputs, IsOutput};
-ghost use Rattle.fill_sheet.specs.Sheet.{row_records};
-ghost use Rattle.fill_words.specs.Words.{data_of};
-ghost use Rattle.fill_columns.specs.Choice.{choice_data};
-ghost use Rattle.fill_csv.specs.Opening.{choice_of, file_opens, header_of, records_in, rows_in, sheet_in, sheet_opens, with_choice, with_rows};
+ghost use Rattle.fill_sheet.specs.Sheet.{read_sheet, row_records};
+ghost use Rattle.fill_words.specs.Words.{data_of, target_data};
+ghost use Rattle.fill_columns.specs.Choice.{Refuses, choice_data};
+ghost use Rattle.fill_columns.specs.Columns.{names_of};
+ghost use Rattle.fill_csv.specs.Opening.{choice_for, choice_of, file_opens, header_of, output_of, records_in, rows_in, sheet_in, sheet_opens, with_choice, with_rows};
 ghost use Rattle.fill_csv.specs.Read.{AreParts, read_data};
 
 use crate::lines::{choice_line, long_line, sheet_line};
-use fill_columns::{Choice, choose, width};
+use crate::typed::examples_in;
+use fill_columns::{Choice, ChoiceError, choose, choose_new, width};
 use fill_edge::{Cabinet, LARGEST_FILE, ReadError, read_all};
 use fill_open::Stop;
 use fill_records::{Record, read_records};
 use fill_sheet::Sheet;
 use fill_text::{List, NoMemory};
-use fill_words::Asked;
+use fill_tree::Example;
+use fill_words::{Asked, Target};
 use std::alloc::{AllocError, Global};
 
 /// The most records that are read, the header among them.
@@ -35,6 +38,8 @@ pub(crate) struct SheetRead {
     pub choice: Choice,
     /// Its rows in these columns.
     pub sheet: Sheet,
+    /// The texts that are typed for rows.
+    pub typed: List<Example>,
 }
 
 /// Reads the file that the words name, and chooses their columns in it.
@@ -74,7 +79,7 @@ fn open_file<C: Cabinet>(alloc: Global, cabinet: &mut C, name: &str) -> Result<L
 }
 
 /// The refusal with this line, or want of memory where there was none for the line.
-fn refused(line: Result<String, AllocError>) -> Stop
+pub(crate) fn refused(line: Result<String, AllocError>) -> Stop
     ensures { MatchResult line (λ text. result ≡ Stop.Refused text) (λ _. result ≡ Stop.NoMemory) }
 {
     match line {
@@ -97,8 +102,8 @@ fn sheet_in(alloc: Global, asked: &Asked, bytes: List<u8>) -> Result<SheetRead, 
         Ok(choice) => choice,
         Err(stop) => return Err(stop),
     };
-    let sheet = match rows_in(alloc, asked, &choice, bytes.as_slice()) {
-        Ok(sheet) => sheet,
+    let Rows { sheet, typed } = match rows_in(alloc, asked, &choice, bytes.as_slice()) {
+        Ok(rows) => rows,
         Err(stop) => return Err(stop),
     };
     Ok(SheetRead {
@@ -106,6 +111,7 @@ fn sheet_in(alloc: Global, asked: &Asked, bytes: List<u8>) -> Result<SheetRead, 
         records,
         choice,
         sheet,
+        typed,
     })
 }
 
@@ -124,23 +130,74 @@ fn choice_in(alloc: Global, asked: &Asked, records: &[Record]) -> Result<Choice,
     ensures stopped { IfErr result (λ why. (bytes : Listed ℕ) → IsRefusedBy (with_choice (data_of asked.now) bytes (choice_of (data_of asked.now) records.now)) why) }
 {
     let header = header_of(asked.header, records);
-    let to = asked.to.as_str();
-    match choose(alloc, header, width(records), to, &asked.from) {
+    match choice_for(alloc, &asked.to, header, width(records), &asked.from) {
         Ok(choice) => Ok(choice),
         Err(e) => Err(refused(choice_line(alloc, asked.file.as_str(), e))),
     }
 }
 
-/// The rows of the sheet in the chosen columns.
-fn rows_in(alloc: Global, asked: &Asked, choice: &Choice, bytes: &[u8]) -> Result<Sheet, Stop>
+/// The columns that words choose where this one is filled.
+fn choice_for<'a>(
+    alloc: Global,
+    to: &'a Target,
+    header: Option<&Record>,
+    width: usize,
+    from: &'a [String],
+) -> Result<Choice, ChoiceError<'a>>
+    ensures ok { IfOk result (λ c. choice_for (target_data to.now) (names_of (option_copied header.entry)) width (map string_bytes from.now) ≡ Ok (choice_data c)) }
+    ensures err { IfErr result (Refuses (choice_for (target_data to.now) (names_of (option_copied header.entry)) width (map string_bytes from.now))) }
+    ensures inputs { IfOk result (λ c. AreInputs c.from.items) }
+    ensures output { IfOk result (λ c. IsOutput c.from.items (Some c.to)) }
+{
+    match to {
+        Target::There(column) => choose(alloc, header, width, column.as_str(), from),
+        Target::New(name) => choose_new(alloc, header, width, name.as_str(), from),
+    }
+}
+
+/// Rows in the chosen columns, and the texts that are typed for them.
+#[derive(Drop)]
+struct Rows {
+    sheet: Sheet,
+    typed: List<Example>,
+}
+
+/// The rows of the sheet in the chosen columns, and the texts that the words give for them.
+fn rows_in(alloc: Global, asked: &Asked, choice: &Choice, bytes: &[u8]) -> Result<Rows, Stop>
     requires inputs { AreInputs choice.now.from.items }
     requires output { IsOutput choice.now.from.items (Some choice.now.to) }
-    ensures ready { IfOk result (λ sheet. rows_in (data_of asked.now) bytes.now (choice_data choice.now) ≡ Passed (record { bytes = bytes.now; choice = choice_data choice.now; sheet = sheet })) }
-    ensures whole { IfOk result (λ sheet. length sheet.rows ≡ length (row_records asked.now.header (records_of bytes.now))) }
+    ensures ready { IfOk result (λ made. rows_in (data_of asked.now) bytes.now (choice_data choice.now)
+        ≡ Passed (record { bytes = bytes.now; choice = choice_data choice.now; sheet = made.sheet; typed = made.typed })) }
+    ensures whole { IfOk result (λ made. length made.sheet.rows ≡ length (row_records asked.now.header (records_of bytes.now))) }
     ensures stopped { IfErr result (IsRefusedBy (rows_in (data_of asked.now) bytes.now (choice_data choice.now))) }
 {
-    match Sheet::read(alloc, bytes, asked.header, &choice.from, Some(choice.to)) {
+    let sheet = match read_rows(alloc, asked, choice, bytes) {
+        Ok(sheet) => sheet,
+        Err(stop) => return Err(stop),
+    };
+    match examples_in(alloc, asked, sheet.rows()) {
+        Ok(typed) => Ok(Rows { sheet, typed }),
+        Err(stop) => Err(stop),
+    }
+}
+
+/// The rows of the sheet in the chosen columns.
+fn read_rows(alloc: Global, asked: &Asked, choice: &Choice, bytes: &[u8]) -> Result<Sheet, Stop>
+    requires inputs { AreInputs choice.now.from.items }
+    requires output { IsOutput choice.now.from.items (Some choice.now.to) }
+    ensures ready { IfOk result (λ sheet. read_sheet asked.now.header choice.now.from.items (output_of asked.now.replace choice.now.to) bytes.now ≡ Ok sheet) }
+    ensures stopped { IfErr result (IsRefusedBy (rows_in (data_of asked.now) bytes.now (choice_data choice.now))) }
+{
+    let output = output_of(asked.replace, choice.to);
+    match Sheet::read(alloc, bytes, asked.header, &choice.from, output) {
         Ok(sheet) => Ok(sheet),
         Err(e) => Err(refused(sheet_line(alloc, asked.file.as_str(), e))),
     }
+}
+
+/// The column whose cells are examples: that which is filled, if its cells are not to be replaced.
+fn output_of(replace: bool, column: u32) -> Option<u32>
+    ensures { result ≡ output_of replace column }
+{
+    if replace { None } else { Some(column) }
 }

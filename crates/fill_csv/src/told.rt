@@ -1,8 +1,11 @@
 //! What is told of a sheet once it is written. No contract says these texts.
-ghost use Rattle.std.specs.Prelude.{◌≡◌, ◌≢◌, ◌↔◌, [], IsTrue};
+ghost use Rattle.std.specs.Prelude.{◌≡◌, ◌||◌, ◌&&◌, true};
+ghost use Rattle.std.specs.List.{list_any};
+ghost use Rattle.fill_filled.specs.Learned.{counts};
 
+use crate::stop::say;
 use fill_edge::{Sink, write_all};
-use fill_filled::{Refused, Summary};
+use fill_filled::{Counts, Refused, Summary};
 use fill_session::{EditError, Part};
 use fill_text::List;
 use std::alloc::{AllocError, Global};
@@ -10,32 +13,61 @@ use std::alloc::{AllocError, Global};
 /// What is told of a sheet that was written.
 #[derive(Drop)]
 pub(crate) struct Told {
-    /// The given cells that are no examples.
+    /// The given texts that are no examples.
     pub refused: List<Refused>,
     /// How many cells have each state.
     pub summary: Summary,
 }
 
 impl Told {
-    /// Whether a given cell is refused.
-    pub(crate) fn is_refusing(&self) -> bool
-        ensures { IsTrue result ↔ (self.now.refused ≢ []) }
+    /// Whether something is left to do: a given text is refused, not counting those after the sixty-fourth example, or
+    /// a cell is neither given nor sure where all are to be.
+    pub(crate) fn is_wanting(&self, strict: bool) -> bool
+        ensures { result ≡ (list_any counts self.now.refused || (strict && self.now.summary.unsure)) }
     {
-        self.refused.len() > 0
+        if any_counts(self.refused.as_slice()) {
+            return true;
+        }
+        strict && self.summary.unsure
     }
 
-    /// Tells on `err` which given cells are no examples, how many cells have each state, and the first rows in doubt.
+    /// Tells on `err` which given texts are no examples, how many cells have each state, and the first rows in doubt.
     /// Rows are numbered as a spreadsheet shows them, the header among them. Want of memory and failed writes are passed
     /// over.
     pub(crate) fn say<E: Sink>(&self, alloc: Global, header: bool, err: &mut E) {
         let above = if header { 1 } else { 0 };
-        for cell in self.refused.as_slice().iter().take(MOST_REFUSALS) {
+        let refused = self.refused.as_slice();
+        for cell in refused
+            .iter()
+            .filter(|cell| cell.counts())
+            .take(MOST_REFUSALS)
+        {
             say_line(err, refused_text(alloc, above, cell));
         }
-        say_line(err, more_text(alloc, self.refused.len()));
-        say_line(err, counts_text(alloc, &self.summary));
-        say_line(err, doubtful_text(alloc, above, &self.summary));
+        let counted = refused.iter().filter(|cell| cell.counts()).count();
+        say_line(err, more_text(alloc, counted));
+        if counted < refused.len() {
+            say(
+                err,
+                b"fillcsv: only the first 64 filled cells are learned from\n",
+            );
+        }
+        if self.summary.counts.given == 0 {
+            say(
+                err,
+                b"fillcsv: no cell of the column is filled: nothing to learn from\n",
+            );
+        }
+        say_line(err, counts_text(alloc, &self.summary.counts));
+        say_line(err, doubtful_text(alloc, above, &self.summary.counts));
     }
+}
+
+/// Whether one of the refusals counts.
+fn any_counts(refused: &[Refused]) -> bool
+    ensures { result ≡ list_any counts refused.now }
+{
+    refused.iter().any(|cell| cell.counts())
 }
 
 /// How many refused cells are told one by one.
@@ -49,15 +81,15 @@ fn say_line<E: Sink>(err: &mut E, line: Result<String, AllocError>) {
 }
 
 /// How many cells have each state.
-fn counts_text(alloc: Global, summary: &Summary) -> Result<String, AllocError> {
-    let Summary {
+fn counts_text(alloc: Global, counts: &Counts) -> Result<String, AllocError> {
+    let Counts {
         given,
         sure,
         doubt,
         nothing,
         nothing_in_doubt,
         ..
-    } = *summary;
+    } = *counts;
     format!(in alloc;
         "fillcsv: {given} given, {sure} sure, {doubt} doubt, {nothing} none, {nothing_in_doubt} none doubt\n"
     )
@@ -73,9 +105,9 @@ fn more_text(alloc: Global, refused: usize) -> Result<String, AllocError> {
 }
 
 /// The rows of the first cells in doubt; empty where there are none.
-fn doubtful_text(alloc: Global, above: u32, summary: &Summary) -> Result<String, AllocError> {
+fn doubtful_text(alloc: Global, above: u32, counts: &Counts) -> Result<String, AllocError> {
     let mut text = String::new(alloc);
-    for row in summary.doubtful.iter() {
+    for row in counts.doubtful.iter() {
         if *row == 0 {
             break;
         }
@@ -113,9 +145,6 @@ fn refused_text(alloc: Global, above: u32, cell: &Refused) -> Result<String, All
                 "fillcsv: row {number}: not learned from: {length} characters to read, and an example has 1000 at most\n"
             )
         }
-        EditError::TooMany => {
-            format!(in alloc; "fillcsv: row {number}: not learned from: 64 examples are there\n")
-        }
         EditError::NoProgram { .. } => {
             format!(in alloc; "fillcsv: row {number}: not learned from: no rule gives this text\n")
         }
@@ -132,6 +161,7 @@ fn refused_text(alloc: Global, above: u32, cell: &Refused) -> Result<String, All
         EditError::NoSuchRow { .. }
         | EditError::HasExample
         | EditError::NoExample
+        | EditError::TooMany
         | EditError::NoMemory => format!(in alloc; "fillcsv: row {number}: not learned from\n"),
     }
 }

@@ -3,7 +3,7 @@ ghost use Rattle.std.specs.Prelude.{◌≡◌, ◌<◌, ◌++◌, ◌∷◌, [],
 ghost use Rattle.fill_doubt.specs.Cuts.{HasAt};
 
 use fill_text::NoMemory;
-use fill_tokens::Seq;
+use fill_tokens::{Seq, TOKEN_COUNT};
 use std::alloc::Global;
 use std::cmp::Ordering;
 
@@ -46,11 +46,12 @@ fn number_at(seq: &Seq, i: usize) -> u32
 
 /// The place of the sequence's hint.
 fn slot_of(seq: &Seq) -> usize {
+    let radix = TOKEN_COUNT as u32;
     let code = match seq.len() {
         0 => 0,
         1 => number_at(seq, 0),
-        2 => number_at(seq, 0) * 29 + number_at(seq, 1),
-        _ => (number_at(seq, 0) * 29 + number_at(seq, 1)) * 29 + number_at(seq, 2),
+        2 => number_at(seq, 0) * radix + number_at(seq, 1),
+        _ => (number_at(seq, 0) * radix + number_at(seq, 1)) * radix + number_at(seq, 2),
     };
     code as usize % HINTS
 }

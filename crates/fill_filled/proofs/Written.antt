@@ -1,6 +1,7 @@
 -- The records of first rows, and of one row more.
-use Rattle.std.proofs.Common.{◌≡◌, ℕ, ◌+◌, ◌-◌, ◌<◌, ◌≤◌, List, [], ◌∷◌, ◌++◌, length, replicate, Option, None, Some, Result, Ok, Err, sym, subst, arith, append-nil, length-append}
-use Rattle.std.specs.Prelude.{IfSome, OnOk}
+use Rattle.std.proofs.Common.{◌≡◌, ℕ, ◌+◌, ◌-◌, ◌<◌, ◌≤◌, List, [], ◌∷◌, ◌++◌, length, replicate, Option, None, Some, Result, Ok, Err, Bool, true, false, refl, ap, ◌∙◌, sym, subst, arith, append-nil, length-append}
+use Rattle.std.specs.Prelude.{◌||◌, IfSome, OnOk}
+use Rattle.std.specs.List.{list_any}
 use Rattle.std.proofs.lemmas.List.{length-replicate, length-set}
 use Rattle.std.specs.Io.KnownBytes.{Appends}
 use Rattle.std.proofs.KnownBytes.{Appends-nil, Appends-trans}
@@ -14,8 +15,10 @@ use Rattle.fill_report.proofs.Bytes.{appends_more, appends_part_after, part_more
 use Rattle.fill_report.proofs.Numbered.{rows_more}
 use Rattle.fill_session.specs.declared.answer.Answer.{Answer}
 use Rattle.fill_report.specs.Rows.{state_name}
+use Rattle.fill_report.specs.declared.rows.RowState.{RowState}
 use Rattle.fill_columns.specs.Fields.{padded, with_field}
-use Rattle.fill_filled.specs.Filled.{IsFilledRow, WritesPart, WritesRows, cell_of, cell_state, filled_fields, with_answer, with_word}
+use Rattle.fill_filled.specs.Learned.{given_by}
+use Rattle.fill_filled.specs.Filled.{IsCellState, IsFilledRow, TellsUnsure, WritesPart, WritesRows, cell_of, cell_state, filled_fields, is_unsure, with_answer, with_word}
 use Rattle.fill_filled.specs.declared.form.Form.{Form}
 
 -- what follows where a call succeeds
@@ -37,32 +40,57 @@ some_word None word fields some first = some
 some_word (Some column) word fields some first = some_field column word fields first
 
 -- so a row's record is not
-pub some_filled : (form : Form) (given : Option (List ℕ)) (a : Answer) (fields : Fields) → 1 ≤ form.column → IfSome form.states (λ column. 1 ≤ column)
-    → 0 < length (filled_fields form given a fields)
-some_filled form given a fields column states =
-    some_word form.states (state_name (cell_state given a)) (with_answer form given a fields) (some_field form.column (cell_of form given a fields) fields column) states
+pub some_filled : (form : Form) (typed cell : Option (List ℕ)) (a : Answer) (fields : Fields) → 1 ≤ form.column → IfSome form.states (λ column. 1 ≤ column)
+    → 0 < length (filled_fields form typed cell a fields)
+some_filled form typed cell a fields column states =
+    some_word form.states (state_name (cell_state (given_by typed cell) a)) (with_answer form typed cell a fields) (some_field form.column (cell_of form typed cell a fields) fields column) states
 
-module _ (form : Form) (g : Ground) (examples : List Example) (records : List Fields) (old : Option (List ℕ)) where
-  pub rows_none : WritesRows form g examples records [] 0 old old
+or_false : (b : Bool) → (b || false) ≡ b
+or_false true = refl
+or_false false = refl
+
+or_assoc : (a b c : Bool) → ((a || b) || c) ≡ (a || (b || c))
+or_assoc true b c = refl
+or_assoc false b c = refl
+
+any_push : (states : List RowState) (s : RowState) → list_any is_unsure (states ++ s ∷ []) ≡ (list_any is_unsure states || is_unsure s)
+any_push [] s = or_false (is_unsure s)
+any_push (x ∷ states) s = ap (λ b. is_unsure x || b) (any_push states s) ∙ sym (or_assoc (is_unsure x) (list_any is_unsure states) (is_unsure s))
+
+module _ (form : Form) (typed : List Example) (g : Ground) (examples : List Example) (records : List Fields) (old : Option (List ℕ)) where
+  pub rows_none : WritesRows form typed g examples records [] 0 old old
   rows_none = ([], tt, Appends-nil old)
 
-  pub row_next : (mid new : Option (List ℕ)) (n : ℕ) → WritesRows form g examples records [] n old mid
-      → (fields : Fields) × IsFilledRow form g examples records (n + 1) fields × Appends mid new (record_text fields) → WritesRows form g examples records [] (n + 1) old new
+  pub row_next : (mid new : Option (List ℕ)) (n : ℕ) → WritesRows form typed g examples records [] n old mid
+      → (fields : Fields) × IsFilledRow form typed g examples records (n + 1) fields × Appends mid new (record_text fields) → WritesRows form typed g examples records [] (n + 1) old new
   row_next mid new n w h =
-      (w.0 ++ h.0 ∷ [], rows_more (IsFilledRow form g examples records) n w.0 h.0 w.1 h.1, appends_more old mid new w.0 h.0 w.2 h.2)
+      (w.0 ++ h.0 ∷ [], rows_more (IsFilledRow form typed g examples records) n w.0 h.0 w.1 h.1, appends_more old mid new w.0 h.0 w.2 h.2)
 
-  pub row_part : (mid new : Option (List ℕ)) (n : ℕ) → WritesRows form g examples records [] n old mid
-      → (fields : Fields) × IsFilledRow form g examples records (n + 1) fields × AppendsPart mid new (record_text fields) → WritesPart form g examples records [] (n + 1) old new
+  pub row_part : (mid new : Option (List ℕ)) (n : ℕ) → WritesRows form typed g examples records [] n old mid
+      → (fields : Fields) × IsFilledRow form typed g examples records (n + 1) fields × AppendsPart mid new (record_text fields) → WritesPart form typed g examples records [] (n + 1) old new
   row_part mid new n w h =
-      (w.0 ++ h.0 ∷ [], rows_more (IsFilledRow form g examples records) n w.0 h.0 w.1 h.1, part_more old mid new w.0 h.0 w.2 h.2)
+      (w.0 ++ h.0 ∷ [], rows_more (IsFilledRow form typed g examples records) n w.0 h.0 w.1 h.1, part_more old mid new w.0 h.0 w.2 h.2)
 
   -- the rows after the head
-  pub head_rows : (mid new : Option (List ℕ)) (head : List ℕ) (n : ℕ) → Appends old mid head → WritesRows form g examples records [] n mid new → WritesRows form g examples records head n old new
+  pub head_rows : (mid new : Option (List ℕ)) (head : List ℕ) (n : ℕ) → Appends old mid head → WritesRows form typed g examples records [] n mid new → WritesRows form typed g examples records head n old new
   head_rows mid new head n before w = (w.0, w.1, Appends-trans old mid new head (report_text w.0) before w.2)
 
-  pub head_rows_part : (mid new : Option (List ℕ)) (head : List ℕ) (n : ℕ) → Appends old mid head → WritesPart form g examples records [] n mid new → WritesPart form g examples records head n old new
+  pub head_rows_part : (mid new : Option (List ℕ)) (head : List ℕ) (n : ℕ) → Appends old mid head → WritesPart form typed g examples records [] n mid new → WritesPart form typed g examples records head n old new
   head_rows_part mid new head n before w = (w.0, w.1, appends_part_after old mid new head (report_text w.0) before w.2)
 
   -- a part of the head
-  pub head_part : (new : Option (List ℕ)) (head : List ℕ) → AppendsPart old new head → WritesPart form g examples records head 0 old new
+  pub head_part : (new : Option (List ℕ)) (head : List ℕ) → AppendsPart old new head → WritesPart form typed g examples records head 0 old new
   head_part new head part = ([], tt, subst (λ (l : List ℕ). AppendsPart old new l) (sym (append-nil head)) part)
+
+-- whether a cell so far is neither given nor sure
+module _ (typed : List Example) (g : Ground) (examples : List Example) (before : Bool) where
+  pub states_none : TellsUnsure typed g examples 0 before before
+  states_none = ([], tt, sym (or_false before))
+
+  pub state_next : (n : ℕ) (mid now : Bool) → TellsUnsure typed g examples n before mid
+      → (state : RowState) × IsCellState typed g examples (n + 1) state × (now ≡ (mid || is_unsure state)) → TellsUnsure typed g examples (n + 1) before now
+  state_next n mid now t h = (
+    t.0 ++ h.0 ∷ [],
+    rows_more (IsCellState typed g examples) n t.0 h.0 t.1 h.1,
+    h.2 ∙ ap (λ b. b || is_unsure h.0) t.2 ∙ or_assoc before (list_any is_unsure t.0) (is_unsure h.0) ∙ ap (λ b. before || b) (sym (any_push t.0 h.0)),
+  )

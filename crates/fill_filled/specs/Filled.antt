@@ -1,7 +1,7 @@
 -- The records of a sheet with one of its columns filled.
-use Rattle.std.specs.Prelude.{◌≡◌, ℕ, List, [], ◌++◌, Bool, true, false, Option, None, Some, codes}
+use Rattle.std.specs.Prelude.{◌≡◌, ℕ, List, [], ◌++◌, ◌||◌, Bool, true, false, Option, None, Some, codes, encode_utf8_all}
 use Rattle.std.specs.Io.KnownBytes.{Appends}
-use Rattle.std.specs.List.{AllZip, range_with_len}
+use Rattle.std.specs.List.{AllZip, list_any, range_with_len}
 use Rattle.fill_text.specs.Data.{nth}
 use Rattle.fill_edge.specs.Outside.{AppendsPart}
 use Rattle.fill_records.specs.Records.{field_of}
@@ -18,6 +18,7 @@ use Rattle.fill_report.specs.Rows.{answer_field, row_state, state_name}
 use Rattle.fill_report.specs.declared.rows.RowState.{RowState}
 use Rattle.fill_report.specs.declared.rows.RowState.TheVariants as state
 use Rattle.fill_columns.specs.Fields.{with_field}
+use Rattle.fill_filled.specs.Learned.{given_by, given_for, typed_at}
 use Rattle.fill_filled.specs.declared.form.Form.{Form}
 
 -- the text of an answer, empty where it has none; one in doubt is left out where only sure ones are wanted
@@ -27,16 +28,18 @@ wanted_text true known.Given text = answer_field text
 wanted_text true known.Sure text = answer_field text
 wanted_text true known.Doubt text = []
 
--- the cell of a row in the column that is filled: one that the sheet gives stays as it is, byte by byte
-abbrev pub cell_of : Form → Option (List ℕ) → Answer → Fields → List ℕ
-cell_of form (Some text) a fields = field_of form.column fields
-cell_of form None a fields = wanted_text form.only_sure a.state a.text
+-- the cell of a row in the column that is filled: the text that is typed for it, in UTF-8; or else one that the sheet gives
+-- stays as it is, byte by byte; or else it is the wanted text of the row's answer
+abbrev pub cell_of : Form → Option (List ℕ) → Option (List ℕ) → Answer → Fields → List ℕ
+cell_of form (Some text) cell a fields = encode_utf8_all text
+cell_of form None (Some text) a fields = field_of form.column fields
+cell_of form None None a fields = wanted_text form.only_sure a.state a.text
 
 -- a record with that cell
-abbrev pub with_answer : Form → Option (List ℕ) → Answer → Fields → Fields
-with_answer form given a fields = with_field form.column (cell_of form given a fields) fields
+abbrev pub with_answer : Form → Option (List ℕ) → Option (List ℕ) → Answer → Fields → Fields
+with_answer form typed cell a fields = with_field form.column (cell_of form typed cell a fields) fields
 
--- the state of a row's cell: given where the sheet gives it, and else that of the row's answer
+-- the state of a row's cell: given where the row gives a text, and else that of the row's answer
 abbrev pub cell_state : Option (List ℕ) → Answer → RowState
 cell_state (Some text) a = state.Given
 cell_state None a = row_state a
@@ -46,29 +49,61 @@ abbrev pub with_word : Option ℕ → List ℕ → Fields → Fields
 with_word None word fields = fields
 with_word (Some column) word fields = with_field column word fields
 
--- the record of a row that gives this or nothing, with its answer and its state
-abbrev pub filled_fields : Form → Option (List ℕ) → Answer → Fields → Fields
-filled_fields form given a fields = with_word form.states (state_name (cell_state given a)) (with_answer form given a fields)
+-- the record of a row for which this is typed, or nothing, and whose cell gives that, or nothing, with its answer and its state
+abbrev pub filled_fields : Form → Option (List ℕ) → Option (List ℕ) → Answer → Fields → Fields
+filled_fields form typed cell a fields = with_word form.states (state_name (cell_state (given_by typed cell) a)) (with_answer form typed cell a fields)
 
--- the header, with a name for the column of states
-abbrev pub head_fields : Form → Fields → Fields
-head_fields form fields = with_word form.states (field_of form.column fields ++ codes " state") fields
+-- the header with the name of the column that is filled, where it is a new one
+abbrev pub with_name : Form → Option (List ℕ) → Fields → Fields
+with_name form None fields = fields
+with_name form (Some name) fields = with_field form.column name fields
+
+-- the name of the column that is filled
+abbrev pub name_of : Form → Option (List ℕ) → Fields → List ℕ
+name_of form None fields = field_of form.column fields
+name_of form (Some name) fields = name
+
+-- the header with that name, and with one for the column of states
+abbrev pub head_fields : Form → Option (List ℕ) → Fields → Fields
+head_fields form name fields = with_word form.states (name_of form name fields ++ codes " state") (with_name form name fields)
+
+-- the state of a row's cell, by the row's defined answer
+abbrev pub IsCellState : List Example → Ground → List Example → ℕ → RowState → Type 0
+IsCellState typed g examples row s = (a : Answer) × AnswerIs g examples row a × (s ≡ cell_state (given_for typed g.sheet row) a)
+
+-- the states of the cells of so many first rows, in order
+abbrev pub AreCellStates : List Example → Ground → List Example → ℕ → List RowState → Type 0
+AreCellStates typed g examples n states = AllZip (IsCellState typed g examples) (range_with_len 1 n) states
+
+-- a cell that is neither given nor sure
+abbrev pub is_unsure : RowState → Bool
+is_unsure state.Given = false
+is_unsure state.Sure = false
+is_unsure state.Doubt = true
+is_unsure state.Nothing = true
+is_unsure state.NothingInDoubt = true
+
+-- the flag tells now whether it told so before or one of the cells of so many first rows is neither given nor sure
+abbrev pub TellsUnsure : List Example → Ground → List Example → ℕ → Bool → Bool → Type 0
+TellsUnsure typed g examples n before now = (states : List RowState) × AreCellStates typed g examples n states
+    × (now ≡ (before || list_any is_unsure states))
 
 -- the record of a row of the sheet, made of the one that was read and of the row's defined answer
-abbrev pub IsFilledRow : Form → Ground → List Example → List Fields → ℕ → Fields → Type 0
-IsFilledRow form g examples records row made = (fields : Fields) × (a : Answer)
-    × (nth records row ≡ Some fields) × AnswerIs g examples row a × (made ≡ filled_fields form (given_at g.sheet row) a fields)
+abbrev pub IsFilledRow : Form → List Example → Ground → List Example → List Fields → ℕ → Fields → Type 0
+IsFilledRow form typed g examples records row made = (fields : Fields) × (a : Answer)
+    × (nth records row ≡ Some fields) × AnswerIs g examples row a
+    × (made ≡ filled_fields form (typed_at typed row) (given_at g.sheet row) a fields)
 
 -- the records of so many first rows, in order
-abbrev pub AreFilledRows : Form → Ground → List Example → List Fields → ℕ → List Fields → Type 0
-AreFilledRows form g examples records n made = AllZip (IsFilledRow form g examples records) (range_with_len 1 n) made
+abbrev pub AreFilledRows : Form → List Example → Ground → List Example → List Fields → ℕ → List Fields → Type 0
+AreFilledRows form typed g examples records n made = AllZip (IsFilledRow form typed g examples records) (range_with_len 1 n) made
 
 -- the head was written, and the records of so many first rows
-abbrev pub WritesRows : Form → Ground → List Example → List Fields → List ℕ → ℕ → Option (List ℕ) → Option (List ℕ) → Type 0
-WritesRows form g examples records head n old new =
-    (made : List Fields) × AreFilledRows form g examples records n made × Appends old new (head ++ report_text made)
+abbrev pub WritesRows : Form → List Example → Ground → List Example → List Fields → List ℕ → ℕ → Option (List ℕ) → Option (List ℕ) → Type 0
+WritesRows form typed g examples records head n old new =
+    (made : List Fields) × AreFilledRows form typed g examples records n made × Appends old new (head ++ report_text made)
 
 -- a proper prefix of the head and of the records of so many first rows was written
-abbrev pub WritesPart : Form → Ground → List Example → List Fields → List ℕ → ℕ → Option (List ℕ) → Option (List ℕ) → Type 0
-WritesPart form g examples records head n old new =
-    (made : List Fields) × AreFilledRows form g examples records n made × AppendsPart old new (head ++ report_text made)
+abbrev pub WritesPart : Form → List Example → Ground → List Example → List Fields → List ℕ → ℕ → Option (List ℕ) → Option (List ℕ) → Type 0
+WritesPart form typed g examples records head n old new =
+    (made : List Fields) × AreFilledRows form typed g examples records n made × AppendsPart old new (head ++ report_text made)

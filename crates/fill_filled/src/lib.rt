@@ -1,7 +1,8 @@
-//! Sheets with one of their columns filled: what is learned from the column, and what is written of each row.
+//! Sheets with one of their columns filled: what is learned from it, and what is written of each row.
 #![tactic(auto)]
 
 mod form;
+mod given;
 mod learning;
 mod rows;
 mod summary;
@@ -10,5 +11,5 @@ mod writing;
 pub use form::Form;
 pub use learning::{Refused, learn};
 pub use rows::head_fields;
-pub use summary::Summary;
+pub use summary::{Counts, Summary};
 pub use writing::{Filling, write_filled};

@@ -1,7 +1,8 @@
 //! The records of rows.
 ghost use Rattle.std.specs.Prelude.{◌≡◌, ◌≤◌, IfOk, IfSome, option_copied, codes};
 ghost use Rattle.fill_report.specs.Rows.{state_name};
-ghost use Rattle.fill_filled.specs.Filled.{cell_of, cell_state, filled_fields, head_fields, wanted_text, with_answer, with_word};
+ghost use Rattle.fill_filled.specs.Filled.{cell_of, cell_state, filled_fields, head_fields, name_of, wanted_text, with_answer, with_name, with_word};
+ghost use Rattle.fill_filled.specs.Learned.{given_by};
 
 use crate::Form;
 use fill_columns::{fields_of, with_field};
@@ -11,17 +12,53 @@ use fill_session::{Answer, State};
 use fill_text::{List, NoMemory, Text};
 use std::alloc::Global;
 
-/// The header's fields, with a name for the column of states, where there is to be one.
-pub fn head_fields(alloc: Global, form: &Form, header: &Record) -> Result<Vec<List<u8>>, NoMemory>
+/// The header's fields, with the name of a new column, where that is filled, and with a name for the column of states,
+/// where there is to be one.
+pub fn head_fields(
+    alloc: Global,
+    form: &Form,
+    name: Option<&[u8]>,
+    header: &Record,
+) -> Result<Vec<List<u8>>, NoMemory>
     requires column { 1 ≤ form.now.column }
     requires states { IfSome form.now.states (λ column. 1 ≤ column) }
-    ensures { IfOk result (λ made. made.items ≡ head_fields form.now header.now) }
+    ensures { IfOk result (λ made. made.items ≡ head_fields form.now (option_copied name.entry) header.now) }
 {
-    let mut name = List::new(alloc);
-    name.append(header.field(form.column))?;
-    name.append(b" state")?;
+    let mut word = List::new(alloc);
+    word.append(name_of(form, name, header))?;
+    word.append(b" state")?;
+    let fields = with_name(alloc, form, name, header)?;
+    with_word(alloc, form, word, fields)
+}
+
+/// The name of the column that is filled.
+fn name_of<'a>(form: &Form, name: Option<&'a [u8]>, header: &'a Record) -> &'a [u8]
+    requires { 1 ≤ form.now.column }
+    ensures { result.now ≡ name_of form.now (option_copied name.entry) header.now }
+{
+    match name {
+        Some(name) => name,
+        None => header.field(form.column),
+    }
+}
+
+/// The header's fields with the name of a new column, where that is filled.
+fn with_name(
+    alloc: Global,
+    form: &Form,
+    name: Option<&[u8]>,
+    header: &Record,
+) -> Result<Vec<List<u8>>, NoMemory>
+    requires { 1 ≤ form.now.column }
+    ensures { IfOk result (λ made. made.items ≡ with_name form.now (option_copied name.entry) header.now) }
+{
     let fields = fields_of(alloc, header)?;
-    with_word(alloc, form, name, fields)
+    let Some(name) = name else {
+        return Ok(fields);
+    };
+    let mut field = List::new(alloc);
+    field.append(name)?;
+    with_field(alloc, fields, form.column as usize, field)
 }
 
 /// The state of the cell of a row that gives a text or none, with this answer.
@@ -34,58 +71,76 @@ pub(crate) fn cell_state(given: Option<&Text>, answer: &Answer) -> RowState
     }
 }
 
-/// The fields of a row that gives a text or none, with its answer and its state.
+/// What a row gives by what is typed for it and by its cell.
+fn given_by<'a>(typed: Option<&'a Text>, cell: Option<&'a Text>) -> Option<&'a Text>
+    ensures { option_copied result ≡ given_by (option_copied typed.entry) (option_copied cell.entry) }
+{
+    match typed {
+        Some(text) => Some(text),
+        None => cell,
+    }
+}
+
+/// The fields of a row with its answer and its state: a text may be typed for it, and its cell may give one.
 pub(crate) fn filled_fields(
     alloc: Global,
     form: &Form,
-    given: Option<&Text>,
+    typed: Option<&Text>,
+    cell: Option<&Text>,
     answer: &Answer,
     row: &Record,
 ) -> Result<Vec<List<u8>>, NoMemory>
     requires column { 1 ≤ form.now.column }
     requires states { IfSome form.now.states (λ column. 1 ≤ column) }
-    ensures { IfOk result (λ made. made.items ≡ filled_fields form.now (option_copied given.entry) answer.now row.now) }
+    ensures { IfOk result (λ made. made.items ≡ filled_fields form.now (option_copied typed.entry) (option_copied cell.entry) answer.now row.now) }
 {
-    let fields = with_answer(alloc, form, given, answer, row)?;
+    let fields = with_answer(alloc, form, typed, cell, answer, row)?;
     let mut word = List::new(alloc);
-    word.append(cell_state(given, answer).name())?;
+    word.append(cell_state(given_by(typed, cell), answer).name())?;
     with_word(alloc, form, word, fields)
 }
 
-/// The fields of a row that gives a text or none, with its answer.
+/// The fields of a row with its answer.
 fn with_answer(
     alloc: Global,
     form: &Form,
-    given: Option<&Text>,
+    typed: Option<&Text>,
+    cell: Option<&Text>,
     answer: &Answer,
     row: &Record,
 ) -> Result<Vec<List<u8>>, NoMemory>
     requires { 1 ≤ form.now.column }
-    ensures { IfOk result (λ made. made.items ≡ with_answer form.now (option_copied given.entry) answer.now row.now) }
+    ensures { IfOk result (λ made. made.items ≡ with_answer form.now (option_copied typed.entry) (option_copied cell.entry) answer.now row.now) }
 {
-    let cell = cell_of(alloc, form, given, answer, row)?;
+    let cell = cell_of(alloc, form, typed, cell, answer, row)?;
     let fields = fields_of(alloc, row)?;
     with_field(alloc, fields, form.column as usize, cell)
 }
 
-/// The cell of a row that gives a text or none: what it gives, or else its answer.
+/// The cell of a row: the text that is typed for it, or else what it gives, or else its answer.
 fn cell_of(
     alloc: Global,
     form: &Form,
-    given: Option<&Text>,
+    typed: Option<&Text>,
+    cell: Option<&Text>,
     answer: &Answer,
     row: &Record,
 ) -> Result<List<u8>, NoMemory>
     requires { 1 ≤ form.now.column }
-    ensures { IfOk result (λ made. made ≡ cell_of form.now (option_copied given.entry) answer.now row.now) }
+    ensures { IfOk result (λ made. made ≡ cell_of form.now (option_copied typed.entry) (option_copied cell.entry) answer.now row.now) }
 {
-    match given {
-        Some(_) => {
-            let mut cell = List::new(alloc);
-            cell.append(row.field(form.column))?;
-            Ok(cell)
+    match (typed, cell) {
+        (Some(text), _) => {
+            let mut made = List::new(alloc);
+            text.push_utf8(&mut made)?;
+            Ok(made)
         }
-        None => wanted_text(alloc, form.only_sure, answer),
+        (None, Some(_)) => {
+            let mut made = List::new(alloc);
+            made.append(row.field(form.column))?;
+            Ok(made)
+        }
+        (None, None) => wanted_text(alloc, form.only_sure, answer),
     }
 }
 

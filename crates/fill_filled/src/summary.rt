@@ -1,34 +1,81 @@
 //! What is told of a filled sheet.
+ghost use Rattle.std.specs.Prelude.{◌≡◌, ◌||◌};
+ghost use Rattle.fill_filled.specs.Filled.{is_unsure};
+
 use fill_report::RowState;
+
+/// What is told of a filled sheet.
+#[derive(Clone, Copy, Debug)]
+pub struct Summary {
+    pub counts: Counts,
+    /// Whether some cell is neither given nor sure.
+    pub unsure: bool,
+}
+
+impl Summary {
+    /// Of no rows.
+    pub const NONE: Summary = Summary {
+        counts: Counts::NONE,
+        unsure: false,
+    };
+
+    /// Tells of one more row.
+    pub(crate) fn add(&mut self, row: u32, state: RowState)
+        ensures { self.new.unsure ≡ (self.old.unsure || is_unsure state) }
+    {
+        self.counts.add(row, state);
+        self.unsure = is_unsure_with(self.unsure, state);
+    }
+}
+
+/// Whether a cell is neither given nor sure, or one before it.
+fn is_unsure_with(before: bool, state: RowState) -> bool
+    ensures { result ≡ (before || is_unsure state) }
+{
+    if before {
+        return true;
+    }
+    is_unsure(state)
+}
+
+/// Whether a cell is neither given nor sure.
+fn is_unsure(state: RowState) -> bool
+    ensures { result ≡ is_unsure state }
+{
+    match state {
+        RowState::Given | RowState::Sure => false,
+        RowState::Doubt | RowState::Nothing | RowState::NothingInDoubt => true,
+    }
+}
 
 /// How many cells have each state, and the first rows that are worth a look.
 #[derive(Clone, Copy, Debug)]
-pub struct Summary {
+pub struct Counts {
     pub given: u32,
     pub sure: u32,
     pub doubt: u32,
     pub nothing: u32,
     pub nothing_in_doubt: u32,
     /// The first rows in doubt, from 1, and 0 where there are fewer.
-    pub doubtful: [u32; Summary::SHOWN],
+    pub doubtful: [u32; Counts::SHOWN],
 }
 
-impl Summary {
+impl Counts {
     /// How many rows in doubt are told.
     pub const SHOWN: usize = 10;
 
     /// Of no rows.
-    pub const NONE: Summary = Summary {
+    const NONE: Counts = Counts {
         given: 0,
         sure: 0,
         doubt: 0,
         nothing: 0,
         nothing_in_doubt: 0,
-        doubtful: [0; Summary::SHOWN],
+        doubtful: [0; Counts::SHOWN],
     };
 
     /// Counts one more row.
-    pub(crate) fn add(&mut self, row: u32, state: RowState) {
+    fn add(&mut self, row: u32, state: RowState) {
         match state {
             RowState::Given => self.given = self.given.saturating_add(1),
             RowState::Sure => self.sure = self.sure.saturating_add(1),
@@ -46,7 +93,7 @@ impl Summary {
 
     /// Notes a row in doubt, where there is room for it.
     fn note(&mut self, row: u32) {
-        for i in 0..Summary::SHOWN {
+        for i in 0..Counts::SHOWN {
             if self.doubtful[i] == 0 {
                 self.doubtful[i] = row;
                 return;

@@ -15,6 +15,7 @@ use Rattle.fill_tokens.specs.Span.{Begins}
 use Rattle.fill_tokens.specs.Place.{seq_cmp}
 use Rattle.fill_tokens.specs.declared.token.Token.{Token}
 use Rattle.fill_tokens.proofs.CountLaws.{count_unique}
+use Rattle.fill_tokens.specs.declared.token_set.TokenSet.{TokenSet}
 use Rattle.fill_text.specs.Lists.{Lists}
 use Rattle.fill_text.proofs.ListsLaws.{lists_append}
 use Rattle.fill_text.proofs.ListReads.{contains_read, read_contains}
@@ -244,9 +245,9 @@ module _ (sheet : SheetData) (inside outside : List ℕ) where
   pub seqs_none : (column : ℕ) (seqs : List (List Token)) (old : List Kept) → Keeps sheet inside outside old old (OfSeqs column seqs 0)
   seqs_none column seqs old = keeps_none (OfSeqs column seqs 0) old (λ l h. let u = h.1.1 in omega arith)
 
-  pub seqs_more : (profile column : ℕ) (seqs : List (List Token)) (m : ℕ) (r : List Token) (old mid new : List Kept) → Lists seq_cmp (IsTested profile) seqs → slice_get seqs m ≡ Some r →
+  pub seqs_more : (token_set : TokenSet) (column : ℕ) (seqs : List (List Token)) (m : ℕ) (r : List Token) (old mid new : List Kept) → Lists seq_cmp (IsTested token_set) seqs → slice_get seqs m ≡ Some r →
       Keeps sheet inside outside old mid (OfSeqs column seqs m) → Keeps sheet inside outside mid new (OfLeast column r 4) → Keeps sheet inside outside old new (OfSeqs column seqs (m + 1))
-  seqs_more profile column seqs m r old mid new lists at a b =
+  seqs_more token_set column seqs m r old mid new lists at a b =
       keeps_then (OfSeqs column seqs m) (OfLeast column r 4) (OfSeqs column seqs (m + 1)) old mid new a b less split
       (λ l p. (p.0, (p.1.0, (let u = p.1.1 in omega arith), p.1.2), p.2, p.3))
       (λ l q. (q.0, (m, omega arith, at ∙ ap Some (sym q.1)), q.2, (let u = q.3 in omega arith)))
@@ -267,31 +268,31 @@ module _ (sheet : SheetData) (inside outside : List ℕ) where
             inr (h.0, same, h.2, (let u = h.3 in omega arith)))
       ]
 
-  pub seqs_all : (profile column : ℕ) (seqs : List (List Token)) (m : ℕ) (old new : List Kept) → Lists seq_cmp (IsTested profile) seqs → m ≡ length seqs →
-      Keeps sheet inside outside old new (OfSeqs column seqs m) → Keeps sheet inside outside old new (OfColumn profile column)
-  seqs_all profile column seqs m old new lists e = keeps_same (OfSeqs column seqs m) (OfColumn profile column) old new
+  pub seqs_all : (token_set : TokenSet) (column : ℕ) (seqs : List (List Token)) (m : ℕ) (old new : List Kept) → Lists seq_cmp (IsTested token_set) seqs → m ≡ length seqs →
+      Keeps sheet inside outside old new (OfSeqs column seqs m) → Keeps sheet inside outside old new (OfColumn token_set column)
+  seqs_all token_set column seqs m old new lists e = keeps_same (OfSeqs column seqs m) (OfColumn token_set column) old new
       (λ l p. (p.0, (lists.exact l.seq).0 (contains_read seqs p.1.0 l.seq p.1.2), p.2, p.3))
       (λ l q. let c = read_contains seqs l.seq ((lists.exact l.seq).1 q.1) in (q.0, (c.0, (let u = c.1 in omega arith), c.2), q.2, q.3))
 
   -- columns, one more at a time
-  pub columns_none : (profile : ℕ) (columns : List ℕ) (old : List Kept) → Keeps sheet inside outside old old (OfColumns profile columns 0)
-  columns_none profile columns old = keeps_none (OfColumns profile columns 0) old (λ l h. let u = h.0.1 in omega arith)
+  pub columns_none : (token_set : TokenSet) (columns : List ℕ) (old : List Kept) → Keeps sheet inside outside old old (OfColumns token_set columns 0)
+  columns_none token_set columns old = keeps_none (OfColumns token_set columns 0) old (λ l h. let u = h.0.1 in omega arith)
 
-  pub columns_more : (profile : ℕ) (columns : List ℕ) (m column : ℕ) (old mid new : List Kept) → IsStrictlyIncreasing columns → slice_get columns m ≡ Some column →
-      Keeps sheet inside outside old mid (OfColumns profile columns m) → Keeps sheet inside outside mid new (OfColumn profile column) → Keeps sheet inside outside old new (OfColumns profile columns (m + 1))
-  columns_more profile columns m column old mid new rises at a b =
-      keeps_then (OfColumns profile columns m) (OfColumn profile column) (OfColumns profile columns (m + 1)) old mid new a b less split
+  pub columns_more : (token_set : TokenSet) (columns : List ℕ) (m column : ℕ) (old mid new : List Kept) → IsStrictlyIncreasing columns → slice_get columns m ≡ Some column →
+      Keeps sheet inside outside old mid (OfColumns token_set columns m) → Keeps sheet inside outside mid new (OfColumn token_set column) → Keeps sheet inside outside old new (OfColumns token_set columns (m + 1))
+  columns_more token_set columns m column old mid new rises at a b =
+      keeps_then (OfColumns token_set columns m) (OfColumn token_set column) (OfColumns token_set columns (m + 1)) old mid new a b less split
       (λ l p. ((p.0.0, (let u = p.0.1 in omega arith), p.0.2), p.1, p.2, p.3))
       (λ l q. ((m, omega arith, at ∙ ap Some (sym q.0)), q.1, q.2, q.3))
     where
-      less : (x y : Literal) → OfColumns profile columns m x → OfColumn profile column y → literal_cmp x y ≡ Less
+      less : (x y : Literal) → OfColumns token_set columns m x → OfColumn token_set column y → literal_cmp x y ≡ Less
       less x y p q =
           let before : get_or columns p.0.0 0 < get_or columns m 0 = AllPairs-from_increasing columns rises p.0.0 m 0 p.0.1 (slice_get_within columns m column at) in
           let first : get_or columns p.0.0 0 ≡ x.column = get_or_from_slice_get columns p.0.0 x.column 0 p.0.2 in
           let second : get_or columns m 0 ≡ y.column = get_or_from_slice_get columns m column 0 at ∙ sym q.0 in
           less_column x y (omega arith)
 
-      split : (l : Literal) → OfColumns profile columns (m + 1) l → OfColumns profile columns m l ⊎ OfColumn profile column l
+      split : (l : Literal) → OfColumns token_set columns (m + 1) l → OfColumns token_set columns m l ⊎ OfColumn token_set column l
       split l h = elim (cases_lt h.0.0 m) [
         | inl lt ↦ inl ((h.0.0, lt, h.0.2), h.1, h.2, h.3)
         | inr ge ↦
@@ -300,9 +301,9 @@ module _ (sheet : SheetData) (inside outside : List ℕ) where
       ]
 
   pub columns_all : (settings : Settings) (m : ℕ) (old new : List Kept) → old ≡ [] → m ≡ length sheet.inputs →
-      Keeps sheet inside outside old new (OfColumns settings.profile sheet.inputs m) → AreKept settings sheet inside outside new
+      Keeps sheet inside outside old new (OfColumns settings.profile.tokens sheet.inputs m) → AreKept settings sheet inside outside new
   columns_all settings m old new empty e a =
-      let b = keeps_same (OfColumns settings.profile sheet.inputs m) (IsLiteral settings sheet) old new
+      let b = keeps_same (OfColumns settings.profile.tokens sheet.inputs m) (IsLiteral settings sheet) old new
       (λ l p. record { input = contains_read sheet.inputs p.0.0 l.column p.0.2; tested = p.1; some = p.2; few = p.3 })
       (λ l q. let c = read_contains sheet.inputs l.column q.input in ((c.0, (let u = c.1 in omega arith), c.2), q.tested, q.some, q.few)) a in
       let same : new ≡ b.0 = b.1 ∙ ap (λ z. z ++ b.0) empty in

@@ -5,6 +5,7 @@ use Rattle.std.specs.Int.{bit_at}
 use Rattle.std.specs.declared.cmp.Ordering.TheVariants.{Less}
 use Rattle.fill_text.specs.Data.{SheetData}
 use Rattle.fill_tokens.specs.declared.token.Token.{Token}
+use Rattle.fill_tokens.specs.declared.token_set.TokenSet.{TokenSet}
 use Rattle.fill_tree.specs.Guard.{LiteralHolds}
 use Rattle.fill_tree.specs.Separate.{IsTested, literal_cmp}
 use Rattle.fill_tree.specs.declared.guard.Literal.{Literal}
@@ -65,10 +66,10 @@ OfSigns column r least l = (l.column ≡ column) × (l.seq ≡ r) × (l.least �
 abbrev pub OfSeqs : ℕ → List (List Token) → ℕ → Literal → Type 0
 OfSeqs column seqs m l = (l.column ≡ column) × ((i : ℕ) × (i < m) × (slice_get seqs i ≡ Some l.seq)) × (1 ≤ l.least) × (l.least ≤ 3)
 
--- .. of the column and a sequence of the profile
-abbrev pub OfColumn : ℕ → ℕ → Literal → Type 0
-OfColumn profile column l = (l.column ≡ column) × IsTested profile l.seq × (1 ≤ l.least) × (l.least ≤ 3)
+-- .. of the column and a sequence of the set
+abbrev pub OfColumn : TokenSet → ℕ → Literal → Type 0
+OfColumn token_set column l = (l.column ≡ column) × IsTested token_set l.seq × (1 ≤ l.least) × (l.least ≤ 3)
 
 -- .. of one of the first m columns
-abbrev pub OfColumns : ℕ → List ℕ → ℕ → Literal → Type 0
-OfColumns profile columns m l = ((i : ℕ) × (i < m) × (slice_get columns i ≡ Some l.column)) × IsTested profile l.seq × (1 ≤ l.least) × (l.least ≤ 3)
+abbrev pub OfColumns : TokenSet → List ℕ → ℕ → Literal → Type 0
+OfColumns token_set columns m l = ((i : ℕ) × (i < m) × (slice_get columns i ≡ Some l.column)) × IsTested token_set l.seq × (1 ≤ l.least) × (l.least ≤ 3)

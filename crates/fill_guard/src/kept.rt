@@ -18,7 +18,7 @@ use crate::read::{counts, read_cells};
 use crate::sequences::sequences;
 use fill_sheet::Sheet;
 use fill_text::NoMemory;
-use fill_tokens::Seq;
+use fill_tokens::{Seq, TokenSet};
 use fill_tree::{Literal, Settings};
 use std::alloc::Global;
 
@@ -153,15 +153,15 @@ fn keep_sequences(
     kept: &mut Vec<Kept>,
     column: u32,
     seqs: &[Seq],
-    profile: u8,
+    token_set: TokenSet,
     inside: &[Pieces],
     outside: &[Pieces],
 ) -> Result<(), NoMemory>
-    requires seqs { Lists seq_cmp (IsTested profile) seqs.now }
+    requires seqs { Lists seq_cmp (IsTested token_set) seqs.now }
     requires few { length outside.now ≤ 64 }
-    ensures { OnOk result (KeepsRead column inside.now outside.now kept.old.items kept.new.items (OfColumn profile column)) }
+    ensures { OnOk result (KeepsRead column inside.now outside.now kept.old.items kept.new.items (OfColumn token_set column)) }
 {
-    let _profile = profile;
+    let _set = token_set;
     for i in 0..seqs.len() {
         keep_sequence(alloc, kept, column, &seqs[i], inside, outside)?;
     }
@@ -175,23 +175,23 @@ fn keep_column(
     sheet: &Sheet,
     column: u32,
     seqs: &[Seq],
-    profile: u8,
+    token_set: TokenSet,
     inside: &[u32],
     outside: &[u32],
 ) -> Result<(), NoMemory>
     requires input { Contains sheet.now.inputs column }
-    requires seqs { Lists seq_cmp (IsTested profile) seqs.now }
+    requires seqs { Lists seq_cmp (IsTested token_set) seqs.now }
     requires inside { All (IsRowOf sheet.now) inside.now }
     requires outside { All (IsRowOf sheet.now) outside.now }
     requires few { length outside.now ≤ 64 }
-    ensures { OnOk result (Keeps sheet.now inside.now outside.now kept.old.items kept.new.items (OfColumn profile column)) }
+    ensures { OnOk result (Keeps sheet.now inside.now outside.now kept.old.items kept.new.items (OfColumn token_set column)) }
 {
     if has_set(kept, NO_ROWS) {
         return Ok(());
     }
     let inside = read_cells(alloc, sheet, column, inside)?;
     let outside = read_cells(alloc, sheet, column, outside)?;
-    keep_sequences(alloc, kept, column, seqs, profile, &inside, &outside)
+    keep_sequences(alloc, kept, column, seqs, token_set, &inside, &outside)
 }
 
 /// The literals of all input columns that can stand in the least guard under the settings, in order.
@@ -208,13 +208,13 @@ pub fn kept_literals(
     ensures { IfOk result (λ kept. AreKept settings.now sheet.now inside.now outside.now kept.items) }
 {
     let _rows = sheet.rows();
-    let profile = settings.profile;
-    let seqs = sequences(alloc, profile)?;
+    let token_set = settings.profile.tokens;
+    let seqs = sequences(alloc, token_set)?;
     let inputs = sheet.inputs();
     let mut kept = Vec::new(alloc);
     for i in 0..inputs.len() {
         keep_column(
-            alloc, &mut kept, sheet, inputs[i], &seqs, profile, inside, outside,
+            alloc, &mut kept, sheet, inputs[i], &seqs, token_set, inside, outside,
         )?;
     }
     Ok(kept)

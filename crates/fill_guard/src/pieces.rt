@@ -5,12 +5,9 @@ ghost use Rattle.fill_guard.specs.Matches.{AreBelow, IsFew, IsJoined, IsMatchCou
 
 use fill_spans::Spans;
 use fill_text::{NoMemory, Text};
-use fill_tokens::Seq;
+use fill_tokens::{Seq, TokenSet};
 use std::alloc::Global;
 use std::marker::Model;
-
-/// The profile that has all tokens.
-const ALL_TOKENS: u8 = 2;
 
 /// How many matches a literal asks for at most.
 const MOST: usize = 3;
@@ -23,12 +20,13 @@ pub struct Pieces {
 
 impl Model for Pieces {
     ghost use Rattle.std.specs.Prelude.{◌≡◌, ℕ, List};
+    ghost use Rattle.fill_tokens.specs.declared.token_set.TheConstants.TokenSet.{ALL};
 
     ghost Value = { List ℕ };
 
     ghost view = { λ pieces. pieces.spans.text };
 
-    ghost invariant = { λ pieces. pieces.spans.profile ≡ 2 };
+    ghost invariant = { λ pieces. pieces.spans.token_set ≡ ALL };
 }
 
 impl Pieces {
@@ -36,7 +34,7 @@ impl Pieces {
     pub fn new(alloc: Global, t: &Text) -> Result<Pieces, NoMemory>
         ensures { IfOk result (λ pieces. pieces ≡ t.now) }
     {
-        let spans = Spans::new(alloc, t, ALL_TOKENS)?;
+        let spans = Spans::new(alloc, t, TokenSet::ALL)?;
         Ok(Pieces { spans })
     }
 

@@ -1,14 +1,14 @@
 //! The sequences that literals test for.
 ghost use Rattle.std.specs.Prelude.{◌≡◌, ◌≢◌, ◌↔◌, ◌+◌, ◌++◌, ◌∷◌, [], IfOk, OnOk, IsTrue};
 ghost use Rattle.fill_tokens.specs.Place.{seq_cmp};
-ghost use Rattle.fill_tokens.specs.Profile.{IsTokenOf, token_count};
+ghost use Rattle.fill_tokens.specs.TokenSet.{IsTokenOf};
+ghost use Rattle.fill_tokens.specs.declared.token.TheConstants.{TOKEN_COUNT};
 ghost use Rattle.fill_text.specs.Lists.{Lists, Adds};
 ghost use Rattle.fill_tree.specs.Separate.{IsTested};
-ghost use Rattle.fill_guard.specs.Listed.{OfOne, OfPair, OfSecond, OfTwo};
+ghost use Rattle.fill_guard.specs.Listed.{IsOne, OfOne, OfPair, OfSecond, OfTwo};
 
-use fill_spans::token_at;
 use fill_text::NoMemory;
-use fill_tokens::{Seq, Token, token_count};
+use fill_tokens::{Seq, TOKEN_COUNT, Token, TokenSet, token_at};
 use std::alloc::Global;
 
 fn put(out: &mut Vec<Seq>, seq: Seq) -> Result<(), NoMemory>
@@ -18,12 +18,22 @@ fn put(out: &mut Vec<Seq>, seq: Seq) -> Result<(), NoMemory>
     Ok(())
 }
 
-/// Puts the sequences of one token to the list.
-fn push_ones(out: &mut Vec<Seq>, profile: u8) -> Result<(), NoMemory>
-    ensures { OnOk result (Adds seq_cmp out.old.items out.new.items (OfOne (token_count profile + 1))) }
+/// Puts the sequence of the token to the list, where the set has it.
+fn push_one(out: &mut Vec<Seq>, token: Token, token_set: TokenSet) -> Result<(), NoMemory>
+    ensures { OnOk result (Adds seq_cmp out.old.items out.new.items (IsOne token_set token)) }
 {
-    for i in 0..token_count(profile) {
-        put(out, Seq::one(token_at(i)))?;
+    if !token.is_of(token_set) {
+        return Ok(());
+    }
+    put(out, Seq::one(token))
+}
+
+/// Puts the sequences of one token to the list.
+fn push_ones(out: &mut Vec<Seq>, token_set: TokenSet) -> Result<(), NoMemory>
+    ensures { OnOk result (Adds seq_cmp out.old.items out.new.items (OfOne token_set (TOKEN_COUNT + 1))) }
+{
+    for i in 0..TOKEN_COUNT {
+        push_one(out, token_at(i), token_set)?;
     }
     Ok(())
 }
@@ -40,12 +50,18 @@ fn may_stand(first: Token, second: Token) -> bool
 }
 
 /// Puts the sequence of two tokens to the list, where a literal may have it.
-fn push_pair(out: &mut Vec<Seq>, first: Token, second: Token, profile: u8) -> Result<(), NoMemory>
-    requires first { IsTokenOf profile first }
-    requires second { IsTokenOf profile second }
-    ensures { OnOk result (Adds seq_cmp out.old.items out.new.items (OfPair profile first second)) }
+fn push_pair(
+    out: &mut Vec<Seq>,
+    first: Token,
+    second: Token,
+    token_set: TokenSet,
+) -> Result<(), NoMemory>
+    requires { IsTokenOf token_set first }
+    ensures { OnOk result (Adds seq_cmp out.old.items out.new.items (OfPair token_set first second)) }
 {
-    let _profile = profile;
+    if !second.is_of(token_set) {
+        return Ok(());
+    }
     if !may_stand(first, second) {
         return Ok(());
     }
@@ -53,32 +69,34 @@ fn push_pair(out: &mut Vec<Seq>, first: Token, second: Token, profile: u8) -> Re
 }
 
 /// Puts the sequences of two tokens that begin with this one to the list.
-fn push_seconds(out: &mut Vec<Seq>, first: Token, profile: u8) -> Result<(), NoMemory>
-    requires { IsTokenOf profile first }
-    ensures { OnOk result (Adds seq_cmp out.old.items out.new.items (OfSecond profile first (token_count profile + 1))) }
+fn push_seconds(out: &mut Vec<Seq>, first: Token, token_set: TokenSet) -> Result<(), NoMemory>
+    ensures { OnOk result (Adds seq_cmp out.old.items out.new.items (OfSecond token_set first (TOKEN_COUNT + 1))) }
 {
-    for i in 0..token_count(profile) {
-        push_pair(out, first, token_at(i), profile)?;
+    if !first.is_of(token_set) {
+        return Ok(());
+    }
+    for i in 0..TOKEN_COUNT {
+        push_pair(out, first, token_at(i), token_set)?;
     }
     Ok(())
 }
 
 /// Puts the sequences of two tokens to the list.
-fn push_twos(out: &mut Vec<Seq>, profile: u8) -> Result<(), NoMemory>
-    ensures { OnOk result (Adds seq_cmp out.old.items out.new.items (OfTwo profile (token_count profile + 1))) }
+fn push_twos(out: &mut Vec<Seq>, token_set: TokenSet) -> Result<(), NoMemory>
+    ensures { OnOk result (Adds seq_cmp out.old.items out.new.items (OfTwo token_set (TOKEN_COUNT + 1))) }
 {
-    for i in 0..token_count(profile) {
-        push_seconds(out, token_at(i), profile)?;
+    for i in 0..TOKEN_COUNT {
+        push_seconds(out, token_at(i), token_set)?;
     }
     Ok(())
 }
 
-/// All sequences that a literal may test for under the profile, in order.
-pub fn sequences(alloc: Global, profile: u8) -> Result<Vec<Seq>, NoMemory>
-    ensures { IfOk result (λ seqs. Lists seq_cmp (IsTested profile) seqs.items) }
+/// All sequences that a literal may test for by tokens of the set, in order.
+pub fn sequences(alloc: Global, token_set: TokenSet) -> Result<Vec<Seq>, NoMemory>
+    ensures { IfOk result (λ seqs. Lists seq_cmp (IsTested token_set) seqs.items) }
 {
     let mut out = Vec::new(alloc);
-    push_ones(&mut out, profile)?;
-    push_twos(&mut out, profile)?;
+    push_ones(&mut out, token_set)?;
+    push_twos(&mut out, token_set)?;
     Ok(out)
 }

@@ -11,11 +11,11 @@ use fill_text::NoMemory;
 use std::alloc::Global;
 use std::collections::HashMap;
 
-/// How many answers a table keeps at most. A length of a table is even, as the two slots of a pair are neighbours.
+/// The most slots of a table. It is even, as `SETS_AN_EDGE` is, because the two slots of a pair are neighbours.
 pub(crate) const MOST: usize = 262_144;
 
-/// How many answers about pairs of sets are kept for each edge. So many for each pair of nodes take longer to clear than most
-/// small graphs to meet.
+/// The slots of a table for each edge. With as many for each pair of nodes, a table takes longer to clear than most small
+/// graphs take to meet.
 const SETS_AN_EDGE: usize = 4;
 
 /// What was told of a pair of sets of places: whether they may have something in common, or, in a table of its own, whether

@@ -74,16 +74,16 @@ part_value sheet tables row (whole s) h v = ((λ x. x), (λ x. x))
 part_value sheet tables row (sub s p q) h v = ((λ x. x), (λ x. x))
 
 -- what serves for a tree serves for one that is no less and has the same value
-pub source_for : (on : OnRow) (a b : SourceTree) → AtMost (source_rank b a) → ((v : List ℕ) → SourceIs on.sheet.now on.tables.now on.row b v ↔ SourceIs on.sheet.now on.tables.now on.row a v) →
+pub source_for : (on : OnRow) (a b : SourceTree) → AtMost (source_rank on.prices.now b a) → ((v : List ℕ) → SourceIs on.sheet.now on.tables.now on.row b v ↔ SourceIs on.sheet.now on.tables.now on.row a v) →
     (x : ValuedSource) → (sources_on on).For b x → (sources_on on).For a x
 source_for on a b le same x h = (
-  at_most-trans source_rank source_rank-total source_rank-exact _ b a h.0 le,
+  at_most-trans (source_rank on.prices.now) (source_rank-total on.prices.now) (source_rank-exact on.prices.now) _ b a h.0 le,
   alike (SourceIs on.sheet.now on.tables.now on.row b) (SourceIs on.sheet.now on.tables.now on.row a) x.text same h.1,
 )
 
-pub atom_for : (on : OnRow) (a b : AtomTree) → AtMost (atom_rank b a) → ((v : List ℕ) → AtomIs on.sheet.now on.tables.now on.row b v ↔ AtomIs on.sheet.now on.tables.now on.row a v) →
+pub atom_for : (on : OnRow) (a b : AtomTree) → AtMost (atom_rank on.prices.now b a) → ((v : List ℕ) → AtomIs on.sheet.now on.tables.now on.row b v ↔ AtomIs on.sheet.now on.tables.now on.row a v) →
     (x : ValuedAtom) → (atoms_on on).For b x → (atoms_on on).For a x
 atom_for on a b le same x h = (
-  at_most-trans atom_rank atom_rank-total atom_rank-exact _ b a h.0 le,
+  at_most-trans (atom_rank on.prices.now) (atom_rank-total on.prices.now) (atom_rank-exact on.prices.now) _ b a h.0 le,
   alike (AtomIs on.sheet.now on.tables.now on.row b) (AtomIs on.sheet.now on.tables.now on.row a) x.text same h.1,
 )

@@ -3,6 +3,7 @@ use Rattle.std.proofs.Common.{◌≡◌, ◌≢◌, ◌⊎◌, inl, inr, ℕ, Li
 use Rattle.fill_text.specs.Orders.{AtMost}
 use Rattle.fill_tokens.specs.Value.{HasValue}
 use Rattle.fill_tokens.specs.declared.place.Place.{Place}
+use Rattle.fill_tokens.specs.declared.prices.Prices.{Prices}
 use Rattle.fill_tree.specs.Meaning.{program_tree, source_tree}
 use Rattle.fill_tree.specs.Tree.{SourceTree, AtomTree, col, select, constant, whole, sub}
 use Rattle.fill_tree.specs.Value.{IsValue, SourceIs, ConditionsAre}
@@ -29,11 +30,11 @@ use Rattle.fill_object.specs.declared.valued.ValuedSource.{ValuedSource}
 use Rattle.fill_object.proofs.Alike.{same_value, whole_alike, piece_alike, places_alike, lookup_alike, source_for, atom_for}
 use Rattle.fill_object.proofs.Orders.{place_rank-total, place_rank-exact, whole-at_most, sub-at_most, select-at_most}
 
-place-itself : (p : Place) → AtMost (place_rank p p)
-place-itself p = at_most-itself place_rank place_rank-total place_rank-exact p
+place-itself : (prices : Prices) (p : Place) → AtMost (place_rank prices p p)
+place-itself prices p = at_most-itself (place_rank prices) (place_rank-total prices) (place_rank-exact prices) p
 
-source-itself : (x : SourceTree) → AtMost (source_rank x x)
-source-itself x = at_most-itself source_rank source_rank-total source_rank-exact x
+source-itself : (prices : Prices) (x : SourceTree) → AtMost (source_rank prices x x)
+source-itself prices x = at_most-itself (source_rank prices) (source_rank-total prices) (source_rank-exact prices) x
 
 module _ (on : OnRow) where
   abbrev Is : SourceTree → List ℕ → Type 0
@@ -54,7 +55,7 @@ module _ (on : OnRow) where
         let same = same_value (Is (source_tree x.source)) (Is y) x.text right found.2.1 in (
           whole (source_tree x.source),
           (x, found.1, refl),
-          atom_for on (whole y) (whole (source_tree x.source)) (whole-at_most (source_tree x.source) y found.2.0) (whole_alike (Is (source_tree x.source)) (Is y) same),
+          atom_for on (whole y) (whole (source_tree x.source)) (whole-at_most on.prices.now (source_tree x.source) y found.2.0) (whole_alike (Is (source_tree x.source)) (Is y) same),
         )
     fits_whole (sub y p q) h = absurd h.1
 
@@ -76,13 +77,13 @@ module _ (on : OnRow) where
           let same = same_value (Is (source_tree x.source)) (Is y) x.text right found.2.1 in (
             sub (source_tree x.source) p q,
             (x, found.1, (refl, h.1.1, h.1.2)),
-            atom_for on (sub y p q) (sub (source_tree x.source) p q) (sub-at_most (source_tree x.source) y p q p q found.2.0 (place-itself p) (place-itself q))
+            atom_for on (sub y p q) (sub (source_tree x.source) p q) (sub-at_most on.prices.now (source_tree x.source) y p q p q found.2.0 (place-itself on.prices.now p) (place-itself on.prices.now q))
                 (piece_alike (Is (source_tree x.source)) (Is y) same p q),
           )
 
   -- pieces of one source
   module _ (x : SourceTree) (o : Option (List ℕ)) (is : IsValue (SourceIs on.sheet.now on.tables.now on.row x) o) (l r : ℕ) (lefts rights : List Spot)
-      (from : AreLeasts (spots_in (text_or_empty o)) (PlaceStands on.arena.now l) lefts) (to : AreLeasts (spots_in (text_or_empty o)) (PlaceStands on.arena.now r) rights) where
+      (from : AreLeasts (spots_in on.prices.now (text_or_empty o)) (PlaceStands on.arena.now l) lefts) (to : AreLeasts (spots_in on.prices.now (text_or_empty o)) (PlaceStands on.arena.now r) rights) where
     pub between_of : (a : AtomTree) → IsPieceBetweenSpots x lefts rights a → IsPieceOf on.arena.now x l r a
     between_of a h =
         let p = h.0 in
@@ -98,7 +99,7 @@ module _ (on : OnRow) where
         let right = to.least q h.2 in
         let same_left = same_value (HasValue left.0.place (text_or_empty o)) (HasValue p (text_or_empty o)) left.0.at (from.each left.1.0 left.0 left.1.1).1 left.2.1 in
         let same_right = same_value (HasValue right.0.place (text_or_empty o)) (HasValue q (text_or_empty o)) right.0.at (to.each right.1.0 right.0 right.1.1).1 right.2.1 in
-        let served = atom_for on (sub x p q) (sub x left.0.place right.0.place) (sub-at_most x x left.0.place right.0.place p q (source-itself x) left.2.0 right.2.0)
+        let served = atom_for on (sub x p q) (sub x left.0.place right.0.place) (sub-at_most on.prices.now x x left.0.place right.0.place p q (source-itself on.prices.now x) left.2.0 right.2.0)
         (places_alike (Is x) o is left.0.place right.0.place p q same_left same_right) in (
           sub x left.0.place right.0.place,
           (left.0, left.1, (right.0, right.1, refl)),
@@ -117,7 +118,7 @@ module _ (on : OnRow) where
         let found = are.least q h.4 in
         let r = program_tree found.0 in
         let made = select i.column i.table i.key r in
-        let served = source_for on (select i.column i.table i.key q) (select i.column i.table i.key r) (select-at_most i.column i.table i.key r q found.2.at_most)
+        let served = source_for on (select i.column i.table i.key q) (select i.column i.table i.key r) (select-at_most on.prices.now i.column i.table i.key r q found.2.at_most)
         (lookup_alike on.tables.now i.column i.table i.key (ConditionsAre on.sheet.now on.tables.now on.row r) (ConditionsAre on.sheet.now on.tables.now on.row q) found.2.texts) in (
           select i.column i.table i.key r,
           (found.0, found.1, (found.2.part h.3, refl)),

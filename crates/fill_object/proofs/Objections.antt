@@ -46,13 +46,13 @@ module _ (on : OnRow) (g nodes : ℕ) (edges : List Edge) (told : Option (List �
   pub all_answer : ((p : Atoms) → Walks p on.arena.now edges (nodes - 1) 0 → RestAgrees on said w p) → (p : Atoms) → ProgramStands on.arena.now g p → Answers on.sheet.now on.tables.now on.row told p
   all_answer all p h = answers_of p (all p (walk_of p h))
 
-  pub objection : (x : Objection) → IsBest program_cmp (λ p. Walks p on.arena.now edges (nodes - 1) 0 × ¬ (RestAgrees on said w p)) (program_tree x.program) →
-      IsValue (ProgramIs on.sheet.now on.tables.now on.row (program_tree x.program)) x.text → IsObjection on.arena.now g on.sheet.now on.tables.now on.row told x
+  pub objection : (x : Objection) → IsBest (program_cmp on.prices.now) (λ p. Walks p on.arena.now edges (nodes - 1) 0 × ¬ (RestAgrees on said w p)) (program_tree x.program) →
+      IsValue (ProgramIs on.sheet.now on.tables.now on.row (program_tree x.program)) x.text → IsObjection on.prices.now on.arena.now g on.sheet.now on.tables.now on.row told x
   objection x best value = record {
     least = record {
       has = record { stands = (nodes, edges, is, best.has.0); otherwise = λ a. best.has.1 (agrees_of (program_tree x.program) a) };
       least = λ q o.
-          not_before (program_cmp (program_tree x.program) q) (program_cmp q (program_tree x.program)) (program_antisymm q (program_tree x.program))
+          not_before (program_cmp on.prices.now (program_tree x.program) q) (program_cmp on.prices.now q (program_tree x.program)) (program_antisymm on.prices.now q (program_tree x.program))
           (best.least q (walk_of q o.stands, λ a. o.otherwise (answers_of q a)));
     };
     value = value;

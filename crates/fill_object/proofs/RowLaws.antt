@@ -22,11 +22,11 @@ use Rattle.fill_object.proofs.Orders.{row_rank-total, row_rank-exact, same_row-a
 
 module _ (on : OnRow) where
   pub row_itself : (x : Atoms) → IsRowFor on x x
-  row_itself x = record { at_most = at_most-itself row_rank row_rank-total row_rank-exact x; part = λ h. h; texts = λ ts. ((λ h. h), (λ h. h)) }
+  row_itself x = record { at_most = at_most-itself (row_rank on.prices.now) (row_rank-total on.prices.now) (row_rank-exact on.prices.now) x; part = λ h. h; texts = λ ts. ((λ h. h), (λ h. h)) }
 
   pub row_then : (x y z : Atoms) → IsRowFor on y x → IsRowFor on z y → IsRowFor on z x
   row_then x y z h l = record {
-    at_most = at_most-trans row_rank row_rank-total row_rank-exact x y z h.at_most l.at_most;
+    at_most = at_most-trans (row_rank on.prices.now) (row_rank-total on.prices.now) (row_rank-exact on.prices.now) x y z h.at_most l.at_most;
     part = λ p. h.part (l.part p);
     texts = λ ts. ((λ a. (l.texts ts).0 ((h.texts ts).0 a)), (λ a. (h.texts ts).1 ((l.texts ts).1 a)));
   }
@@ -70,7 +70,7 @@ module _ (on : OnRow) where
 
   constant_front : (t : List ℕ) (p q : Atoms) → IsRowFor on q p → IsRowFor on (more (constant t) q) (more (constant t) p)
   constant_front t p q h = record {
-    at_most = same_row-at_most (constant t) p q h.at_most;
+    at_most = same_row-at_most on.prices.now (constant t) p q h.at_most;
     part = later (constant t) (constant t) p q (λ z. z) h.part;
     texts = front_alike (Is (constant t)) (Is (constant t)) (Are p) (Are q) (λ v. ((λ z. z), (λ z. z))) h.texts;
   }
@@ -103,7 +103,7 @@ module _ (on : OnRow) where
         let own = atom_tree x.0.atom in
         let row = program_tree r.0 in
         let serves : IsRowFor on (more a q) (more (atom_tree x.0.atom) (program_tree r.0)) = record {
-          at_most = part_row-at_most own a row q right.0.0 part x.2.0 r.2.at_most;
+          at_most = part_row-at_most on.prices.now own a row q right.0.0 part x.2.0 r.2.at_most;
           part = later own a row q (λ z. right.0.0) r.2.part;
           texts = front_alike (Is own) (Is a) (Are row) (Are q) (condition_same own a right.0.0 part x.0.text right.1 x.2.1) r.2.texts;
         } in

@@ -19,4 +19,4 @@ pub record IsOnRow (on : OnRow) : Type 0 where
 pub record AreKnown (on : OnRow) (known : Known) : Type 0 where
   pub sources : (s : ℕ) (o : _) → get nat_eq known.sources s ≡ Some o → AreLeasts (sources_on on) (SourceStands on.arena.now s) o.value.items
   pub parts : (s : ℕ) (o : _) → get nat_eq known.parts s ≡ Some o → AreLeasts (atoms_on on) (PartStands on.arena.now s) o.value.items
-  pub spots : AreSpotted on.arena.now known.spots
+  pub spots : AreSpotted on.prices.now on.arena.now known.spots

@@ -1,6 +1,7 @@
 -- The programs of a graph that answer otherwise on a row than was said, and the least of them.
 use Rattle.std.specs.Prelude.{ℕ, List, Option}
 use Rattle.fill_text.specs.Data.{SheetData, TableData}
+use Rattle.fill_tokens.specs.declared.prices.Prices.{Prices}
 use Rattle.fill_tree.specs.Chosen.{IsLeast}
 use Rattle.fill_tree.specs.Meaning.{program_tree}
 use Rattle.fill_tree.specs.Tree.{Atoms}
@@ -18,7 +19,7 @@ pub record Objects (c : List Entry) (g : ℕ) (sheet : SheetData) (tables : List
   pub stands : ProgramStands c g p
   pub otherwise : ¬ (Answers sheet tables row said p)
 
--- the program objects, and no program that does is before it; with its value on the row
-pub record IsObjection (c : List Entry) (g : ℕ) (sheet : SheetData) (tables : List TableData) (row : ℕ) (said : Option (List ℕ)) (o : Objection) : Type 0 where
-  pub least : IsLeast (Objects c g sheet tables row said) (program_tree o.program)
+-- the program objects, and no program that does is before it by the prices; with its value on the row
+pub record IsObjection (prices : Prices) (c : List Entry) (g : ℕ) (sheet : SheetData) (tables : List TableData) (row : ℕ) (said : Option (List ℕ)) (o : Objection) : Type 0 where
+  pub least : IsLeast prices (Objects c g sheet tables row said) (program_tree o.program)
   pub value : IsValue (ProgramIs sheet tables row (program_tree o.program)) o.text

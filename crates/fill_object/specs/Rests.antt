@@ -1,5 +1,6 @@
 -- The least rests of programs, from a node of a graph on, that answer what is wanted.
 use Rattle.std.specs.Prelude.{◌≡◌, ℕ, ◌<◌, ◌≤◌, ◌^◌, List, length, Option, None, Some, slice_get}
+use Rattle.fill_tokens.specs.declared.prices.Prices.{Prices}
 use Rattle.fill_tree.specs.Cost.{program_cost}
 use Rattle.fill_tree.specs.Meaning.{program_tree}
 use Rattle.fill_tree.specs.Order.{program_cmp}
@@ -31,7 +32,7 @@ pub record IsSearch (s : Search) : Type 0 where
   pub row : IsOnRow s.on
   pub atoms : AreAtoms s.on s.edges.now s.atoms.now
   pub onward : (k : ℕ) (e : Edge) → slice_get s.edges.now k ≡ Some e → (e.from < e.to) × (e.to ≤ s.last)
-  pub cheap : (p : Atoms) (at : ℕ) → Walks p s.on.arena.now s.edges.now s.last at → program_cost p < 2 ^ 64
+  pub cheap : (p : Atoms) (at : ℕ) → Walks p s.on.arena.now s.edges.now s.last at → program_cost s.on.prices.now p < 2 ^ 64
 
 -- a rest of a program from the node on
 abbrev pub RestStands : Search → ℕ → Atoms → Type 0
@@ -52,13 +53,13 @@ abbrev pub IsAlong : Search → ℕ → Edge → Atoms → Type 0
 IsAlong s n e p = (e.from ≡ n) × IsThen (AtomStands s.on.arena.now e.atoms) (RestStands s e.to) p
 
 -- of what has the first property and not the second the least one is kept; nothing is kept where all of it has both
-abbrev pub IsLeastOther : (Atoms → Type 0) → (Atoms → Type 0) → Option Program → Type 0
-IsLeastOther W A None = (p : Atoms) → W p → A p
-IsLeastOther W A (Some x) = IsBest program_cmp (λ p. W p × ¬ (A p)) (program_tree x)
+abbrev pub IsLeastOther : Prices → (Atoms → Type 0) → (Atoms → Type 0) → Option Program → Type 0
+IsLeastOther prices W A None = (p : Atoms) → W p → A p
+IsLeastOther prices W A (Some x) = IsBest (program_cmp prices) (λ p. W p × ¬ (A p)) (program_tree x)
 
 -- what was found is so
 abbrev pub IsFound : Search → Rest → Type 0
-IsFound s r = IsLeastOther (RestStands s r.node) (RestAgrees s.on s.said.now r.wanted) r.program
+IsFound s r = IsLeastOther s.on.prices.now (RestStands s r.node) (RestAgrees s.on s.said.now r.wanted) r.program
 
 pub record AreRests (s : Search) (rests : List Rest) : Type 0 where
   pub each : EachIn (IsFound s) rests

@@ -1,5 +1,6 @@
 -- What was found of places in texts.
 use Rattle.std.specs.Prelude.{List}
+use Rattle.fill_tokens.specs.declared.prices.Prices.{Prices}
 use Rattle.fill_arena.specs.Contents.{EachIn}
 use Rattle.fill_arena.specs.Stands.{PlaceStands}
 use Rattle.fill_arena.specs.declared.entry.Entry.{Entry}
@@ -9,8 +10,8 @@ use Rattle.fill_object.specs.declared.spots.Spotted.{Spotted}
 use Rattle.fill_object.specs.declared.spots.Spots.{Spots}
 
 -- the spots are the least places of the set in the text, by their values
-abbrev pub IsSpotted : List Entry → Spotted → Type 0
-IsSpotted c x = AreLeasts (spots_in x.text) (PlaceStands c x.set) x.spots.value.items
+abbrev pub IsSpotted : Prices → List Entry → Spotted → Type 0
+IsSpotted prices c x = AreLeasts (spots_in prices x.text) (PlaceStands c x.set) x.spots.value.items
 
-pub record AreSpotted (c : List Entry) (spots : Spots) : Type 0 where
-  pub each : EachIn (IsSpotted c) spots.found.items
+pub record AreSpotted (prices : Prices) (c : List Entry) (spots : Spots) : Type 0 where
+  pub each : EachIn (IsSpotted prices c) spots.found.items

@@ -31,7 +31,7 @@ pub(crate) fn put_atom(
     ensures { OnOk result (Gains (atoms_on on.now) (λ a. a ≡ atom_tree atom) kept.old.items kept.new.items) }
 {
     let text = atom_value(on.alloc, &atom, on.row, on.sheet, on.tables)?;
-    take(kept, ValuedAtom { atom, text })
+    take(on.prices, kept, ValuedAtom { atom, text })
 }
 
 /// Puts the wholes of sources that serve for all of a set.
@@ -105,8 +105,8 @@ fn put_pieces_of(
 {
     let empty = Text::new(on.alloc);
     let text = text_or(&source.text, &empty);
-    let from = known.spots.of(on.alloc, on.arena, lefts, text)?;
-    let to = known.spots.of(on.alloc, on.arena, rights, text)?;
+    let from = known.spots.of(on.alloc, on.prices, on.arena, lefts, text)?;
+    let to = known.spots.of(on.alloc, on.prices, on.arena, rights, text)?;
     put_between(on, &source.source, from.as_slice(), to.as_slice(), kept)
 }
 

@@ -16,7 +16,7 @@ use fill_eval::program_value;
 use fill_sheet::Sheet;
 use fill_tables::Tables;
 use fill_text::{NoMemory, Text};
-use fill_tree::Program;
+use fill_tree::{Prices, Program};
 use std::alloc::Global;
 
 /// A program that answers otherwise than was said, and its value on the row.
@@ -26,12 +26,13 @@ pub struct Objection {
     pub text: Option<Text>,
 }
 
-/// The least of the graph's programs whose value on the row is not what was said, which is a text or none.
+/// The least of the graph's programs, by the prices, whose value on the row is not what was said, which is a text or none.
 ///
 /// It lists no programs. It goes over pairs of a node and what is still wanted there: another text than the rest of the
 /// said one, some text, or anything, once a program answers otherwise already.
 pub fn object(
     alloc: Global,
+    prices: &Prices,
     arena: &Arena,
     g: GraphId,
     row: u32,
@@ -44,11 +45,13 @@ pub fn object(
     requires graph { IsGraph arena.now g }
     ensures { let told = option_copied said.entry in IfOk result (λ found. MatchOption found
         ((p : Atoms) → ProgramStands arena.now g p → Answers sheet.now tables.now row told p)
-        (IsObjection arena.now g sheet.now tables.now row told)) }
+        (IsObjection prices.now arena.now g sheet.now tables.now row told)) }
 {
     arena.keeps_made();
+    prices.keep_small();
     let on = OnRow {
         alloc,
+        prices,
         arena,
         row,
         sheet,

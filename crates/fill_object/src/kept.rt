@@ -3,25 +3,28 @@ ghost use Rattle.std.specs.Prelude.{◌≡◌, IsTrue, OnOk};
 ghost use Rattle.fill_object.specs.Leasts.{Takes};
 
 use fill_text::NoMemory;
+use fill_tokens::Prices;
 
 /// What may serve for others: it has their value, and is not after them.
 pub(crate) trait Rival: Drop {
-    ghost serving: { Self → Self → Type 0 };
+    ghost use Rattle.fill_tokens.specs.declared.prices.Prices.{Prices};
 
-    /// Whether it serves for the other.
-    fn serves(&self, other: &Self) -> bool
-        ensures { IsTrue result → serving self.now other.now };
+    ghost serving: { Prices → Self → Self → Type 0 };
+
+    /// Whether it serves for the other, by the prices.
+    fn serves(&self, other: &Self, prices: &Prices) -> bool
+        ensures { IsTrue result → serving prices.now self.now other.now };
 }
 
 /// Takes one more, where none that is there serves for it; in the place of one that it serves for, if there is one.
-pub(crate) fn take<T: Rival>(kept: &mut Vec<T>, next: T) -> Result<(), NoMemory>
-    ensures { OnOk result (Takes T.serving kept.old.items next kept.new.items) }
+pub(crate) fn take<T: Rival>(prices: &Prices, kept: &mut Vec<T>, next: T) -> Result<(), NoMemory>
+    ensures { OnOk result (Takes (T.serving prices.now) kept.old.items next kept.new.items) }
 {
     for i in 0..kept.as_slice().len() {
-        if kept[i].serves(&next) {
+        if kept[i].serves(&next, prices) {
             return Ok(());
         }
-        if next.serves(&kept[i]) {
+        if next.serves(&kept[i], prices) {
             kept[i] = next;
             return Ok(());
         }

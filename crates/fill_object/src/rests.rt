@@ -17,6 +17,7 @@ use crate::valued::ValuedAtom;
 use crate::wanted::Wanted;
 use fill_arena::Edge;
 use fill_text::NoMemory;
+use fill_tokens::Prices;
 use fill_tree::Program;
 use std::alloc::Global;
 
@@ -48,10 +49,10 @@ fn copy_of(alloc: Global, program: &Option<Program>) -> Result<Option<Program>, 
 }
 
 /// The lesser of two programs that may be absent.
-fn lesser(best: Option<Program>, next: Option<Program>) -> Option<Program>
-    requires best { IfSome best (λ x. program_cost (program_tree x) < 2 ^ 64) }
-    requires next { IfSome next (λ x. program_cost (program_tree x) < 2 ^ 64) }
-    ensures { IsLesser (λ x y. program_cmp (program_tree x) (program_tree y)) best next result }
+fn lesser(prices: &Prices, best: Option<Program>, next: Option<Program>) -> Option<Program>
+    requires best { IfSome best (λ x. program_cost prices.now (program_tree x) < 2 ^ 64) }
+    requires next { IfSome next (λ x. program_cost prices.now (program_tree x) < 2 ^ 64) }
+    ensures { IsLesser (λ x y. program_cmp prices.now (program_tree x) (program_tree y)) best next result }
 {
     let Some(known) = best else {
         return next;
@@ -59,7 +60,11 @@ fn lesser(best: Option<Program>, next: Option<Program>) -> Option<Program>
     let Some(other) = next else {
         return Some(known);
     };
-    Some(if other.before(&known) { other } else { known })
+    Some(if other.before(&known, prices) {
+        other
+    } else {
+        known
+    })
 }
 
 /// Where what is asked for stands among what was found.
@@ -86,7 +91,7 @@ pub(crate) fn least_rest(
     requires within { node ≤ search.now.last }
     requires known { AreRests search.now rests.old.items }
     ensures known { OnOk result (AreRests search.now rests.new.items) }
-    ensures least { IfOk result (IsLeastOther (RestStands search.now node) (RestAgrees search.now.on search.now.said.now wanted)) }
+    ensures least { IfOk result (IsLeastOther search.now.on.prices.now (RestStands search.now node) (RestAgrees search.now.on search.now.said.now wanted)) }
 {
     if let Some(i) = place_of(rests.as_slice(), node, wanted) {
         return copy_of(search.on.alloc, &rests[i].program);
@@ -103,7 +108,7 @@ pub(crate) fn least_rest(
 
 /// The program without atoms, if the node is the last one and it answers what is wanted.
 fn ended(search: &Search<'_>, node: usize, wanted: Wanted) -> Option<Program>
-    ensures { IsLeastOther (IsEnd search.now node) (RestAgrees search.now.on search.now.said.now wanted) result }
+    ensures { IsLeastOther search.now.on.prices.now (IsEnd search.now node) (RestAgrees search.now.on search.now.said.now wanted) result }
 {
     if node != search.last {
         return None;
@@ -126,12 +131,12 @@ fn along_edges(
     requires within { node ≤ search.now.last }
     requires known { AreRests search.now rests.old.items }
     ensures known { OnOk result (AreRests search.now rests.new.items) }
-    ensures least { IfOk result (IsLeastOther (RestStands search.now node) (RestAgrees search.now.on search.now.said.now wanted)) }
+    ensures least { IfOk result (IsLeastOther search.now.on.prices.now (RestStands search.now node) (RestAgrees search.now.on search.now.said.now wanted)) }
 {
     let mut best = ended(search, node, wanted);
     for i in 0..search.edges.len() {
         let next = along_edge(search, rests, i, node, wanted)?;
-        best = lesser(best, next);
+        best = lesser(search.on.prices, best, next);
     }
     Ok(best)
 }
@@ -150,7 +155,7 @@ fn along_edge(
     requires known { AreRests search.now rests.old.items }
     ensures known { OnOk result (AreRests search.now rests.new.items) }
     ensures least { IfOk result (λ o. (e : Listed) → slice_get search.now.edges.now i ≡ Some e →
-        IsLeastOther (IsAlong search.now node e) (RestAgrees search.now.on search.now.said.now wanted) o) }
+        IsLeastOther search.now.on.prices.now (IsAlong search.now node e) (RestAgrees search.now.on search.now.said.now wanted) o) }
 {
     let edge = search.edges[i];
     if edge.from != node {
@@ -159,7 +164,7 @@ fn along_edge(
     let mut best = None;
     for atom in search.atoms[i].as_slice() {
         let next = with_atom(search, rests, atom, edge.to, wanted)?;
-        best = lesser(best, next);
+        best = lesser(search.on.prices, best, next);
     }
     Ok(best)
 }
@@ -178,7 +183,7 @@ fn with_atom(
     requires atom { (atoms_on search.now.on).Right atom.now }
     requires known { AreRests search.now rests.old.items }
     ensures known { OnOk result (AreRests search.now rests.new.items) }
-    ensures least { IfOk result (IsLeastOther (IsThen (λ a. a ≡ atom_tree atom.now.atom) (RestStands search.now to)) (RestAgrees search.now.on search.now.said.now wanted)) }
+    ensures least { IfOk result (IsLeastOther search.now.on.prices.now (IsThen (λ a. a ≡ atom_tree atom.now.atom) (RestStands search.now to)) (RestAgrees search.now.on search.now.said.now wanted)) }
 {
     let Some(next) = wanted.after(search.said, &atom.text) else {
         return Ok(None);

@@ -21,7 +21,7 @@ fn put_source(on: &OnRow<'_>, source: Source, kept: &mut Vec<ValuedSource>) -> R
     ensures { OnOk result (Gains (sources_on on.now) (λ x. x ≡ source_tree source) kept.old.items kept.new.items) }
 {
     let text = source_value(on.alloc, &source, on.row, on.sheet, on.tables)?;
-    take(kept, ValuedSource { source, text })
+    take(on.prices, kept, ValuedSource { source, text })
 }
 
 /// Puts a column.

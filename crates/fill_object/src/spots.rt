@@ -1,5 +1,6 @@
 //! The least places of sets, by their values in texts.
 ghost use Rattle.std.specs.Prelude.{◌≡◌, List as Items, IfOk, IfSome, IsTrue, OnOk};
+ghost use Rattle.fill_tokens.specs.declared.prices.Prices.{Prices as Table};
 ghost use Rattle.fill_arena.specs.Contents.{In, IsPlaceSet};
 ghost use Rattle.fill_arena.specs.Stands.{PlaceStands};
 ghost use Rattle.fill_arena.specs.declared.entry.Entry.{Entry};
@@ -11,7 +12,7 @@ use crate::kept::take;
 use crate::valued::Spot;
 use fill_arena::{Arena, PlaceSet};
 use fill_text::{NoMemory, Text};
-use fill_tokens::{Place, place_value};
+use fill_tokens::{Place, Prices, place_value};
 use std::alloc::Global;
 use std::rc::Rc;
 
@@ -43,7 +44,7 @@ impl Spotted {
 
 impl Spots {
     pub fn new(alloc: Global) -> Spots
-        ensures { (c : Items Entry) → AreSpotted c result }
+        ensures { (prices : Table) (c : Items Entry) → AreSpotted prices c result }
     {
         Spots {
             found: Vec::new(alloc),
@@ -52,8 +53,8 @@ impl Spots {
 
     /// The spots of a set in a text, if they were found already.
     fn known(&self, s: PlaceSet, text: &Text) -> Option<&Rc<Vec<Spot>>>
-        ensures { (c : Items Entry) → AreSpotted c self.now →
-            IfSome result (λ spots. AreLeasts (spots_in text.now) (PlaceStands c s) spots.now.value.items) }
+        ensures { (prices : Table) (c : Items Entry) → AreSpotted prices c self.now →
+            IfSome result (λ spots. AreLeasts (spots_in prices text.now) (PlaceStands c s) spots.now.value.items) }
     {
         for spotted in self.found.as_slice() {
             if spotted.is_of(s, text) {
@@ -64,8 +65,8 @@ impl Spots {
     }
 
     fn keep(&mut self, s: PlaceSet, text: &Text, spots: Rc<Vec<Spot>>) -> Result<(), NoMemory>
-        ensures { OnOk result ((c : Items Entry) → AreSpotted c self.old →
-            AreLeasts (spots_in text.now) (PlaceStands c s) spots.value.items → AreSpotted c self.new) }
+        ensures { OnOk result ((prices : Table) (c : Items Entry) → AreSpotted prices c self.old →
+            AreLeasts (spots_in prices text.now) (PlaceStands c s) spots.value.items → AreSpotted prices c self.new) }
     {
         self.found.push(Spotted {
             set: s,
@@ -79,32 +80,38 @@ impl Spots {
     pub fn of(
         &mut self,
         alloc: Global,
+        prices: &Prices,
         arena: &Arena,
         s: PlaceSet,
         text: &Text,
     ) -> Result<Rc<Vec<Spot>>, NoMemory>
         requires set { IsPlaceSet arena.now s }
-        requires known { AreSpotted arena.now self.old }
-        ensures known { OnOk result (AreSpotted arena.now self.new) }
-        ensures least { IfOk result (λ spots. AreLeasts (spots_in text.now) (PlaceStands arena.now s) spots.value.items) }
+        requires known { AreSpotted prices.now arena.now self.old }
+        ensures known { OnOk result (AreSpotted prices.now arena.now self.new) }
+        ensures least { IfOk result (λ spots. AreLeasts (spots_in prices.now text.now) (PlaceStands arena.now s) spots.value.items) }
     {
         if let Some(spots) = self.known(s, text) {
             return Ok(spots.clone()?);
         }
-        let spots = Rc::new(alloc, read_spots(alloc, arena.places(s), text)?)?;
+        let spots = Rc::new(alloc, read_spots(alloc, prices, arena.places(s), text)?)?;
         self.keep(s, text, spots.clone()?)?;
         Ok(spots)
     }
 }
 
 /// The least of some places, by their values in a text.
-fn read_spots(alloc: Global, places: &[Place], text: &Text) -> Result<Vec<Spot>, NoMemory>
-    ensures { IfOk result (λ spots. AreLeasts (spots_in text.now) (λ p. In p places.now) spots.items) }
+fn read_spots(
+    alloc: Global,
+    prices: &Prices,
+    places: &[Place],
+    text: &Text,
+) -> Result<Vec<Spot>, NoMemory>
+    ensures { IfOk result (λ spots. AreLeasts (spots_in prices.now text.now) (λ p. In p places.now) spots.items) }
 {
     let mut spots = Vec::new(alloc);
     for place in places {
         let at = place_value(place, text);
-        take(&mut spots, Spot { place: *place, at })?;
+        take(prices, &mut spots, Spot { place: *place, at })?;
     }
     Ok(spots)
 }

@@ -6,7 +6,7 @@ ghost use Rattle.fill_rank.specs.Rank.{atom_rank, place_rank, source_rank};
 
 use crate::kept::Rival;
 use fill_text::Text;
-use fill_tokens::Place;
+use fill_tokens::{Place, Prices};
 use fill_tree::{Atom, Source};
 use std::cmp::Ordering;
 
@@ -43,27 +43,27 @@ fn is_same(one: &Option<Text>, other: &Option<Text>) -> bool
 }
 
 /// Whether the place is at most the other one, by the cost and then in order.
-fn is_place_at_most(a: &Place, b: &Place) -> bool
-    ensures { IsTrue result → AtMost (place_rank a.now b.now) }
+fn is_place_at_most(prices: &Prices, a: &Place, b: &Place) -> bool
+    ensures { IsTrue result → AtMost (place_rank prices.now a.now b.now) }
 {
-    a.cost().cmp(&b.cost()).then(a.compare(b)) != Ordering::Greater
+    a.cost(prices).cmp(&b.cost(prices)).then(a.compare(b)) != Ordering::Greater
 }
 
 /// The same of sources; where a cost is no number of 64 bits the answer is no.
-fn is_source_at_most(a: &Source, b: &Source) -> bool
-    ensures { IsTrue result → AtMost (source_rank (source_tree a.now) (source_tree b.now)) }
+fn is_source_at_most(prices: &Prices, a: &Source, b: &Source) -> bool
+    ensures { IsTrue result → AtMost (source_rank prices.now (source_tree a.now) (source_tree b.now)) }
 {
-    let (Some(first), Some(second)) = (a.cost(), b.cost()) else {
+    let (Some(first), Some(second)) = (a.cost(prices), b.cost(prices)) else {
         return false;
     };
     first.cmp(&second).then(a.compare(b)) != Ordering::Greater
 }
 
 /// The same of atoms, as atoms of a program.
-fn is_atom_at_most(a: &Atom, b: &Atom) -> bool
-    ensures { IsTrue result → AtMost (atom_rank (atom_tree a.now) (atom_tree b.now)) }
+fn is_atom_at_most(prices: &Prices, a: &Atom, b: &Atom) -> bool
+    ensures { IsTrue result → AtMost (atom_rank prices.now (atom_tree a.now) (atom_tree b.now)) }
 {
-    let (Some(first), Some(second)) = (a.cost(), b.cost()) else {
+    let (Some(first), Some(second)) = (a.cost(prices), b.cost(prices)) else {
         return false;
     };
     first.cmp(&second).then(a.compare(b)) != Ordering::Greater
@@ -74,13 +74,13 @@ impl Rival for Spot {
     ghost use Rattle.fill_text.specs.Orders.{AtMost};
     ghost use Rattle.fill_rank.specs.Rank.{place_rank};
 
-    ghost serving = { λ x y. AtMost (place_rank x.place y.place) × (x.at ≡ y.at) };
+    ghost serving = { λ prices x y. AtMost (place_rank prices x.place y.place) × (x.at ≡ y.at) };
 
-    fn serves(&self, other: &Spot) -> bool {
+    fn serves(&self, other: &Spot, prices: &Prices) -> bool {
         if self.at != other.at {
             return false;
         }
-        is_place_at_most(&self.place, &other.place)
+        is_place_at_most(prices, &self.place, &other.place)
     }
 }
 
@@ -90,13 +90,13 @@ impl Rival for ValuedSource {
     ghost use Rattle.fill_tree.specs.Meaning.{source_tree};
     ghost use Rattle.fill_rank.specs.Rank.{source_rank};
 
-    ghost serving = { λ x y. AtMost (source_rank (source_tree x.source) (source_tree y.source)) × (x.text ≡ y.text) };
+    ghost serving = { λ prices x y. AtMost (source_rank prices (source_tree x.source) (source_tree y.source)) × (x.text ≡ y.text) };
 
-    fn serves(&self, other: &ValuedSource) -> bool {
+    fn serves(&self, other: &ValuedSource, prices: &Prices) -> bool {
         if !is_same(&self.text, &other.text) {
             return false;
         }
-        is_source_at_most(&self.source, &other.source)
+        is_source_at_most(prices, &self.source, &other.source)
     }
 }
 
@@ -106,12 +106,12 @@ impl Rival for ValuedAtom {
     ghost use Rattle.fill_tree.specs.Meaning.{atom_tree};
     ghost use Rattle.fill_rank.specs.Rank.{atom_rank};
 
-    ghost serving = { λ x y. AtMost (atom_rank (atom_tree x.atom) (atom_tree y.atom)) × (x.text ≡ y.text) };
+    ghost serving = { λ prices x y. AtMost (atom_rank prices (atom_tree x.atom) (atom_tree y.atom)) × (x.text ≡ y.text) };
 
-    fn serves(&self, other: &ValuedAtom) -> bool {
+    fn serves(&self, other: &ValuedAtom, prices: &Prices) -> bool {
         if !is_same(&self.text, &other.text) {
             return false;
         }
-        is_atom_at_most(&self.atom, &other.atom)
+        is_atom_at_most(prices, &self.atom, &other.atom)
     }
 }

@@ -3,6 +3,7 @@ use Rattle.std.specs.Prelude.{ℕ, [], ◌∷◌, map, codes, Some, false}
 use Rattle.std.specs.List.{range_with_len}
 use Rattle.fill_text.specs.Data.{RowData, SheetData}
 use Rattle.fill_sheet.specs.Sheet.{unless_empty}
+use Rattle.fill_tree.specs.declared.profile.TheConstants.Profile as profile
 use Rattle.fill_tree.specs.declared.user.Constants.TheVariants.{Any}
 use Rattle.fill_script.specs.declared.script.Entry.TheVariants.{Programs, Count}
 use Rattle.fill_script.specs.declared.script.Script.{Script}
@@ -24,7 +25,7 @@ made_script = record {
   inputs = 1 ∷ [];
   output = Some 2;
   tables = [];
-  settings = record { depth = 1; constants = Any; profile = 1 };
+  settings = record { depth = 1; constants = Any; profile = profile.FIRST };
   entries = Programs ∷ Count ∷ [];
 }
 

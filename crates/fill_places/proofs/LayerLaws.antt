@@ -3,18 +3,19 @@ use Rattle.std.proofs.Common.{◌≡◌, ℕ, ◌+◌, ◌<◌, ◌≤◌, inl, 
 use Rattle.std.proofs.lemmas.Option.{same_Some}
 use Rattle.std.proofs.lemmas.Bool.{cases_order}
 use Rattle.std.specs.declared.cmp.Ordering.TheVariants.{Less}
-use Rattle.fill_tokens.specs.Profile.{token_count}
+use Rattle.fill_tokens.specs.declared.token.TheConstants.{TOKEN_COUNT}
 use Rattle.fill_tokens.specs.Token.{token_number}
 use Rattle.fill_tokens.specs.Place.{seq_cmp}
 use Rattle.fill_tokens.specs.declared.token.Token.{Token}
-use Rattle.fill_tokens.proofs.TokenLaws.{number_exact}
+use Rattle.fill_tokens.proofs.TokenLaws.{number_exact, number_within}
 use Rattle.fill_tokens.proofs.SpanLaws.{seq_unsnoc}
 use Rattle.fill_places.specs.declared.entry.Entry.{Entry}
 use Rattle.fill_places.specs.Marks.{AreMarks}
 use Rattle.fill_places.specs.Sides.{LeftAt, RightAt}
 use Rattle.fill_places.specs.Entries.{Entries, AddsEntries, HasLength, HasAtMost, IsOnly, EndsWithOne, EndsWithAny, BeginsWithIt, BeginsWithAny}
-use Rattle.fill_places.proofs.SideLaws.{left_front, left_token, right_rest, right_token}
+use Rattle.fill_places.proofs.SideLaws.{left_front, right_rest}
 use Rattle.fill_tokens.proofs.SeqOrder.{snoc_less, base_less, behind_less, front_less, shorter_less, number_some}
+use Rattle.fill_tokens.specs.declared.token_set.TokenSet.{TokenSet}
 use Rattle.fill_places.proofs.EntryLaws.{entries_append, entries_same, entries_one, grows_none, grows_then}
 
 module _ (M : List Token → ℕ → Type 0) (n : ℕ) where
@@ -36,13 +37,13 @@ module _ (M : List Token → ℕ → Type 0) (n : ℕ) where
       (λ r p. (p.0, (let u : token_number p.0 < m = p.1 in omega arith), p.2))
       (λ r p. (x, omega arith, p))
 
-  pub any_end_none : (profile : ℕ) (es old : List Entry) → AddsEntries M n old old (EndsWithAny profile es 0)
-  any_end_none profile es old = grows_none M n (EndsWithAny profile es 0) old (λ r h k m. let u : h.0 < 0 = h.2 in omega arith)
+  pub any_end_none : (es old : List Entry) → AddsEntries M n old old (EndsWithAny es 0)
+  any_end_none es old = grows_none M n (EndsWithAny es 0) old (λ r h k m. let u : h.0 < 0 = h.2 in omega arith)
 
-  pub any_end_more : (profile : ℕ) (es : List Entry) (j m : ℕ) (e : Entry) (old mid new : List Entry) → Entries M n (HasLength j) es → slice_get es m ≡ Some e →
-      AddsEntries M n old mid (EndsWithAny profile es m) → AddsEntries M n mid new (EndsWithOne e.seq (token_count profile + 1)) → AddsEntries M n old new (EndsWithAny profile es (m + 1))
-  any_end_more profile es j m e old mid new layer at a b =
-      grows_then M n (EndsWithAny profile es m) (EndsWithOne e.seq (token_count profile + 1)) (EndsWithAny profile es (m + 1)) old mid new a b
+  pub any_end_more : (es : List Entry) (j m : ℕ) (e : Entry) (old mid new : List Entry) → Entries M n (HasLength j) es → slice_get es m ≡ Some e →
+      AddsEntries M n old mid (EndsWithAny es m) → AddsEntries M n mid new (EndsWithOne e.seq (TOKEN_COUNT + 1)) → AddsEntries M n old new (EndsWithAny es (m + 1))
+  any_end_more es j m e old mid new layer at a b =
+      grows_then M n (EndsWithAny es m) (EndsWithOne e.seq (TOKEN_COUNT + 1)) (EndsWithAny es (m + 1)) old mid new a b
       (λ r s p q.
       let less : seq_cmp p.1.seq e.seq ≡ Less = layer.rising p.0 m p.1 e p.2 p.3 at in
       let l1 : length p.1.seq ≡ j = (layer.each p.0 p.1 p.3).1 in
@@ -50,7 +51,7 @@ module _ (M : List Token → ℕ → Type 0) (n : ℕ) where
       let x = p.4 in
       subst (λ z. seq_cmp z s ≡ Less) (sym x.2) (subst (λ z. seq_cmp (p.1.seq ++ x.0 ∷ []) z ≡ Less) (sym q.2) (base_less p.1.seq e.seq x.0 q.0 (l1 ∙ sym l2) less)))
       (λ r p. elim (cases_order p.0 m) [
-        | inl q ↦ (let same : p.1 ≡ e = same_Some p.1 e (sym p.3 ∙ ap (slice_get es) q ∙ at) in inr (subst (λ (z : Entry). EndsWithOne z.seq (token_count profile + 1) r) same p.4))
+        | inl q ↦ (let same : p.1 ≡ e = same_Some p.1 e (sym p.3 ∙ ap (slice_get es) q ∙ at) in inr (subst (λ (z : Entry). EndsWithOne z.seq (TOKEN_COUNT + 1) r) same p.4))
         | inr o ↦ elim o [ inl l ↦ inl (p.0, p.1, l, p.3, p.4) | inr g ↦ absurd (let u : p.0 < m + 1 = p.2 in omega arith) ]
       ])
       (λ r p. (p.0, p.1, (let u : p.0 < m = p.2 in omega arith), p.3, p.4))
@@ -125,34 +126,34 @@ last_of y [] = ([], y, refl)
 last_of y (z ∷ zs) = let r = last_of z zs in (y ∷ r.0, r.1, ap (λ l. y ∷ l) r.2)
 
 -- a longer left sequence that ends somewhere is one of the layer with a token after it
-split_last : (profile : ℕ) (t : List ℕ) (n : ℕ) (es : List Entry) (j : ℕ) (r : List Token) (k : ℕ) → Entries (LeftAt profile t) n (HasLength j) es → HasLength (j + 1) r → LeftAt profile t r k → EndsWithAny profile es (length es) r
-split_last profile t n es j [] k layer h l = absurd (let u : length {A = Token} [] ≡ j + 1 = h in omega arith)
-split_last profile t n es j (y ∷ ys) k layer h l =
+split_last : (token_set : TokenSet) (t : List ℕ) (n : ℕ) (es : List Entry) (j : ℕ) (r : List Token) (k : ℕ) → Entries (LeftAt token_set t) n (HasLength j) es → HasLength (j + 1) r → LeftAt token_set t r k → EndsWithAny es (length es) r
+split_last token_set t n es j [] k layer h l = absurd (let u : length {A = Token} [] ≡ j + 1 = h in omega arith)
+split_last token_set t n es j (y ∷ ys) k layer h l =
     let p = last_of y ys in
     let s = p.0 in
     let x = p.1 in
     let q : y ∷ ys ≡ s ++ x ∷ [] = p.2 in
     let few : length s ≡ j = (let u : length (y ∷ ys) ≡ j + 1 = h in let v = ap length q ∙ length-append s (x ∷ []) in omega arith) in
-    let l2 = subst (λ z. LeftAt profile t z k) q l in
+    let l2 = subst (λ z. LeftAt token_set t z k) q l in
     let u = seq_unsnoc s x t l2.1.0 k l2.1.1 in
-    let f = layer.full s few u.0 (left_front profile s x l2.0, (l2.1.0, u.1)) in
-    (f.0, f.1, f.2, f.3, (x, (let w : token_number x ≤ token_count profile = left_token profile s x l2.0 in omega arith), q ∙ ap (λ z. z ++ x ∷ []) (sym f.4)))
+    let f = layer.full s few u.0 (left_front token_set s x l2.0, (l2.1.0, u.1)) in
+    (f.0, f.1, f.2, f.3, (x, (let w : token_number x ≤ TOKEN_COUNT = number_within x in omega arith), q ∙ ap (λ z. z ++ x ∷ []) (sym f.4)))
 
-pub next_lefts : (profile : ℕ) (t : List ℕ) (n : ℕ) (es : List Entry) (j : ℕ) (row : List Entry) → Entries (LeftAt profile t) n (HasLength j) es → Entries (LeftAt profile t) n (EndsWithAny profile es (length es)) row → Entries (LeftAt profile t) n (HasLength (j + 1)) row
-next_lefts profile t n es j row layer a = entries_same (LeftAt profile t) n (EndsWithAny profile es (length es)) (HasLength (j + 1)) row
+pub next_lefts : (token_set : TokenSet) (t : List ℕ) (n : ℕ) (es : List Entry) (j : ℕ) (row : List Entry) → Entries (LeftAt token_set t) n (HasLength j) es → Entries (LeftAt token_set t) n (EndsWithAny es (length es)) row → Entries (LeftAt token_set t) n (HasLength (j + 1)) row
+next_lefts token_set t n es j row layer a = entries_same (LeftAt token_set t) n (EndsWithAny es (length es)) (HasLength (j + 1)) row
     (λ r m. let l : length m.1.seq ≡ j = (layer.each m.0 m.1 m.3).1 in let y = m.4 in ap length y.2 ∙ length-append m.1.seq (y.0 ∷ []) ∙ ap (λ z. z + 1) l)
-    (λ r k h l. split_last profile t n es j r k layer h l) a
+    (λ r k h l. split_last token_set t n es j r k layer h l) a
 
 -- a longer right sequence that begins somewhere is one of the layer with a token before it
-split_first : (profile : ℕ) (t : List ℕ) (n : ℕ) (es : List Entry) (j : ℕ) (r : List Token) (k : ℕ) → Entries (RightAt profile t) n (HasLength j) es → HasLength (j + 1) r → RightAt profile t r k → BeginsWithAny es (token_count profile + 1) r
-split_first profile t n es j [] k layer h l = absurd (let u : length {A = Token} [] ≡ j + 1 = h in omega arith)
-split_first profile t n es j (x ∷ xs) k layer h l =
+split_first : (token_set : TokenSet) (t : List ℕ) (n : ℕ) (es : List Entry) (j : ℕ) (r : List Token) (k : ℕ) → Entries (RightAt token_set t) n (HasLength j) es → HasLength (j + 1) r → RightAt token_set t r k → BeginsWithAny es (TOKEN_COUNT + 1) r
+split_first token_set t n es j [] k layer h l = absurd (let u : length {A = Token} [] ≡ j + 1 = h in omega arith)
+split_first token_set t n es j (x ∷ xs) k layer h l =
     let few : length xs ≡ j = (let u : length (x ∷ xs) ≡ j + 1 = h in omega arith) in
     let s = l.1.1 in
-    let f = layer.full xs few s.0 (right_rest profile x xs l.0, (l.1.0, s.2)) in
-    (x, (let w : token_number x ≤ token_count profile = right_token profile x xs l.0 in omega arith), (f.0, f.1, f.2, f.3, ap (λ z. x ∷ z) (sym f.4)))
+    let f = layer.full xs few s.0 (right_rest token_set x xs l.0, (l.1.0, s.2)) in
+    (x, (let w : token_number x ≤ TOKEN_COUNT = number_within x in omega arith), (f.0, f.1, f.2, f.3, ap (λ z. x ∷ z) (sym f.4)))
 
-pub next_rights : (profile : ℕ) (t : List ℕ) (n : ℕ) (es : List Entry) (j : ℕ) (row : List Entry) → Entries (RightAt profile t) n (HasLength j) es → Entries (RightAt profile t) n (BeginsWithAny es (token_count profile + 1)) row → Entries (RightAt profile t) n (HasLength (j + 1)) row
-next_rights profile t n es j row layer a = entries_same (RightAt profile t) n (BeginsWithAny es (token_count profile + 1)) (HasLength (j + 1)) row
+pub next_rights : (token_set : TokenSet) (t : List ℕ) (n : ℕ) (es : List Entry) (j : ℕ) (row : List Entry) → Entries (RightAt token_set t) n (HasLength j) es → Entries (RightAt token_set t) n (BeginsWithAny es (TOKEN_COUNT + 1)) row → Entries (RightAt token_set t) n (HasLength (j + 1)) row
+next_rights token_set t n es j row layer a = entries_same (RightAt token_set t) n (BeginsWithAny es (TOKEN_COUNT + 1)) (HasLength (j + 1)) row
     (λ r m. let g = m.2 in let l : length g.1.seq ≡ j = (layer.each g.0 g.1 g.3).1 in let u : length r ≡ length (m.0 ∷ g.1.seq) = ap length g.4 in let v : length r ≡ j + 1 = omega arith in v)
-    (λ r k h l. split_first profile t n es j r k layer h l) a
+    (λ r k h l. split_first token_set t n es j r k layer h l) a

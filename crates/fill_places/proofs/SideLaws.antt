@@ -2,9 +2,10 @@
 use Rattle.std.proofs.Common.{◌≡◌, ℕ, zero, suc, ◌+◌, ◌⊎◌, inl, inr, List, [], ◌∷◌, ◌++◌, length, refl, ap, ◌∙◌, arith, slice_get, Some}
 use Rattle.std.proofs.lemmas.List.Elements.{All-nil, All-cons, All-head, All-tail, All-append}
 use Rattle.std.proofs.lemmas.Option.{same_Some}
-use Rattle.fill_tokens.specs.Profile.{IsTokenOf, AreTokensOf}
+use Rattle.fill_tokens.specs.TokenSet.{IsTokenOf, AreTokensOf}
 use Rattle.fill_tokens.specs.declared.token.Token.{Token}
 use Rattle.fill_tokens.specs.declared.token.Token.TheVariants.{Start, End}
+use Rattle.fill_tokens.specs.declared.token_set.TokenSet.{TokenSet}
 use Rattle.fill_places.specs.Sides.{IsLeft, IsRight, MayEnd, MayBegin}
 
 -- a token of the longer sequence is one of the shorter one, or the last
@@ -27,48 +28,48 @@ no_items : (r : List Token) → length r ≡ 0 → r ≡ []
 no_items [] h = refl
 no_items (x ∷ xs) h = absurd (omega arith)
 
--- tokens of a profile
-tokens_front : (profile : ℕ) (r : List Token) (x : Token) → AreTokensOf profile (r ++ x ∷ []) → AreTokensOf profile r
-tokens_front profile [] x h = All-nil (IsTokenOf profile)
-tokens_front profile (z ∷ zs) x h =
-    All-cons (IsTokenOf profile) z zs (All-head (IsTokenOf profile) z (zs ++ x ∷ []) h) (tokens_front profile zs x (All-tail (IsTokenOf profile) z (zs ++ x ∷ []) h))
+-- tokens of a set
+tokens_front : (token_set : TokenSet) (r : List Token) (x : Token) → AreTokensOf token_set (r ++ x ∷ []) → AreTokensOf token_set r
+tokens_front token_set [] x h = All-nil (IsTokenOf token_set)
+tokens_front token_set (z ∷ zs) x h =
+    All-cons (IsTokenOf token_set) z zs (All-head (IsTokenOf token_set) z (zs ++ x ∷ []) h) (tokens_front token_set zs x (All-tail (IsTokenOf token_set) z (zs ++ x ∷ []) h))
 
-tokens_last : (profile : ℕ) (r : List Token) (x : Token) → AreTokensOf profile (r ++ x ∷ []) → IsTokenOf profile x
-tokens_last profile [] x h = All-head (IsTokenOf profile) x [] h
-tokens_last profile (z ∷ zs) x h = tokens_last profile zs x (All-tail (IsTokenOf profile) z (zs ++ x ∷ []) h)
+tokens_last : (token_set : TokenSet) (r : List Token) (x : Token) → AreTokensOf token_set (r ++ x ∷ []) → IsTokenOf token_set x
+tokens_last token_set [] x h = All-head (IsTokenOf token_set) x [] h
+tokens_last token_set (z ∷ zs) x h = tokens_last token_set zs x (All-tail (IsTokenOf token_set) z (zs ++ x ∷ []) h)
 
-pub left_snoc : (profile : ℕ) (r : List Token) (x : Token) → IsLeft profile r → MayEnd r x → IsTokenOf profile x → IsLeft profile (r ++ x ∷ [])
-left_snoc profile r x l m of = record {
-  tokens = All-append (IsTokenOf profile) r (x ∷ []) l.tokens (All-cons (IsTokenOf profile) x [] of (All-nil (IsTokenOf profile)));
+pub left_snoc : (token_set : TokenSet) (r : List Token) (x : Token) → IsLeft token_set r → MayEnd r x → IsTokenOf token_set x → IsLeft token_set (r ++ x ∷ [])
+left_snoc token_set r x l m of = record {
+  tokens = All-append (IsTokenOf token_set) r (x ∷ []) l.tokens (All-cons (IsTokenOf token_set) x [] of (All-nil (IsTokenOf token_set)));
   start = λ i h. elim (snoc_cases r x Start i h) [ inl g ↦ l.start i g | inr e ↦ e.0 ∙ ap length (m.1 e.1) ];
   end = λ i h. elim (snoc_cases r x End i h) [ inl g ↦ l.end i g | inr e ↦ m.0 e.1 ];
 }
 
-pub left_front : (profile : ℕ) (r : List Token) (x : Token) → IsLeft profile (r ++ x ∷ []) → IsLeft profile r
-left_front profile r x l = record {
-  tokens = tokens_front profile r x l.tokens;
+pub left_front : (token_set : TokenSet) (r : List Token) (x : Token) → IsLeft token_set (r ++ x ∷ []) → IsLeft token_set r
+left_front token_set r x l = record {
+  tokens = tokens_front token_set r x l.tokens;
   start = λ i h. l.start i (snoc_front r x Start i h);
   end = λ i h. l.end i (snoc_front r x End i h);
 }
 
-pub left_token : (profile : ℕ) (r : List Token) (x : Token) → IsLeft profile (r ++ x ∷ []) → IsTokenOf profile x
-left_token profile r x l = tokens_last profile r x l.tokens
+pub left_token : (token_set : TokenSet) (r : List Token) (x : Token) → IsLeft token_set (r ++ x ∷ []) → IsTokenOf token_set x
+left_token token_set r x l = tokens_last token_set r x l.tokens
 
-pub left_last : (profile : ℕ) (r : List Token) (x : Token) → IsLeft profile (r ++ x ∷ []) → MayEnd r x
-left_last profile r x l = (
+pub left_last : (token_set : TokenSet) (r : List Token) (x : Token) → IsLeft token_set (r ++ x ∷ []) → MayEnd r x
+left_last token_set r x l = (
   λ e. l.end (length r) (snoc_back r x ∙ ap Some e),
   λ e. no_items r (l.start (length r) (snoc_back r x ∙ ap Some e)),
 )
 
-pub left_none : (profile : ℕ) → IsLeft profile []
-left_none profile = record { tokens = All-nil (IsTokenOf profile); start = λ i h. absurd (none_at i Start h); end = λ i h. none_at i End h }
+pub left_none : (token_set : TokenSet) → IsLeft token_set []
+left_none token_set = record { tokens = All-nil (IsTokenOf token_set); start = λ i h. absurd (none_at i Start h); end = λ i h. none_at i End h }
   where
     none_at : (i : ℕ) (y : Token) → slice_get {X = Token} [] i ≡ Some y → ⊥
     none_at i y h = cc
 
-pub right_cons : (profile : ℕ) (x : Token) (r : List Token) → IsRight profile r → MayBegin x r → IsTokenOf profile x → IsRight profile (x ∷ r)
-right_cons profile x r l m of = record {
-  tokens = All-cons (IsTokenOf profile) x r of l.tokens;
+pub right_cons : (token_set : TokenSet) (x : Token) (r : List Token) → IsRight token_set r → MayBegin x r → IsTokenOf token_set x → IsRight token_set (x ∷ r)
+right_cons token_set x r l m of = record {
+  tokens = All-cons (IsTokenOf token_set) x r of l.tokens;
   start = λ i h. start_at i h;
   end = λ i h. end_at i h;
 }
@@ -81,24 +82,24 @@ right_cons profile x r l m of = record {
     end_at zero h = let e = ap length (m.1 (same_Some x End h)) in omega arith
     end_at (suc i) h = let e = l.end i h in omega arith
 
-pub right_rest : (profile : ℕ) (x : Token) (r : List Token) → IsRight profile (x ∷ r) → IsRight profile r
-right_rest profile x r l = record {
-  tokens = All-tail (IsTokenOf profile) x r l.tokens;
+pub right_rest : (token_set : TokenSet) (x : Token) (r : List Token) → IsRight token_set (x ∷ r) → IsRight token_set r
+right_rest token_set x r l = record {
+  tokens = All-tail (IsTokenOf token_set) x r l.tokens;
   start = λ i h. l.start (suc i) h;
   end = λ i h. let e = l.end (suc i) h in omega arith;
 }
 
-pub right_token : (profile : ℕ) (x : Token) (r : List Token) → IsRight profile (x ∷ r) → IsTokenOf profile x
-right_token profile x r l = All-head (IsTokenOf profile) x r l.tokens
+pub right_token : (token_set : TokenSet) (x : Token) (r : List Token) → IsRight token_set (x ∷ r) → IsTokenOf token_set x
+right_token token_set x r l = All-head (IsTokenOf token_set) x r l.tokens
 
-pub right_first : (profile : ℕ) (x : Token) (r : List Token) → IsRight profile (x ∷ r) → MayBegin x r
-right_first profile x r l = (
+pub right_first : (token_set : TokenSet) (x : Token) (r : List Token) → IsRight token_set (x ∷ r) → MayBegin x r
+right_first token_set x r l = (
   λ e. l.start zero (ap Some e),
   λ e. no_items r (let f = l.end zero (ap Some e) in omega arith),
 )
 
-pub right_none : (profile : ℕ) → IsRight profile []
-right_none profile = record { tokens = All-nil (IsTokenOf profile); start = λ i h. none_at i Start h; end = λ i h. absurd (none_at i End h) }
+pub right_none : (token_set : TokenSet) → IsRight token_set []
+right_none token_set = record { tokens = All-nil (IsTokenOf token_set); start = λ i h. none_at i Start h; end = λ i h. absurd (none_at i End h) }
   where
     none_at : (i : ℕ) (y : Token) → slice_get {X = Token} [] i ≡ Some y → ⊥
     none_at i y h = cc

@@ -1,10 +1,11 @@
 -- The sequences that are marked somewhere.
 use Rattle.std.specs.Prelude.{◌≡◌, ℕ, ◌+◌, ◌<◌, ◌≤◌, List, [], ◌∷◌, ◌++◌, length, slice_get, Some, true}
 use Rattle.std.specs.declared.cmp.Ordering.TheVariants.{Less}
-use Rattle.fill_tokens.specs.Profile.{token_count}
+use Rattle.fill_tokens.specs.declared.token.TheConstants.{TOKEN_COUNT}
 use Rattle.fill_tokens.specs.Token.{token_number}
 use Rattle.fill_tokens.specs.Place.{seq_cmp}
 use Rattle.fill_tokens.specs.declared.token.Token.{Token}
+use Rattle.fill_tokens.specs.declared.token_set.TokenSet.{TokenSet}
 use Rattle.fill_places.specs.declared.entry.Entry.{Entry}
 use Rattle.fill_places.specs.Marks.{AreMarks}
 use Rattle.fill_places.specs.Sides.{LeftAt, RightAt}
@@ -39,9 +40,9 @@ IsOnly s r = r ≡ s
 abbrev pub EndsWithOne : List Token → ℕ → List Token → Type 0
 EndsWithOne base m r = (x : Token) × (token_number x < m) × (r ≡ base ++ x ∷ [])
 
--- one of the first m sequences with a token of the profile after it
-abbrev pub EndsWithAny : ℕ → List Entry → ℕ → List Token → Type 0
-EndsWithAny profile es m r = (i : ℕ) × (e : Entry) × (i < m) × (slice_get es i ≡ Some e) × EndsWithOne e.seq (token_count profile + 1) r
+-- one of the first m sequences with any token after it
+abbrev pub EndsWithAny : List Entry → ℕ → List Token → Type 0
+EndsWithAny es m r = (i : ℕ) × (e : Entry) × (i < m) × (slice_get es i ≡ Some e) × EndsWithOne e.seq (TOKEN_COUNT + 1) r
 
 -- one of the first m sequences with the token before it
 abbrev pub BeginsWithIt : Token → List Entry → ℕ → List Token → Type 0
@@ -51,13 +52,13 @@ BeginsWithIt x es m r = (i : ℕ) × (e : Entry) × (i < m) × (slice_get es i �
 abbrev pub BeginsWithAny : List Entry → ℕ → List Token → Type 0
 BeginsWithAny es m r = (x : Token) × (token_number x < m) × BeginsWithIt x es (length es) r
 
--- the sequences of up to three tokens of the profile that may stand before a position, and end somewhere in the text
-abbrev pub AreLefts : ℕ → List ℕ → List Entry → Type 0
-AreLefts profile t = Entries (LeftAt profile t) (length t) (HasAtMost 3)
+-- the sequences of up to three tokens of the set that may stand before a position, and end somewhere in the text
+abbrev pub AreLefts : TokenSet → List ℕ → List Entry → Type 0
+AreLefts token_set t = Entries (LeftAt token_set t) (length t) (HasAtMost 3)
 
--- the sequences of up to three tokens of the profile that may stand after a position, and begin somewhere in the text
-abbrev pub AreRights : ℕ → List ℕ → List Entry → Type 0
-AreRights profile t = Entries (RightAt profile t) (length t) (HasAtMost 3)
+-- the sequences of up to three tokens of the set that may stand after a position, and begin somewhere in the text
+abbrev pub AreRights : TokenSet → List ℕ → List Entry → Type 0
+AreRights token_set t = Entries (RightAt token_set t) (length t) (HasAtMost 3)
 
 -- the entry of the number is marked at the position
 abbrev pub IsMarkedAt : List Entry → ℕ → ℕ → Type 0

@@ -1,7 +1,8 @@
 -- What contracts see of an index of places.
 use Rattle.std.specs.Prelude.{ℕ, List}
+use Rattle.fill_tokens.specs.declared.token_set.TokenSet.{TokenSet}
 
--- the text that was read, and the profile whose places are listed
+-- the text that was read, and the set of tokens of the places that are listed
 pub record IndexView : Type 0 where
   pub text : List ℕ
-  pub profile : ℕ
+  pub token_set : TokenSet

@@ -2,19 +2,20 @@
 use Rattle.std.specs.Prelude.{◌≡◌, ◌≢◌, ℕ, List, []}
 use Rattle.fill_tokens.specs.Span.{Begins, Ends}
 use Rattle.fill_tokens.specs.PlaceGrammar.{OnlyFirst, OnlyLast, Nowhere}
-use Rattle.fill_tokens.specs.Profile.{AreTokensOf}
+use Rattle.fill_tokens.specs.TokenSet.{AreTokensOf}
 use Rattle.fill_tokens.specs.declared.token.Token.{Token}
 use Rattle.fill_tokens.specs.declared.token.Token.TheVariants.{Start, End}
+use Rattle.fill_tokens.specs.declared.token_set.TokenSet.{TokenSet}
 
--- the sequence may stand before a position under the profile, but for its length
-pub record IsLeft (profile : ℕ) (r : List Token) : Type 0 where
-  pub tokens : AreTokensOf profile r
+-- the sequence may stand before a position by tokens of the set, but for its length
+pub record IsLeft (token_set : TokenSet) (r : List Token) : Type 0 where
+  pub tokens : AreTokensOf token_set r
   pub start : OnlyFirst Start r
   pub end : Nowhere End r
 
 -- .. after a position
-pub record IsRight (profile : ℕ) (r : List Token) : Type 0 where
-  pub tokens : AreTokensOf profile r
+pub record IsRight (token_set : TokenSet) (r : List Token) : Type 0 where
+  pub tokens : AreTokensOf token_set r
   pub start : Nowhere Start r
   pub end : OnlyLast End r
 
@@ -27,9 +28,9 @@ abbrev pub MayBegin : Token → List Token → Type 0
 MayBegin x r = (x ≢ Start) × (x ≡ End → r ≡ [])
 
 -- the sequence may stand before the position, and ends there
-abbrev pub LeftAt : ℕ → List ℕ → List Token → ℕ → Type 0
-LeftAt profile t r k = IsLeft profile r × Ends r t k
+abbrev pub LeftAt : TokenSet → List ℕ → List Token → ℕ → Type 0
+LeftAt token_set t r k = IsLeft token_set r × Ends r t k
 
 -- the sequence may stand after the position, and begins there
-abbrev pub RightAt : ℕ → List ℕ → List Token → ℕ → Type 0
-RightAt profile t r k = IsRight profile r × Begins r t k
+abbrev pub RightAt : TokenSet → List ℕ → List Token → ℕ → Type 0
+RightAt token_set t r k = IsRight token_set r × Begins r t k

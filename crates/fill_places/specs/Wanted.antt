@@ -3,16 +3,17 @@ use Rattle.std.specs.Prelude.{◌≡◌, ℕ, ◌+◌, ◌-◌, ◌<◌, ◌≤�
 use Rattle.std.specs.Int.{w32}
 use Rattle.fill_tokens.specs.Span.{IsCut}
 use Rattle.fill_tokens.specs.Value.{HasValue, IsCount}
-use Rattle.fill_tokens.specs.Profile.{IsPlaceOf}
+use Rattle.fill_tokens.specs.TokenSet.{IsPlaceOf}
 use Rattle.fill_tokens.specs.declared.token.Token.{Token}
+use Rattle.fill_tokens.specs.declared.token_set.TokenSet.{TokenSet}
 use Rattle.fill_tokens.specs.declared.place.Place.{Place}
 use Rattle.fill_tokens.specs.declared.place.Place.TheVariants.{CPos, Pos}
 use Rattle.fill_places.specs.declared.entry.Entry.{Entry}
 use Rattle.fill_places.specs.Entries.{HasSeq}
 
--- a place of the grammar under the profile, with the value
-abbrev pub IsWanted : ℕ → List ℕ → ℕ → Place → Type 0
-IsWanted profile t k p = IsPlaceOf profile p × HasValue p t k
+-- a place of the grammar by tokens of the set, with the value
+abbrev pub IsWanted : TokenSet → List ℕ → ℕ → Place → Type 0
+IsWanted token_set t k p = IsPlaceOf token_set p × HasValue p t k
 
 -- the fixed place of the number, which is one of 32 bits
 abbrev pub FittingFixed : ℤ → Place → Type 0
@@ -23,33 +24,33 @@ abbrev pub FittingPair : List Token → List Token → ℤ → Place → Type 0
 FittingPair l r c p = (p ≡ Pos l r c) × FitsSigned w32 c
 
 -- wanted, and fixed
-abbrev pub FixedOf : ℕ → List ℕ → ℕ → Place → Type 0
-FixedOf profile t k (CPos j) = IsWanted profile t k (CPos j)
-FixedOf profile t k (Pos a b c) = ⊥
+abbrev pub FixedOf : TokenSet → List ℕ → ℕ → Place → Type 0
+FixedOf token_set t k (CPos j) = IsWanted token_set t k (CPos j)
+FixedOf token_set t k (Pos a b c) = ⊥
 
 -- wanted, and between the two sequences
-abbrev pub PairOf : ℕ → List ℕ → ℕ → List Token → List Token → Place → Type 0
-PairOf profile t k l r (CPos j) = ⊥
-PairOf profile t k l r (Pos a b c) = (a ≡ l) × (b ≡ r) × IsWanted profile t k (Pos a b c)
+abbrev pub PairOf : TokenSet → List ℕ → ℕ → List Token → List Token → Place → Type 0
+PairOf token_set t k l r (CPos j) = ⊥
+PairOf token_set t k l r (Pos a b c) = (a ≡ l) × (b ≡ r) × IsWanted token_set t k (Pos a b c)
 
 -- the entry of one of the first m numbers is of the sequence
 abbrev pub HasNumbered : List Entry → List ℕ → ℕ → List Token → Type 0
 HasNumbered es numbers m r = (j i : ℕ) × (e : Entry) × (j < m) × (slice_get numbers j ≡ Some i) × (slice_get es i ≡ Some e) × (e.seq ≡ r)
 
 -- wanted, and between the left sequence and that of an entry of one of the first m numbers
-abbrev pub RowOf : ℕ → List ℕ → ℕ → List Token → List Entry → List ℕ → ℕ → Place → Type 0
-RowOf profile t k l es numbers m (CPos j) = ⊥
-RowOf profile t k l es numbers m (Pos a b c) = (a ≡ l) × HasNumbered es numbers m b × IsWanted profile t k (Pos a b c)
+abbrev pub RowOf : TokenSet → List ℕ → ℕ → List Token → List Entry → List ℕ → ℕ → Place → Type 0
+RowOf token_set t k l es numbers m (CPos j) = ⊥
+RowOf token_set t k l es numbers m (Pos a b c) = (a ≡ l) × HasNumbered es numbers m b × IsWanted token_set t k (Pos a b c)
 
 -- wanted, and with this left sequence
-abbrev pub FromLeft : ℕ → List ℕ → ℕ → List Token → Place → Type 0
-FromLeft profile t k l (CPos j) = ⊥
-FromLeft profile t k l (Pos a b c) = (a ≡ l) × IsWanted profile t k (Pos a b c)
+abbrev pub FromLeft : TokenSet → List ℕ → ℕ → List Token → Place → Type 0
+FromLeft token_set t k l (CPos j) = ⊥
+FromLeft token_set t k l (Pos a b c) = (a ≡ l) × IsWanted token_set t k (Pos a b c)
 
 -- wanted, and with a left sequence of one of the first m entries
-abbrev pub FromLefts : ℕ → List ℕ → ℕ → List Entry → ℕ → Place → Type 0
-FromLefts profile t k es m (CPos j) = ⊥
-FromLefts profile t k es m (Pos a b c) = HasSeq es m a × IsWanted profile t k (Pos a b c)
+abbrev pub FromLefts : TokenSet → List ℕ → ℕ → List Entry → ℕ → Place → Type 0
+FromLefts token_set t k es m (CPos j) = ⊥
+FromLefts token_set t k es m (Pos a b c) = HasSeq es m a × IsWanted token_set t k (Pos a b c)
 
 -- the position is a cut, so many cuts stand up to it, and so many from it on
 pub record Counts (t : List ℕ) (k : ℕ) (l r : List Token) (a b : ℕ) : Type 0 where

@@ -12,7 +12,7 @@ ghost use Rattle.fill_places.specs.declared.entry.Entry.{Entry};
 use crate::entry::Entry;
 use crate::pair::{push_fixed, push_pair};
 use fill_text::{List, NoMemory, Text};
-use fill_tokens::Place;
+use fill_tokens::{Place, TokenSet};
 use std::alloc::Global;
 
 /// How many places a list has room for from its start. Most positions of short texts have some sixty.
@@ -28,16 +28,16 @@ fn push_number(
     i: usize,
     t: &Text,
     k: usize,
-    profile: u8,
+    token_set: TokenSet,
 ) -> Result<(), NoMemory>
     requires within { k ≤ length t.now }
-    requires entries { AreRights profile t.now entries.now }
+    requires entries { AreRights token_set t.now entries.now }
     requires number { i < length entries.now }
     ensures { OnOk result ((old : List ℕ) → Adds nat_cmp old numbers.old (λ j. (j < i) × IsMarkedAt entries.now k j) →
         Adds nat_cmp old numbers.new (λ j. (j < i + 1) × IsMarkedAt entries.now k j)) }
 {
     let _text = t;
-    let _profile = profile;
+    let _set = token_set;
     let e = &entries[i];
     if !e.at.has(k) {
         return Ok(());
@@ -51,16 +51,16 @@ fn marked_at(
     entries: &[Entry],
     t: &Text,
     k: usize,
-    profile: u8,
+    token_set: TokenSet,
 ) -> Result<List<usize>, NoMemory>
     requires within { k ≤ length t.now }
-    requires entries { AreRights profile t.now entries.now }
+    requires entries { AreRights token_set t.now entries.now }
     ensures { IfOk result (Lists nat_cmp (IsMarkedAt entries.now k)) }
 {
     let _text = t;
     let mut numbers = List::with_capacity(alloc, ROW_ROOM)?;
     for i in 0..entries.len() {
-        push_number(&mut numbers, entries, i, t, k, profile)?;
+        push_number(&mut numbers, entries, i, t, k, token_set)?;
     }
     Ok(numbers)
 }
@@ -73,18 +73,18 @@ fn push_numbered(
     number: usize,
     t: &Text,
     k: usize,
-    profile: u8,
+    token_set: TokenSet,
 ) -> Result<(), NoMemory>
     requires within { k ≤ length t.now }
-    requires left { AreMarks (LeftAt profile t.now l.now.seq) (length t.now) l.now.at }
+    requires left { AreMarks (LeftAt token_set t.now l.now.seq) (length t.now) l.now.at }
     requires few { length l.now.seq ≤ 3 }
     requires ends { slice_get l.now.at k ≡ Some true }
-    requires rights { AreRights profile t.now rights.now }
+    requires rights { AreRights token_set t.now rights.now }
     requires number { IsMarkedAt rights.now k number }
     ensures { (r : Entry) → slice_get rights.now number ≡ Some r →
-        OnOk result (Adds place_cmp out.old out.new (PairOf profile t.now k l.now.seq r.seq)) }
+        OnOk result (Adds place_cmp out.old out.new (PairOf token_set t.now k l.now.seq r.seq)) }
 {
-    push_pair(out, l, &rights[number], t, k, profile)
+    push_pair(out, l, &rights[number], t, k, token_set)
 }
 
 /// Puts the places between the left sequence and all right ones to the list.
@@ -95,19 +95,19 @@ fn push_row(
     numbers: &[usize],
     t: &Text,
     k: usize,
-    profile: u8,
+    token_set: TokenSet,
 ) -> Result<(), NoMemory>
     requires within { k ≤ length t.now }
-    requires left { AreMarks (LeftAt profile t.now l.now.seq) (length t.now) l.now.at }
+    requires left { AreMarks (LeftAt token_set t.now l.now.seq) (length t.now) l.now.at }
     requires few { length l.now.seq ≤ 3 }
     requires ends { slice_get l.now.at k ≡ Some true }
-    requires rights { AreRights profile t.now rights.now }
+    requires rights { AreRights token_set t.now rights.now }
     requires numbers { Lists nat_cmp (IsMarkedAt rights.now k) numbers.now }
-    ensures { OnOk result (Adds place_cmp out.old out.new (FromLeft profile t.now k l.now.seq)) }
+    ensures { OnOk result (Adds place_cmp out.old out.new (FromLeft token_set t.now k l.now.seq)) }
 {
     for j in 0..numbers.len() {
         let number = numbers[j];
-        push_numbered(out, l, rights, number, t, k, profile)?;
+        push_numbered(out, l, rights, number, t, k, token_set)?;
     }
     Ok(())
 }
@@ -120,19 +120,19 @@ fn push_left(
     numbers: &[usize],
     t: &Text,
     k: usize,
-    profile: u8,
+    token_set: TokenSet,
 ) -> Result<(), NoMemory>
     requires within { k ≤ length t.now }
-    requires left { AreMarks (LeftAt profile t.now l.now.seq) (length t.now) l.now.at }
+    requires left { AreMarks (LeftAt token_set t.now l.now.seq) (length t.now) l.now.at }
     requires few { length l.now.seq ≤ 3 }
-    requires rights { AreRights profile t.now rights.now }
+    requires rights { AreRights token_set t.now rights.now }
     requires numbers { Lists nat_cmp (IsMarkedAt rights.now k) numbers.now }
-    ensures { OnOk result (Adds place_cmp out.old out.new (FromLeft profile t.now k l.now.seq)) }
+    ensures { OnOk result (Adds place_cmp out.old out.new (FromLeft token_set t.now k l.now.seq)) }
 {
     if !l.at.has(k) {
         return Ok(());
     }
-    push_row(out, l, rights, numbers, t, k, profile)
+    push_row(out, l, rights, numbers, t, k, token_set)
 }
 
 /// Puts the places between sequences to the list.
@@ -143,37 +143,37 @@ fn push_between(
     numbers: &[usize],
     t: &Text,
     k: usize,
-    profile: u8,
+    token_set: TokenSet,
 ) -> Result<(), NoMemory>
     requires within { k ≤ length t.now }
-    requires lefts { AreLefts profile t.now lefts.now }
-    requires rights { AreRights profile t.now rights.now }
+    requires lefts { AreLefts token_set t.now lefts.now }
+    requires rights { AreRights token_set t.now rights.now }
     requires numbers { Lists nat_cmp (IsMarkedAt rights.now k) numbers.now }
-    ensures { OnOk result (Adds place_cmp out.old out.new (FromLefts profile t.now k lefts.now (length lefts.now))) }
+    ensures { OnOk result (Adds place_cmp out.old out.new (FromLefts token_set t.now k lefts.now (length lefts.now))) }
 {
     for l in lefts {
-        push_left(out, l, rights, numbers, t, k, profile)?;
+        push_left(out, l, rights, numbers, t, k, token_set)?;
     }
     Ok(())
 }
 
-/// All places of the grammar under the profile whose value in the text is `k`.
+/// All places of the grammar by tokens of the set whose value in the text is `k`.
 pub fn list_places(
     alloc: Global,
     lefts: &[Entry],
     rights: &[Entry],
     t: &Text,
     k: usize,
-    profile: u8,
+    token_set: TokenSet,
 ) -> Result<List<Place>, NoMemory>
     requires within { k ≤ length t.now }
-    requires lefts { AreLefts profile t.now lefts.now }
-    requires rights { AreRights profile t.now rights.now }
-    ensures { IfOk result (Lists place_cmp (IsWanted profile t.now k)) }
+    requires lefts { AreLefts token_set t.now lefts.now }
+    requires rights { AreRights token_set t.now rights.now }
+    ensures { IfOk result (Lists place_cmp (IsWanted token_set t.now k)) }
 {
-    let numbers = marked_at(alloc, rights, t, k, profile)?;
+    let numbers = marked_at(alloc, rights, t, k, token_set)?;
     let mut out = List::with_capacity(alloc, ROOM)?;
-    push_fixed(&mut out, t, k, profile)?;
-    push_between(&mut out, lefts, rights, numbers.as_slice(), t, k, profile)?;
+    push_fixed(&mut out, t, k, token_set)?;
+    push_between(&mut out, lefts, rights, numbers.as_slice(), t, k, token_set)?;
     Ok(out)
 }

@@ -10,11 +10,11 @@ ghost use Rattle.fill_places.specs.Marks.{AreMarks, Common};
 ghost use Rattle.fill_places.specs.Sides.{LeftAt, RightAt};
 ghost use Rattle.fill_places.specs.Wanted.{PairOf, FixedOf, FittingFixed, FittingPair, Counts};
 ghost use Rattle.fill_tokens.specs.PlaceGrammar.{AreAround};
-ghost use Rattle.fill_tokens.specs.Profile.{AreTokensOf};
+ghost use Rattle.fill_tokens.specs.TokenSet.{AreTokensOf};
 
 use crate::entry::Entry;
 use fill_text::{List, NoMemory, Text};
-use fill_tokens::{Place, Seq};
+use fill_tokens::{Place, Seq, TokenSet};
 
 /// How many positions up to `k` are marked in both.
 fn count_to(l: &Entry, r: &Entry, k: usize) -> usize
@@ -63,11 +63,16 @@ fn push_fixed_right(out: &mut List<Place>, number: usize) -> Result<(), NoMemory
 }
 
 /// Puts the two fixed places of the position to the list.
-pub fn push_fixed(out: &mut List<Place>, t: &Text, k: usize, profile: u8) -> Result<(), NoMemory>
+pub fn push_fixed(
+    out: &mut List<Place>,
+    t: &Text,
+    k: usize,
+    token_set: TokenSet,
+) -> Result<(), NoMemory>
     requires { k ≤ length t.now }
-    ensures { OnOk result (Adds place_cmp out.old out.new (FixedOf profile t.now k)) }
+    ensures { OnOk result (Adds place_cmp out.old out.new (FixedOf token_set t.now k)) }
 {
-    let _profile = profile;
+    let _set = token_set;
     let back = t.len() - k + 1;
     if k <= back {
         push_fixed_left(out, k)?;
@@ -108,16 +113,16 @@ fn push_counted(
     b: usize,
     t: &Text,
     k: usize,
-    profile: u8,
+    token_set: TokenSet,
 ) -> Result<(), NoMemory>
     requires around { AreAround l.now r.now }
-    requires tokens { AreTokensOf profile l.now × AreTokensOf profile r.now }
+    requires tokens { AreTokensOf token_set l.now × AreTokensOf token_set r.now }
     requires counts { Counts t.now k l.now r.now a b }
-    ensures { OnOk result (Adds place_cmp out.old out.new (PairOf profile t.now k l.now r.now)) }
+    ensures { OnOk result (Adds place_cmp out.old out.new (PairOf token_set t.now k l.now r.now)) }
 {
     let _text = t;
     let _position = k;
-    let _profile = profile;
+    let _set = token_set;
     if a <= b {
         push_from_left(out, l, r, a)?;
         push_from_right(out, l, r, b)
@@ -134,15 +139,15 @@ pub fn push_pair(
     r: &Entry,
     t: &Text,
     k: usize,
-    profile: u8,
+    token_set: TokenSet,
 ) -> Result<(), NoMemory>
     requires within { k ≤ length t.now }
-    requires left { AreMarks (LeftAt profile t.now l.now.seq) (length t.now) l.now.at }
-    requires right { AreMarks (RightAt profile t.now r.now.seq) (length t.now) r.now.at }
+    requires left { AreMarks (LeftAt token_set t.now l.now.seq) (length t.now) l.now.at }
+    requires right { AreMarks (RightAt token_set t.now r.now.seq) (length t.now) r.now.at }
     requires few { (length l.now.seq ≤ 3) × (length r.now.seq ≤ 3) }
     requires ends { slice_get l.now.at k ≡ Some true }
     requires begins { slice_get r.now.at k ≡ Some true }
-    ensures { OnOk result (Adds place_cmp out.old out.new (PairOf profile t.now k l.now.seq r.now.seq)) }
+    ensures { OnOk result (Adds place_cmp out.old out.new (PairOf token_set t.now k l.now.seq r.now.seq)) }
 {
     if l.seq.len() + r.seq.len() == 0 {
         return Ok(());
@@ -150,5 +155,5 @@ pub fn push_pair(
     let n = t.len();
     let a = count_to(l, r, k);
     let b = count_from(l, r, k, n, a);
-    push_counted(out, &l.seq, &r.seq, a, b, t, k, profile)
+    push_counted(out, &l.seq, &r.seq, a, b, t, k, token_set)
 }

@@ -1,15 +1,15 @@
 //! The sequences that begin somewhere in a text.
 ghost use Rattle.std.specs.Prelude.{◌≡◌, ◌≢◌, ℕ, ◌<◌, ◌≤◌, ◌+◌, ◌++◌, ◌∷◌, [], ◌↔◌, length, IfOk, OnOk, IsTrue};
-ghost use Rattle.fill_tokens.specs.Profile.{IsTokenOf};
+ghost use Rattle.fill_tokens.specs.TokenSet.{IsTokenOf};
 ghost use Rattle.fill_tokens.specs.declared.token.Token.TheVariants.{Start, End};
 ghost use Rattle.fill_places.specs.Marks.{AreMarks};
 ghost use Rattle.fill_places.specs.Sides.{RightAt, MayBegin};
 ghost use Rattle.fill_places.specs.Entries.{Entries, AddsEntries, HasLength, IsOnly, BeginsWithIt, AreRights};
 
 use crate::entry::{Entry, empty_entry, join, push_entry, reached, reaches, room_after};
-use fill_spans::{Spans, token_at};
+use fill_spans::Spans;
 use fill_text::{NoMemory, Text};
-use fill_tokens::{Seq, Token, token_count};
+use fill_tokens::{Seq, TOKEN_COUNT, Token, TokenSet, token_at};
 use std::alloc::Global;
 
 /// The sequence with one token more at the front.
@@ -43,16 +43,16 @@ fn push_right(
     e: &Entry,
     spans: &Spans,
     t: &Text,
-    profile: u8,
+    token_set: TokenSet,
 ) -> Result<(), NoMemory>
-    requires entry { AreMarks (RightAt profile t.now e.now.seq) (length t.now) e.now.at }
-    requires spans { spans.now ≡ record { text = t.now; profile = profile } }
+    requires entry { AreMarks (RightAt token_set t.now e.now.seq) (length t.now) e.now.at }
+    requires spans { spans.now ≡ record { text = t.now; token_set = token_set } }
     requires short { length e.now.seq < 3 }
-    requires token { IsTokenOf profile token }
-    ensures { OnOk result (AddsEntries (RightAt profile t.now) (length t.now) out.old.items out.new.items
+    requires token { IsTokenOf token_set token }
+    ensures { OnOk result (AddsEntries (RightAt token_set t.now) (length t.now) out.old.items out.new.items
         (IsOnly (token ∷ e.now.seq))) }
 {
-    let _profile = profile;
+    let _set = token_set;
     let n = t.len();
     if !may_begin(token, &e.seq) {
         return Ok(());
@@ -68,7 +68,7 @@ fn push_right(
     push_entry(out, Entry { seq, at })
 }
 
-/// Puts the entries of the sequences with the token before them to the list.
+/// Puts the entries of the sequences with the token before them to the list, where the set has the token.
 fn push_rights_behind(
     alloc: Global,
     out: &mut Vec<Entry>,
@@ -77,27 +77,29 @@ fn push_rights_behind(
     j: usize,
     spans: &Spans,
     t: &Text,
-    profile: u8,
+    token_set: TokenSet,
 ) -> Result<(), NoMemory>
-    requires spans { spans.now ≡ record { text = t.now; profile = profile } }
+    requires spans { spans.now ≡ record { text = t.now; token_set = token_set } }
     requires short { j < 3 }
-    requires token { IsTokenOf profile token }
-    requires layer { Entries (RightAt profile t.now) (length t.now) (HasLength j) layer.now }
-    ensures { OnOk result (AddsEntries (RightAt profile t.now) (length t.now) out.old.items out.new.items
+    requires layer { Entries (RightAt token_set t.now) (length t.now) (HasLength j) layer.now }
+    ensures { OnOk result (AddsEntries (RightAt token_set t.now) (length t.now) out.old.items out.new.items
         (BeginsWithIt token layer.now (length layer.now))) }
 {
     let _tokens = j;
+    if !token.is_of(token_set) {
+        return Ok(());
+    }
     for e in layer {
-        push_right(alloc, out, token, e, spans, t, profile)?;
+        push_right(alloc, out, token, e, spans, t, token_set)?;
     }
     Ok(())
 }
 
 /// The sequence of no token.
-fn first_rights(alloc: Global, t: &Text, profile: u8) -> Result<Vec<Entry>, NoMemory>
-    ensures { IfOk result (λ v. Entries (RightAt profile t.now) (length t.now) (HasLength 0) v.items) }
+fn first_rights(alloc: Global, t: &Text, token_set: TokenSet) -> Result<Vec<Entry>, NoMemory>
+    ensures { IfOk result (λ v. Entries (RightAt token_set t.now) (length t.now) (HasLength 0) v.items) }
 {
-    let _profile = profile;
+    let _set = token_set;
     let e = empty_entry(alloc, t.len())?;
     let mut out = Vec::new(alloc);
     push_entry(&mut out, e)?;
@@ -111,29 +113,34 @@ fn longer_rights(
     j: usize,
     spans: &Spans,
     t: &Text,
-    profile: u8,
+    token_set: TokenSet,
 ) -> Result<Vec<Entry>, NoMemory>
     requires short { j < 3 }
-    requires layer { Entries (RightAt profile t.now) (length t.now) (HasLength j) layer.now }
-    requires spans { spans.now ≡ record { text = t.now; profile = profile } }
-    ensures { IfOk result (λ v. Entries (RightAt profile t.now) (length t.now) (HasLength (j + 1)) v.items) }
+    requires layer { Entries (RightAt token_set t.now) (length t.now) (HasLength j) layer.now }
+    requires spans { spans.now ≡ record { text = t.now; token_set = token_set } }
+    ensures { IfOk result (λ v. Entries (RightAt token_set t.now) (length t.now) (HasLength (j + 1)) v.items) }
 {
     let mut out = Vec::with_capacity(alloc, room_after(layer))?;
-    for i in 0..token_count(profile) {
-        push_rights_behind(alloc, &mut out, token_at(i), layer, j, spans, t, profile)?;
+    for i in 0..TOKEN_COUNT {
+        push_rights_behind(alloc, &mut out, token_at(i), layer, j, spans, t, token_set)?;
     }
     Ok(out)
 }
 
-/// The sequences of tokens of the profile that begin somewhere in the text, in order.
-pub fn rights(alloc: Global, spans: &Spans, t: &Text, profile: u8) -> Result<Vec<Entry>, NoMemory>
-    requires spans { spans.now ≡ record { text = t.now; profile = profile } }
-    ensures { IfOk result (λ v. AreRights profile t.now v.items) }
+/// The sequences of tokens of the set that begin somewhere in the text, in order.
+pub fn rights(
+    alloc: Global,
+    spans: &Spans,
+    t: &Text,
+    token_set: TokenSet,
+) -> Result<Vec<Entry>, NoMemory>
+    requires spans { spans.now ≡ record { text = t.now; token_set = token_set } }
+    ensures { IfOk result (λ v. AreRights token_set t.now v.items) }
 {
-    let mut all = first_rights(alloc, t, profile)?;
-    let one = longer_rights(alloc, &all, 0, spans, t, profile)?;
-    let two = longer_rights(alloc, &one, 1, spans, t, profile)?;
-    let three = longer_rights(alloc, &two, 2, spans, t, profile)?;
+    let mut all = first_rights(alloc, t, token_set)?;
+    let one = longer_rights(alloc, &all, 0, spans, t, token_set)?;
+    let two = longer_rights(alloc, &one, 1, spans, t, token_set)?;
+    let three = longer_rights(alloc, &two, 2, spans, t, token_set)?;
     join(&mut all, one)?;
     join(&mut all, two)?;
     join(&mut all, three)?;

@@ -7,6 +7,7 @@ use Rattle.std.specs.Cmp.{IsTotalOrder}
 use Rattle.std.proofs.lemmas.Cmp.{nat_cmp_total, on_total, then_total}
 use Rattle.std.proofs.lemmas.Map.Lookups.{CmpEqualImpliesEq}
 use Rattle.fill_tokens.proofs.OrderingLemmas.{then_second}
+use Rattle.fill_tokens.specs.declared.prices.Prices.{Prices}
 use Rattle.fill_tree.specs.Cost.{source_cost, atom_cost}
 use Rattle.fill_tree.specs.Meaning.{program_tree}
 use Rattle.fill_tree.specs.Order.{source_cmp, atom_cmp, atoms_cmp}
@@ -108,14 +109,14 @@ module _ (cost : Atoms → ℕ) (P Q S : Atoms → Type 0) (split : (z : Atoms) 
             (at_most-not_less (rank cost atoms_cmp) total exact (program_tree x.atoms) (program_tree y.atoms) not),
       )
 
-pub atom_rank-total : IsTotalOrder atom_rank
-atom_rank-total = rank_total atom_cost atom_cmp atom_total
+pub atom_rank-total : (prices : Prices) → IsTotalOrder (atom_rank prices)
+atom_rank-total prices = rank_total (atom_cost prices) atom_cmp atom_total
 
-pub atom_rank-exact : CmpEqualImpliesEq atom_rank
-atom_rank-exact = rank_exact atom_cost atom_cmp exact_atoms
+pub atom_rank-exact : (prices : Prices) → CmpEqualImpliesEq (atom_rank prices)
+atom_rank-exact prices = rank_exact (atom_cost prices) atom_cmp exact_atoms
 
-pub source_rank-total : IsTotalOrder source_rank
-source_rank-total = rank_total source_cost source_cmp source_total
+pub source_rank-total : (prices : Prices) → IsTotalOrder (source_rank prices)
+source_rank-total prices = rank_total (source_cost prices) source_cmp source_total
 
-pub source_rank-exact : CmpEqualImpliesEq source_rank
-source_rank-exact = rank_exact source_cost source_cmp exact_sources
+pub source_rank-exact : (prices : Prices) → CmpEqualImpliesEq (source_rank prices)
+source_rank-exact prices = rank_exact (source_cost prices) source_cmp exact_sources

@@ -2,6 +2,7 @@
 use Rattle.std.proofs.Common.{◌≡◌, ◌⊎◌, ℕ, zero, suc, ◌+◌, List, [], ◌∷◌, length, drop, Option, Some, None, Result, Ok, Err, option_map, inl, inr, refl, sym, ap, subst, ◌∙◌, slice_get, ◌<◌, ◌≢◌, arith}
 use Rattle.std.proofs.Math.ListN.{set}
 use Rattle.std.specs.Result.{IfOk}
+use Rattle.fill_tokens.specs.declared.prices.Prices.{Prices}
 use Rattle.fill_tree.specs.Grammar.{HasPart, IsPart}
 use Rattle.fill_tree.specs.Meaning.{atom_tree}
 use Rattle.fill_tree.specs.Tree.{SourceTree, AtomTree, Atoms, col, select, constant, whole, sub}
@@ -25,7 +26,7 @@ ok_on P Q (Err e) h f = h
 pub constant_kept : (i : ConditionItem) (text copied : List ℕ) → i.constant ≡ Some text → copied ≡ text → IsConstantOf i (Some (Const copied))
 constant_kept i text copied is e = (text, is, constant_tree copied ∙ ap constant e)
 
-module _ (c : List Entry) (i : ConditionItem) where
+module _ (prices : Prices) (c : List Entry) (i : ConditionItem) where
   part_there : (s : ℕ) → i.atoms ≡ Some s → (a : AtomTree) → PartStands c s a → IsPart a × ConditionFits a c i (AtomFits a c)
   part_there s is (constant t) h = absurd h.0
   part_there s is (whole x) h = (tt, (s, is, h.1))
@@ -41,11 +42,11 @@ module _ (c : List Entry) (i : ConditionItem) where
   no_part_there is (whole x) h = let other = h.1.1 in cc
   no_part_there is (sub x p q) h = let other = h.1.1 in cc
 
-  pub part_kept : (s : ℕ) → i.atoms ≡ Some s → (o : Option Atom) → IsBestOf atom_tree atom_rank (PartStands c s) o → IsBestPart c i o
+  pub part_kept : (s : ℕ) → i.atoms ≡ Some s → (o : Option Atom) → IsBestOf atom_tree (atom_rank prices) (PartStands c s) o → IsBestPart prices c i o
   part_kept s is None h = λ a fits. h a (there_part s is a fits)
   part_kept s is (Some x) h = record { has = part_there s is (atom_tree x) h.has; least = λ a fits. h.least a (there_part s is a fits) }
 
-  pub no_part_kept : i.atoms ≡ None → IsBestPart c i None
+  pub no_part_kept : i.atoms ≡ None → IsBestPart prices c i None
   no_part_kept is = no_part_there is
 
 pub no_lookup : (c : List Entry) (i : SelectItem) → ((p : Atoms) → ¬ (HasPart p × ConditionsFit p c i.conditions)) → ¬ ((s : SourceTree) × SourceFits s c (Select i))
@@ -55,11 +56,11 @@ no_lookup c i none h = fits h.0 h.1
     fits (col n) f = f
     fits (select a b d q) f = none q (f.3, f.4)
 
-pub copied_best : (P : AtomTree → Type 0) (o copied : Option Atom) → option_map atom_tree copied ≡ option_map atom_tree o → IsBestOf atom_tree atom_rank P o → IsBestOf atom_tree atom_rank P copied
-copied_best P None None e h = h
-copied_best P None (Some y) e h = cc
-copied_best P (Some x) None e h = cc
-copied_best P (Some x) (Some y) e h = let same : atom_tree x ≡ atom_tree y = cc in subst (IsBest atom_rank P) same h
+pub copied_best : (prices : Prices) (P : AtomTree → Type 0) (o copied : Option Atom) → option_map atom_tree copied ≡ option_map atom_tree o → IsBestOf atom_tree (atom_rank prices) P o → IsBestOf atom_tree (atom_rank prices) P copied
+copied_best prices P None None e h = h
+copied_best prices P None (Some y) e h = cc
+copied_best prices P (Some x) None e h = cc
+copied_best prices P (Some x) (Some y) e h = let same : atom_tree x ≡ atom_tree y = cc in subst (IsBest (atom_rank prices) P) same h
 
 pub drop_whole : {A : Type 0} (xs : List A) → drop (length xs) xs ≡ []
 drop_whole [] = refl
@@ -76,15 +77,15 @@ get_dropped [] (suc n) k = refl
 get_dropped (x ∷ xs) zero k = let e : k ≡ 0 + k = omega arith in ap (slice_get (x ∷ xs)) e
 get_dropped (x ∷ xs) (suc n) k = let e : suc (n + k) ≡ suc n + k = omega arith in get_dropped xs n k ∙ ap (slice_get (x ∷ xs)) e
 
-module _ (c : List Entry) (s : ℕ) where
+module _ (prices : Prices) (c : List Entry) (s : ℕ) where
   either : (a : AtomTree) → AtomStands c s a → ConstantStands c s a ⊎ PartStands c s a
   either (constant t) h = inl ((λ p. p), h)
   either (whole x) h = inr (tt, h)
   either (sub x p q) h = inr (tt, h)
 
-  pub atom_best : (fixed part made : Option Atom) → IsLesser (λ x y. atom_rank (atom_tree x) (atom_tree y)) fixed part made →
-      IsBestOf atom_tree atom_rank (ConstantStands c s) fixed → IsBestOf atom_tree atom_rank (PartStands c s) part → IsBestOf atom_tree atom_rank (AtomStands c s) made
-  atom_best fixed part made = best_lesser atom_rank atom_rank-total atom_rank-exact atom_tree (ConstantStands c s) (PartStands c s) (AtomStands c s) either (λ a h. h.1) (λ a h. h.1) fixed part made
+  pub atom_best : (fixed part made : Option Atom) → IsLesser (λ x y. atom_rank prices (atom_tree x) (atom_tree y)) fixed part made →
+      IsBestOf atom_tree (atom_rank prices) (ConstantStands c s) fixed → IsBestOf atom_tree (atom_rank prices) (PartStands c s) part → IsBestOf atom_tree (atom_rank prices) (AtomStands c s) made
+  atom_best fixed part made = best_lesser (atom_rank prices) (atom_rank-total prices) (atom_rank-exact prices) atom_tree (ConstantStands c s) (PartStands c s) (AtomStands c s) either (λ a h. h.1) (λ a h. h.1) fixed part made
 
 pub set_here : {A : Type 0} (xs : List A) (n : ℕ) (v : A) → n < length xs → slice_get (set xs n v) n ≡ Some v
 set_here [] n v lt = absurd (omega arith)

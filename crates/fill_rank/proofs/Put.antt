@@ -16,6 +16,7 @@ use Rattle.fill_arena.specs.Stands.{AtomFits, ConditionFits, ConditionsFit}
 use Rattle.fill_arena.specs.declared.entry.ConditionItem.{ConditionItem}
 use Rattle.fill_arena.specs.declared.entry.Entry.{Entry}
 use Rattle.fill_text.specs.Orders.{AtMost}
+use Rattle.fill_tokens.specs.declared.prices.Prices.{Prices}
 use Rattle.fill_rank.specs.Rank.{rank, atom_rank, IsBest, IsBestOf, IsLesser, chain_rank}
 use Rattle.fill_rank.specs.Sets.{IsBestPart, IsConstantOf, IsBestChain, AreBestRows, CostsMore, IsPut, link_cost}
 use Rattle.fill_rank.specs.declared.chain.Chain.{Chain}
@@ -60,16 +61,16 @@ module _ (own : AtomTree → ℕ) (cost : Atoms → ℕ) (adds : (a : AtomTree) 
         (carried, subst (IsBest (rank cost atoms_cmp) (Starts H T)) (sym is.2) (best_more (atom_tree a) (program_tree x.atoms) h t.1))
 
 -- what costs more than the best so far is not less
-pub dear_put : (best : Option Chain) (a : Atom) (rest : Option Chain) → CostsMore best (Some a) rest → (along : Option Chain) × IsPut link_cost (Some a) rest along × IsLesser chain_rank best along best
-dear_put None a rest h = absurd (let e = h.3 in cc)
-dear_put (Some b) a None h = absurd (let e = h.5 in cc)
-dear_put (Some b) a (Some x) h =
+pub dear_put : (prices : Prices) (best : Option Chain) (a : Atom) (rest : Option Chain) → CostsMore prices best (Some a) rest → (along : Option Chain) × IsPut (link_cost prices) (Some a) rest along × IsLesser chain_rank best along best
+dear_put prices None a rest h = absurd (let e = h.3 in cc)
+dear_put prices (Some b) a None h = absurd (let e = h.5 in cc)
+dear_put prices (Some b) a (Some x) h =
     let same_best : h.0 ≡ b = (let e = h.3 in cc) in
     let same_atom : h.1 ≡ a = (let e = h.4 in cc) in
     let same_rest : h.2 ≡ x = (let e = h.5 in cc) in
-    let y : Chain = record { cost = link_cost (atom_tree a) + x.cost; atoms = record { atoms = a ∷ x.atoms.atoms } } in
-    let less : b.cost < y.cost = subst (λ (z : Chain). b.cost < link_cost (atom_tree a) + z.cost) same_rest
-    (subst (λ d. b.cost < link_cost (atom_tree d) + h.2.cost) same_atom (subst (λ (z : Chain). z.cost < link_cost (atom_tree h.1) + h.2.cost) same_best h.6)) in
+    let y : Chain = record { cost = link_cost prices (atom_tree a) + x.cost; atoms = record { atoms = a ∷ x.atoms.atoms } } in
+    let less : b.cost < y.cost = subst (λ (z : Chain). b.cost < link_cost prices (atom_tree a) + z.cost) same_rest
+    (subst (λ d. b.cost < link_cost prices (atom_tree d) + h.2.cost) same_atom (subst (λ (z : Chain). z.cost < link_cost prices (atom_tree h.1) + h.2.cost) same_best h.6)) in
     let after : Greater ≡ nat_cmp y.cost b.cost = nat_cmp_is y.cost b.cost Greater less in
     (Some y, (y, refl, refl, refl), inr (refl, λ e. greater_first _ _ (sym after) e))
   where
@@ -79,35 +80,35 @@ dear_put (Some b) a (Some x) h =
     greater_first Greater p g e = let q = e in cc
 
 -- parts are in the same order as atoms and as conditions
-part_cost : (a : AtomTree) → IsPart a → condition_cost a ≡ 2 + atom_cost a
-part_cost (constant t) h = absurd h
-part_cost (whole s) h = refl
-part_cost (sub s p q) h = refl
+part_cost : (prices : Prices) (a : AtomTree) → IsPart a → condition_cost prices a ≡ prices.condition + atom_cost prices a
+part_cost prices (constant t) h = absurd h
+part_cost prices (whole s) h = refl
+part_cost prices (sub s p q) h = refl
 
-part_rank : (a b : AtomTree) → IsPart a → IsPart b → rank condition_cost atom_cmp a b ≡ atom_rank a b
-part_rank a b p q = ap (λ n. ordering_then (nat_cmp n (condition_cost b)) (atom_cmp a b)) (part_cost a p)
-    ∙ ap (λ n. ordering_then (nat_cmp (2 + atom_cost a) n) (atom_cmp a b)) (part_cost b q)
-    ∙ ap (λ o. ordering_then o (atom_cmp a b)) (nat_cmp-add 2 (atom_cost a) (atom_cost b))
+part_rank : (prices : Prices) (a b : AtomTree) → IsPart a → IsPart b → rank (condition_cost prices) atom_cmp a b ≡ atom_rank prices a b
+part_rank prices a b p q = ap (λ n. ordering_then (nat_cmp n (condition_cost prices b)) (atom_cmp a b)) (part_cost prices a p)
+    ∙ ap (λ n. ordering_then (nat_cmp (prices.condition + atom_cost prices a) n) (atom_cmp a b)) (part_cost prices b q)
+    ∙ ap (λ o. ordering_then o (atom_cmp a b)) (nat_cmp-add prices.condition (atom_cost prices a) (atom_cost prices b))
 
-link_rank : (a b : AtomTree) → rank link_cost atom_cmp a b ≡ atom_rank a b
-link_rank a b = ap (λ o. ordering_then o (atom_cmp a b)) (nat_cmp-add 5 (atom_cost a) (atom_cost b))
+link_rank : (prices : Prices) (a b : AtomTree) → rank (link_cost prices) atom_cmp a b ≡ atom_rank prices a b
+link_rank prices a b = ap (λ o. ordering_then o (atom_cmp a b)) (nat_cmp-add prices.atom (atom_cost prices a) (atom_cost prices b))
 
-pub as_link : (P : AtomTree → Type 0) (o : Option Atom) → IsBestOf atom_tree atom_rank P o → IsBestOf atom_tree (rank link_cost atom_cmp) P o
-as_link P None h = h
-as_link P (Some a) h = record { has = h.has; least = λ y p. subst AtMost (sym (link_rank (atom_tree a) y)) (h.least y p) }
+pub as_link : (prices : Prices) (P : AtomTree → Type 0) (o : Option Atom) → IsBestOf atom_tree (atom_rank prices) P o → IsBestOf atom_tree (rank (link_cost prices) atom_cmp) P o
+as_link prices P None h = h
+as_link prices P (Some a) h = record { has = h.has; least = λ y p. subst AtMost (sym (link_rank prices (atom_tree a) y)) (h.least y p) }
 
-module _ (c : List Entry) (i : ConditionItem) where
+module _ (prices : Prices) (c : List Entry) (i : ConditionItem) where
   abbrev PartOf : AtomTree → Type 0
   PartOf a = IsPart a × ConditionFits a c i (AtomFits a c)
 
   abbrev ConstantOf : AtomTree → Type 0
   ConstantOf a = (t : List ℕ) × (i.constant ≡ Some t) × (a ≡ constant t)
 
-  as_condition : (o : Option Atom) → IsBestPart c i o → IsBestOf atom_tree (rank condition_cost atom_cmp) PartOf o
+  as_condition : (o : Option Atom) → IsBestPart prices c i o → IsBestOf atom_tree (rank (condition_cost prices) atom_cmp) PartOf o
   as_condition None h = h
-  as_condition (Some a) h = record { has = h.has; least = λ y p. subst AtMost (sym (part_rank (atom_tree a) y h.has.0 p.0)) (h.least y p) }
+  as_condition (Some a) h = record { has = h.has; least = λ y p. subst AtMost (sym (part_rank prices (atom_tree a) y h.has.0 p.0)) (h.least y p) }
 
-  one_constant : (o : Option Atom) → IsConstantOf i o → IsBestOf atom_tree (rank condition_cost atom_cmp) ConstantOf o
+  one_constant : (o : Option Atom) → IsConstantOf i o → IsBestOf atom_tree (rank (condition_cost prices) atom_cmp) ConstantOf o
   one_constant None h = λ y p. let e = p.1 in cc
   one_constant (Some a) h = record {
     has = h;
@@ -117,8 +118,8 @@ module _ (c : List Entry) (i : ConditionItem) where
         let second = p.1 in
         let same : h.0 ≡ p.0 = cc in
         h.2 ∙ ap constant same ∙ sym p.2 in
-        subst (λ z. AtMost (rank condition_cost atom_cmp (atom_tree a) z)) e
-        (at_most-itself (rank condition_cost atom_cmp) (rank_total condition_cost atom_cmp atom_total) (rank_exact condition_cost atom_cmp exact_atoms) (atom_tree a));
+        subst (λ z. AtMost (rank (condition_cost prices) atom_cmp (atom_tree a) z)) e
+        (at_most-itself (rank (condition_cost prices) atom_cmp) (rank_total (condition_cost prices) atom_cmp atom_total) (rank_exact (condition_cost prices) atom_cmp exact_atoms) (atom_tree a));
   }
 
   module _ (is : List ConditionItem) where
@@ -168,30 +169,30 @@ module _ (c : List Entry) (i : ConditionItem) where
     mixed_right (more a q) s = (inl s.0.0, (s.0.1, s.1))
 
     pub rows_in_front : (constant part : Option Atom) (rows made : Rows) (from_constant from_part part_later part_now : Option Chain) →
-        IsPut condition_cost constant rows.any from_constant → IsPut condition_cost part rows.any from_part →
-        IsPut condition_cost constant rows.mixed part_later → IsPut condition_cost part rows.any part_now →
+        IsPut (condition_cost prices) constant rows.any from_constant → IsPut (condition_cost prices) part rows.any from_part →
+        IsPut (condition_cost prices) constant rows.mixed part_later → IsPut (condition_cost prices) part rows.any part_now →
         IsLesser chain_rank from_constant from_part made.any → IsLesser chain_rank part_later part_now made.mixed →
-        IsConstantOf i constant → IsBestPart c i part → AreBestRows c is rows → AreBestRows c (i ∷ is) made
+        IsConstantOf i constant → IsBestPart prices c i part → AreBestRows prices c is rows → AreBestRows prices c (i ∷ is) made
     rows_in_front fixed part rows made from_constant from_part part_later part_now p0 p1 p2 p3 l0 l1 k b are =
-        let adds : (a : AtomTree) (p : Atoms) → conditions_cost (more a p) ≡ condition_cost a + conditions_cost p = λ a p. refl in
+        let adds : (a : AtomTree) (p : Atoms) → conditions_cost prices (more a p) ≡ condition_cost prices a + conditions_cost prices p = λ a p. refl in
         let head = one_constant fixed k in
         let other = as_condition part b in
-        let q0 = best_put condition_cost conditions_cost adds ConstantOf Row fixed rows.any from_constant p0 head are.any in
-        let q1 = best_put condition_cost conditions_cost adds PartOf Row part rows.any from_part p1 other are.any in
-        let q2 = best_put condition_cost conditions_cost adds ConstantOf MixedRow fixed rows.mixed part_later p2 head are.mixed in
-        let q3 = best_put condition_cost conditions_cost adds PartOf Row part rows.any part_now p3 other are.any in
+        let q0 = best_put (condition_cost prices) (conditions_cost prices) adds ConstantOf Row fixed rows.any from_constant p0 head are.any in
+        let q1 = best_put (condition_cost prices) (conditions_cost prices) adds PartOf Row part rows.any from_part p1 other are.any in
+        let q2 = best_put (condition_cost prices) (conditions_cost prices) adds ConstantOf MixedRow fixed rows.mixed part_later p2 head are.mixed in
+        let q3 = best_put (condition_cost prices) (conditions_cost prices) adds PartOf Row part rows.any part_now p3 other are.any in
         record {
-          any = chains_lesser conditions_cost (Starts ConstantOf Row) (Starts PartOf Row) LongerRow row_splits row_left row_right from_constant from_part made.any l0 q0 q1;
-          mixed = chains_lesser conditions_cost (Starts ConstantOf MixedRow) (Starts PartOf Row) LongerMixed mixed_splits mixed_left mixed_right part_later part_now made.mixed l1 q2 q3;
+          any = chains_lesser (conditions_cost prices) (Starts ConstantOf Row) (Starts PartOf Row) LongerRow row_splits row_left row_right from_constant from_part made.any l0 q0 q1;
+          mixed = chains_lesser (conditions_cost prices) (Starts ConstantOf MixedRow) (Starts PartOf Row) LongerMixed mixed_splits mixed_left mixed_right part_later part_now made.mixed l1 q2 q3;
         }
 
 pub no_row_mixed : (c : List Entry) (p : Atoms) → ¬ (HasPart p × ConditionsFit p c [])
 no_row_mixed c end h = h.0
 no_row_mixed c (more a q) h = h.1
 
-pub best_end : (c : List Entry) → IsBest (rank conditions_cost atoms_cmp) (λ p. ConditionsFit p c []) end
-best_end c = record { has = tt; least = least }
+pub best_end : (prices : Prices) (c : List Entry) → IsBest (rank (conditions_cost prices) atoms_cmp) (λ p. ConditionsFit p c []) end
+best_end prices c = record { has = tt; least = least }
   where
-    least : (p : Atoms) → ConditionsFit p c [] → AtMost (rank conditions_cost atoms_cmp end p)
+    least : (p : Atoms) → ConditionsFit p c [] → AtMost (rank (conditions_cost prices) atoms_cmp end p)
     least end h = inr refl
     least (more a q) h = absurd h

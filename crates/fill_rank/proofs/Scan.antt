@@ -6,9 +6,11 @@ use Rattle.std.specs.Cmp.{IsTotalOrder}
 use Rattle.std.proofs.lemmas.Bool.{cases_lt}
 use Rattle.std.proofs.lemmas.Option.{slice_get_within}
 use Rattle.std.proofs.lemmas.Map.Lookups.{CmpEqualImpliesEq}
-use Rattle.fill_tokens.specs.Place.{place_cost, place_cmp}
+use Rattle.fill_tokens.specs.Place.{place_cmp}
+use Rattle.fill_tokens.specs.Prices.{place_cost}
 use Rattle.fill_tokens.specs.declared.place.Place.{Place}
 use Rattle.fill_tokens.proofs.PlaceLaws.{place_total, exact_places}
+use Rattle.fill_tokens.specs.declared.prices.Prices.{Prices}
 use Rattle.fill_arena.specs.Contents.{In, SomeIn}
 use Rattle.fill_text.specs.Orders.{AtMost}
 use Rattle.fill_rank.specs.Rank.{IsBest, IsBestOf, IsLesser, place_rank}
@@ -16,47 +18,47 @@ use Rattle.fill_rank.specs.Sets.{SomeBelow}
 use Rattle.fill_rank.proofs.Best.{rank_total, rank_exact, at_most-itself, at_most-trans, at_most-not_less, best_lesser}
 
 -- an item that is at most each of the first ones
-pub record BestBelow (xs : List Place) (i : ℕ) (x : Place) : Type 0 where
+pub record BestBelow (prices : Prices) (xs : List Place) (i : ℕ) (x : Place) : Type 0 where
   pub listed : In x xs
-  pub least : (k : ℕ) (p : Place) → k < i → slice_get xs k ≡ Some p → AtMost (place_rank x p)
+  pub least : (k : ℕ) (p : Place) → k < i → slice_get xs k ≡ Some p → AtMost (place_rank prices x p)
 
-place_rank-total : IsTotalOrder place_rank
-place_rank-total = rank_total place_cost place_cmp place_total
+place_rank-total : (prices : Prices) → IsTotalOrder (place_rank prices)
+place_rank-total prices = rank_total (place_cost prices) place_cmp place_total
 
-place_rank-exact : CmpEqualImpliesEq place_rank
-place_rank-exact = rank_exact place_cost place_cmp exact_places
+place_rank-exact : (prices : Prices) → CmpEqualImpliesEq (place_rank prices)
+place_rank-exact prices = rank_exact (place_cost prices) place_cmp exact_places
 
 same_item : {A : Type 0} (xs : List A) (i k : ℕ) (x y : A) → slice_get xs i ≡ Some x → slice_get xs k ≡ Some y → k ≡ i → x ≡ y
 same_item {A} xs i k x y at there e = let moved : slice_get xs i ≡ Some y = subst (λ j. slice_get xs j ≡ Some y) e there in cc
 
-pub below_first : (xs : List Place) (x : Place) → slice_get xs 0 ≡ Some x → BestBelow xs 1 x
-below_first xs x at = record {
+pub below_first : (prices : Prices) (xs : List Place) (x : Place) → slice_get xs 0 ≡ Some x → BestBelow prices xs 1 x
+below_first prices xs x at = record {
   listed = (0, at);
-  least = λ k p lt there. subst (λ y. AtMost (place_rank x y)) (same_item xs 0 k x p at there (omega arith)) (at_most-itself place_rank place_rank-total place_rank-exact x);
+  least = λ k p lt there. subst (λ y. AtMost (place_rank prices x y)) (same_item xs 0 k x p at there (omega arith)) (at_most-itself (place_rank prices) (place_rank-total prices) (place_rank-exact prices) x);
 }
 
-pub below_kept : (xs : List Place) (i : ℕ) (x y : Place) → slice_get xs i ≡ Some y → BestBelow xs i x → ¬ (place_rank y x ≡ Less) → BestBelow xs (i + 1) x
-below_kept xs i x y at best not = record {
+pub below_kept : (prices : Prices) (xs : List Place) (i : ℕ) (x y : Place) → slice_get xs i ≡ Some y → BestBelow prices xs i x → ¬ (place_rank prices y x ≡ Less) → BestBelow prices xs (i + 1) x
+below_kept prices xs i x y at best not = record {
   listed = best.listed;
   least = λ k p lt there. elim (cases_lt k i) [
     | inl less ↦ best.least k p less there
     | inr past ↦
-        subst (λ z. AtMost (place_rank x z)) (same_item xs i k y p at there (omega arith)) (at_most-not_less place_rank place_rank-total place_rank-exact x y not)
+        subst (λ z. AtMost (place_rank prices x z)) (same_item xs i k y p at there (omega arith)) (at_most-not_less (place_rank prices) (place_rank-total prices) (place_rank-exact prices) x y not)
   ];
 }
 
-pub below_taken : (xs : List Place) (i : ℕ) (x y : Place) → slice_get xs i ≡ Some y → BestBelow xs i x → place_rank y x ≡ Less → BestBelow xs (i + 1) y
-below_taken xs i x y at best less = record {
+pub below_taken : (prices : Prices) (xs : List Place) (i : ℕ) (x y : Place) → slice_get xs i ≡ Some y → BestBelow prices xs i x → place_rank prices y x ≡ Less → BestBelow prices xs (i + 1) y
+below_taken prices xs i x y at best less = record {
   listed = (i, at);
   least = λ k p lt there. elim (cases_lt k i) [
-    | inl before ↦ at_most-trans place_rank place_rank-total place_rank-exact y x p (inl less) (best.least k p before there)
+    | inl before ↦ at_most-trans (place_rank prices) (place_rank-total prices) (place_rank-exact prices) y x p (inl less) (best.least k p before there)
     | inr past ↦
-        subst (λ z. AtMost (place_rank y z)) (same_item xs i k y p at there (omega arith)) (at_most-itself place_rank place_rank-total place_rank-exact y)
+        subst (λ z. AtMost (place_rank prices y z)) (same_item xs i k y p at there (omega arith)) (at_most-itself (place_rank prices) (place_rank-total prices) (place_rank-exact prices) y)
   ];
 }
 
-pub below_done : (xs : List Place) (i : ℕ) (x : Place) → length xs ≤ i → BestBelow xs i x → IsBest place_rank (λ p. In p xs) x
-below_done xs i x past best = record {
+pub below_done : (prices : Prices) (xs : List Place) (i : ℕ) (x : Place) → length xs ≤ i → BestBelow prices xs i x → IsBest (place_rank prices) (λ p. In p xs) x
+below_done prices xs i x past best = record {
   has = best.listed;
   least = λ y h. let within = slice_get_within xs h.0 y h.1 in best.least h.0 y (omega arith) h.1;
 }

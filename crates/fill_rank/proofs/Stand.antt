@@ -1,6 +1,7 @@
 -- What stands in a set, by the set's items.
 use Rattle.std.proofs.Common.{◌≡◌, ℕ, List, Some, slice_get, subst}
 use Rattle.fill_tokens.specs.declared.place.Place.{Place}
+use Rattle.fill_tokens.specs.declared.prices.Prices.{Prices}
 use Rattle.fill_tree.specs.Tree.{SourceTree, AtomTree}
 use Rattle.fill_arena.specs.Contents.{In, SomeIn}
 use Rattle.fill_arena.specs.Stands.{AtomFits, AtomStands, PlaceStands, SourceFits, SourceStands}
@@ -10,9 +11,9 @@ use Rattle.fill_arena.specs.declared.entry.Entry.TheVariants.{Places, Sources, A
 use Rattle.fill_arena.specs.declared.entry.SourceItem.{SourceItem}
 use Rattle.fill_rank.specs.Rank.{IsBest, place_rank}
 
-pub place_best : (c : List Entry) (s : ℕ) (places : List Place) (x : Place) → slice_get c s ≡ Some (Places places) →
-    IsBest place_rank (λ p. In p places) x → IsBest place_rank (PlaceStands c s) x
-place_best c s places x is best = record {
+pub place_best : (prices : Prices) (c : List Entry) (s : ℕ) (places : List Place) (x : Place) → slice_get c s ≡ Some (Places places) →
+    IsBest (place_rank prices) (λ p. In p places) x → IsBest (place_rank prices) (PlaceStands c s) x
+place_best prices c s places x is best = record {
   has = (places, is, best.has);
   least = λ y h. let there = h.1 in let e : h.0 ≡ places = cc in best.least y (subst (λ ps. In y ps) e h.2);
 }

@@ -19,6 +19,7 @@ use Rattle.fill_arena.specs.declared.entry.Entry.{Entry}
 use Rattle.fill_arena.specs.declared.entry.Entry.TheVariants.{Graph}
 use Rattle.fill_arena.proofs.Lists.{get_pushed}
 use Rattle.fill_text.specs.Orders.{AtMost}
+use Rattle.fill_tokens.specs.declared.prices.Prices.{Prices}
 use Rattle.fill_rank.specs.Rank.{IsBest, IsLesser, atom_rank, chain_rank}
 use Rattle.fill_rank.specs.Sets.{AreBestRests, IsBestChain, IsFirstEdge, CostsMore, IsPut, link_cost}
 use Rattle.fill_rank.specs.declared.chain.Chain.{Chain}
@@ -29,7 +30,7 @@ same_chain : (cost : Atoms → ℕ) (P S : Atoms → Type 0) → ((p : Atoms) �
 same_chain cost P S to from None h = λ p s. h p (to p s)
 same_chain cost P S to from (Some x) h = (h.0, record { has = from (program_tree x.atoms) h.1.has; least = λ p s. h.1.least p (to p s) })
 
-module _ (c : List Entry) (e : Edge) (rest : List Edge) (last : ℕ) where
+module _ (prices : Prices) (c : List Entry) (e : Edge) (rest : List Edge) (last : ℕ) where
   in_rest : (k : ℕ) (f : Edge) → slice_get (e ∷ rest) k ≡ Some f → (e ≡ f) ⊎ In f rest
   in_rest zero f h = inl cc
   in_rest (suc k) f h = inr (k, h)
@@ -67,44 +68,44 @@ module _ (c : List Entry) (e : Edge) (rest : List Edge) (last : ℕ) where
     walk_along (more a q) h = (e, (0, refl), (refl, h.0, walks_more q e.to h.1))
 
     pub edge_step : (old new : List (Option Chain)) (before next along made : Option Chain) (a : Atom) →
-        AreBestRests c rest last old → slice_get old e.from ≡ Some before → slice_get old e.to ≡ Some next →
-        IsBest atom_rank (AtomStands c e.atoms) (atom_tree a) → IsPut link_cost (Some a) next along → IsLesser chain_rank before along made →
-        slice_get new e.from ≡ Some made → ((n : ℕ) → n ≢ e.from → slice_get new n ≡ slice_get old n) → AreBestRests c (e ∷ rest) last new
+        AreBestRests prices c rest last old → slice_get old e.from ≡ Some before → slice_get old e.to ≡ Some next →
+        IsBest (atom_rank prices) (AtomStands c e.atoms) (atom_tree a) → IsPut (link_cost prices) (Some a) next along → IsLesser chain_rank before along made →
+        slice_get new e.from ≡ Some made → ((n : ℕ) → n ≢ e.from → slice_get new n ≡ slice_get old n) → AreBestRests prices c (e ∷ rest) last new
     edge_step old new before next along made a are at to best put lesser here others = record {
       each = λ n o there. elim (cases_eq n e.from) [
         | inl same ↦
             let moved : slice_get new e.from ≡ Some o = subst (λ m. slice_get new m ≡ Some o) same there in
             let one : made ≡ o = cc in
-            let adds : (b : AtomTree) (p : Atoms) → program_cost (more b p) ≡ link_cost b + program_cost p = λ b p. refl in
-            let onto = best_put link_cost program_cost adds (AtomStands c e.atoms) (λ q. Walks q c rest last e.to) (Some a) next along put
-            (as_link (AtomStands c e.atoms) (Some a) best) (are.each e.to next to) in
-            let result = chains_lesser program_cost (λ p. Walks p c rest last e.from) (Starts (AtomStands c e.atoms) (λ q. Walks q c rest last e.to)) (λ p. Walks p c (e ∷ rest) last e.from)
+            let adds : (b : AtomTree) (p : Atoms) → program_cost prices (more b p) ≡ link_cost prices b + program_cost prices p = λ b p. refl in
+            let onto = best_put (link_cost prices) (program_cost prices) adds (AtomStands c e.atoms) (λ q. Walks q c rest last e.to) (Some a) next along put
+            (as_link prices (AtomStands c e.atoms) (Some a) best) (are.each e.to next to) in
+            let result = chains_lesser (program_cost prices) (λ p. Walks p c rest last e.from) (Starts (AtomStands c e.atoms) (λ q. Walks q c rest last e.to)) (λ p. Walks p c (e ∷ rest) last e.from)
             walk_splits (λ p h. walks_more p e.from h) walk_along before along made lesser (are.each e.from before at) onto in
-            subst (λ m. IsBestChain program_cost (λ p. Walks p c (e ∷ rest) last m) o) (sym same)
-            (subst (IsBestChain program_cost (λ p. Walks p c (e ∷ rest) last e.from)) one result)
+            subst (λ m. IsBestChain (program_cost prices) (λ p. Walks p c (e ∷ rest) last m) o) (sym same)
+            (subst (IsBestChain (program_cost prices) (λ p. Walks p c (e ∷ rest) last e.from)) one result)
         | inr apart ↦
-            same_chain program_cost (λ p. Walks p c rest last n) (λ p. Walks p c (e ∷ rest) last n) (λ p h. walks_back p n apart h) (λ p h. walks_more p n h) o
+            same_chain (program_cost prices) (λ p. Walks p c rest last n) (λ p. Walks p c (e ∷ rest) last n) (λ p h. walks_back p n apart h) (λ p h. walks_more p n h) o
             (are.each n o (sym (others n apart) ∙ there))
       ];
     }
 
     -- an edge along which all costs more than the best so far
-    pub edge_dear : (old : List (Option Chain)) (before next : Option Chain) (a : Atom) → AreBestRests c rest last old → slice_get old e.from ≡ Some before → slice_get old e.to ≡ Some next →
-        IsBest atom_rank (AtomStands c e.atoms) (atom_tree a) → CostsMore before (Some a) next → AreBestRests c (e ∷ rest) last old
+    pub edge_dear : (old : List (Option Chain)) (before next : Option Chain) (a : Atom) → AreBestRests prices c rest last old → slice_get old e.from ≡ Some before → slice_get old e.to ≡ Some next →
+        IsBest (atom_rank prices) (AtomStands c e.atoms) (atom_tree a) → CostsMore prices before (Some a) next → AreBestRests prices c (e ∷ rest) last old
     edge_dear old before next a are at to best dear =
-        let put = dear_put before a next dear in
+        let put = dear_put prices before a next dear in
         edge_step old old before next put.0 before a are at to best put.1 put.2 at (λ n apart. refl)
 
 -- without edges
 no_walk : (c : List Entry) (a : AtomTree) (q : Atoms) (last at : ℕ) → ¬ (Walks (more a q) c [] last at)
 no_walk c a q last at h = let there = h.1.1 in cc
 
-pub rests_start : (c : List Entry) (xs : List (Option Chain)) (x : Chain) → ((n : ℕ) (o : Option Chain) → slice_get xs n ≡ Some o → o ≡ None) →
-    x.cost ≡ 0 → program_tree x.atoms ≡ end → AreBestRests c [] (length xs) (xs ++ Some x ∷ [])
-rests_start c xs x none cost tree = record {
+pub rests_start : (prices : Prices) (c : List Entry) (xs : List (Option Chain)) (x : Chain) → ((n : ℕ) (o : Option Chain) → slice_get xs n ≡ Some o → o ≡ None) →
+    x.cost ≡ 0 → program_tree x.atoms ≡ end → AreBestRests prices c [] (length xs) (xs ++ Some x ∷ [])
+rests_start prices c xs x none cost tree = record {
   each = λ n o there. elim (get_pushed xs (Some x) n o there) [
-    | inl a ↦ subst (IsBestChain program_cost (λ p. Walks p c [] (length xs) n)) (sym (none n o a.1)) (nothing n a.0)
-    | inr b ↦ subst (IsBestChain program_cost (λ p. Walks p c [] (length xs) n)) b.1 (carried n b.0, subst (IsBest program_cmp (λ p. Walks p c [] (length xs) n)) (sym tree) (here n b.0))
+    | inl a ↦ subst (IsBestChain (program_cost prices) (λ p. Walks p c [] (length xs) n)) (sym (none n o a.1)) (nothing n a.0)
+    | inr b ↦ subst (IsBestChain (program_cost prices) (λ p. Walks p c [] (length xs) n)) b.1 (carried n b.0, subst (IsBest (program_cmp prices) (λ p. Walks p c [] (length xs) n)) (sym tree) (here n b.0))
   ];
 }
   where
@@ -112,13 +113,13 @@ rests_start c xs x none cost tree = record {
     nothing n lt end h = absurd (omega arith)
     nothing n lt (more a q) h = no_walk c a q (length xs) n h
 
-    carried : (n : ℕ) → n ≡ length xs → x.cost ≡ program_cost (program_tree x.atoms)
-    carried n e = cost ∙ ap program_cost (sym tree)
+    carried : (n : ℕ) → n ≡ length xs → x.cost ≡ program_cost prices (program_tree x.atoms)
+    carried n e = cost ∙ ap (program_cost prices) (sym tree)
 
-    here : (n : ℕ) → n ≡ length xs → IsBest program_cmp (λ p. Walks p c [] (length xs) n) end
+    here : (n : ℕ) → n ≡ length xs → IsBest (program_cmp prices) (λ p. Walks p c [] (length xs) n) end
     here n e = record { has = e; least = least }
       where
-        least : (p : Atoms) → Walks p c [] (length xs) n → AtMost (program_cmp end p)
+        least : (p : Atoms) → Walks p c [] (length xs) n → AtMost (program_cmp prices end p)
         least end h = inr refl
         least (more a q) h = absurd (no_walk c a q (length xs) n h)
 
@@ -127,16 +128,16 @@ reversed_less : (o q : Ordering) → q ≡ ordering_reverse o → AtMost o → �
 reversed_less o q e (inl h) less = cc
 reversed_less o q e (inr h) less = cc
 
-pub least_stands : (c : List Entry) (g nodes : ℕ) (edges : List Edge) (x : Chain) → slice_get c g ≡ Some (Graph nodes edges) →
-    IsBestChain program_cost (λ p. Walks p c edges (nodes - 1) 0) (Some x) → IsLeast (ProgramStands c g) (program_tree x.atoms)
-least_stands c g nodes edges x is best = record {
+pub least_stands : (prices : Prices) (c : List Entry) (g nodes : ℕ) (edges : List Edge) (x : Chain) → slice_get c g ≡ Some (Graph nodes edges) →
+    IsBestChain (program_cost prices) (λ p. Walks p c edges (nodes - 1) 0) (Some x) → IsLeast prices (ProgramStands c g) (program_tree x.atoms)
+least_stands prices c g nodes edges x is best = record {
   has = (nodes, edges, is, best.1.has);
   least = λ q h.
       let there = h.2 in
       let n : h.0 ≡ nodes = cc in
       let es : h.1 ≡ edges = cc in
       let walk = subst (λ m. Walks q c edges (m - 1) 0) n (subst (λ xs. Walks q c xs (h.0 - 1) 0) es h.3) in
-      reversed_less (program_cmp (program_tree x.atoms) q) (program_cmp q (program_tree x.atoms)) (program_antisymm q (program_tree x.atoms)) (best.1.least q walk);
+      reversed_less (program_cmp prices (program_tree x.atoms) q) (program_cmp prices q (program_tree x.atoms)) (program_antisymm prices q (program_tree x.atoms)) (best.1.least q walk);
 }
 
 -- each edge is the first of those from it on

@@ -3,6 +3,7 @@ use Rattle.std.specs.Prelude.{◌≡◌, ℕ, List, Option, Some}
 use Rattle.std.specs.HashMap.{get}
 use Rattle.std.specs.Bool.{nat_eq}
 use Rattle.fill_tokens.specs.declared.place.Place.{Place}
+use Rattle.fill_tokens.specs.declared.prices.Prices.{Prices}
 use Rattle.fill_tree.specs.Meaning.{atom_tree, source_tree}
 use Rattle.fill_tree.specs.declared.tree.Atom.{Atom}
 use Rattle.fill_tree.specs.declared.tree.Source.{Source}
@@ -13,7 +14,7 @@ use Rattle.fill_rank.specs.Sets.{PartStands}
 use Rattle.fill_rank.specs.declared.known.Known.{Known}
 
 -- each of them is the best of its set
-pub record AreKnown (c : List Entry) (known : Known) : Type 0 where
-  pub places : (s : ℕ) (p : Place) → get nat_eq known.places s ≡ Some p → IsBest place_rank (PlaceStands c s) p
-  pub sources : (s : ℕ) (x : Source) → get nat_eq known.sources s ≡ Some x → IsBest source_rank (SourceStands c s) (source_tree x)
-  pub parts : (s : ℕ) (o : Option Atom) → get nat_eq known.parts s ≡ Some o → IsBestOf atom_tree atom_rank (PartStands c s) o
+pub record AreKnown (prices : Prices) (c : List Entry) (known : Known) : Type 0 where
+  pub places : (s : ℕ) (p : Place) → get nat_eq known.places s ≡ Some p → IsBest (place_rank prices) (PlaceStands c s) p
+  pub sources : (s : ℕ) (x : Source) → get nat_eq known.sources s ≡ Some x → IsBest (source_rank prices) (SourceStands c s) (source_tree x)
+  pub parts : (s : ℕ) (o : Option Atom) → get nat_eq known.parts s ≡ Some o → IsBestOf atom_tree (atom_rank prices) (PartStands c s) o

@@ -3,8 +3,10 @@ use Rattle.std.specs.Prelude.{◌≡◌, ◌⊎◌, ℕ, Option, Some, None}
 use Rattle.std.specs.declared.cmp.Ordering.{Ordering}
 use Rattle.std.specs.declared.cmp.Ordering.TheVariants.{Less}
 use Rattle.std.specs.Ordering.{nat_cmp, ordering_then}
-use Rattle.fill_tokens.specs.Place.{place_cost, place_cmp}
+use Rattle.fill_tokens.specs.Place.{place_cmp}
+use Rattle.fill_tokens.specs.Prices.{place_cost}
 use Rattle.fill_tokens.specs.declared.place.Place.{Place}
+use Rattle.fill_tokens.specs.declared.prices.Prices.{Prices}
 use Rattle.fill_tree.specs.Cost.{source_cost, atom_cost, conditions_cost}
 use Rattle.fill_tree.specs.Meaning.{program_tree}
 use Rattle.fill_tree.specs.Order.{source_cmp, atom_cmp, atoms_cmp}
@@ -16,19 +18,19 @@ use Rattle.fill_text.specs.Orders.{AtMost}
 abbrev pub rank : {A : Type 0} → (A → ℕ) → (A → A → Ordering) → A → A → Ordering
 rank cost cmp x y = ordering_then (nat_cmp (cost x) (cost y)) (cmp x y)
 
-abbrev pub place_rank : Place → Place → Ordering
-place_rank = rank place_cost place_cmp
+abbrev pub place_rank : Prices → Place → Place → Ordering
+place_rank prices = rank (place_cost prices) place_cmp
 
-abbrev pub source_rank : SourceTree → SourceTree → Ordering
-source_rank = rank source_cost source_cmp
+abbrev pub source_rank : Prices → SourceTree → SourceTree → Ordering
+source_rank prices = rank (source_cost prices) source_cmp
 
 -- as atoms of a program; atoms that are no constants are in the same order as conditions
-abbrev pub atom_rank : AtomTree → AtomTree → Ordering
-atom_rank = rank atom_cost atom_cmp
+abbrev pub atom_rank : Prices → AtomTree → AtomTree → Ordering
+atom_rank prices = rank (atom_cost prices) atom_cmp
 
 -- rows of conditions of a lookup
-abbrev pub row_rank : Atoms → Atoms → Ordering
-row_rank = rank conditions_cost atoms_cmp
+abbrev pub row_rank : Prices → Atoms → Atoms → Ordering
+row_rank prices = rank (conditions_cost prices) atoms_cmp
 
 -- chains of atoms by the costs that they carry
 abbrev pub chain_rank : Chain → Chain → Ordering

@@ -1,5 +1,6 @@
 -- What stands in a part of a set, a lookup or a graph.
 use Rattle.std.specs.Prelude.{◌≡◌, ◌≢◌, ℕ, ◌+◌, ◌<◌, ◌^◌, List, Option, Some, None, slice_get}
+use Rattle.fill_tokens.specs.declared.prices.Prices.{Prices}
 use Rattle.fill_tree.specs.Cost.{conditions_cost, program_cost, atom_cost}
 use Rattle.fill_tree.specs.Grammar.{HasPart, IsPart}
 use Rattle.fill_tree.specs.Meaning.{atom_tree, program_tree}
@@ -34,8 +35,8 @@ abbrev pub ConstantStands : List Entry → ℕ → AtomTree → Type 0
 ConstantStands c s a = (¬ IsPart a) × AtomStands c s a
 
 -- the best condition of the item that is no constant is kept, and the item's constant
-abbrev pub IsBestPart : List Entry → ConditionItem → Option Atom → Type 0
-IsBestPart c i kept = IsBestOf atom_tree atom_rank (λ a. IsPart a × ConditionFits a c i (AtomFits a c)) kept
+abbrev pub IsBestPart : Prices → List Entry → ConditionItem → Option Atom → Type 0
+IsBestPart prices c i kept = IsBestOf atom_tree (atom_rank prices) (λ a. IsPart a × ConditionFits a c i (AtomFits a c)) kept
 
 abbrev pub IsConstantOf : ConditionItem → Option Atom → Type 0
 IsConstantOf i None = i.constant ≡ None
@@ -47,9 +48,9 @@ IsBestChain cost P None = (p : Atoms) → ¬ (P p)
 IsBestChain cost P (Some x) = (x.cost ≡ cost (program_tree x.atoms)) × IsBest (rank cost atoms_cmp) P (program_tree x.atoms)
 
 -- the best rows of conditions, and the best of those that are not constants alone
-pub record AreBestRows (c : List Entry) (items : List ConditionItem) (rows : Rows) : Type 0 where
-  pub any : IsBestChain conditions_cost (λ p. ConditionsFit p c items) rows.any
-  pub mixed : IsBestChain conditions_cost (λ p. HasPart p × ConditionsFit p c items) rows.mixed
+pub record AreBestRows (prices : Prices) (c : List Entry) (items : List ConditionItem) (rows : Rows) : Type 0 where
+  pub any : IsBestChain (conditions_cost prices) (λ p. ConditionsFit p c items) rows.any
+  pub mixed : IsBestChain (conditions_cost prices) (λ p. HasPart p × ConditionsFit p c items) rows.mixed
 
 -- a chain of a first atom and the rest, at the cost that the atom has and the rest carries; none where either is absent
 abbrev pub IsPut : (AtomTree → ℕ) → Option Atom → Option Chain → Option Chain → Type 0
@@ -65,12 +66,12 @@ IsCheap cost (Some a) None = Unit {0}
 IsCheap cost (Some a) (Some x) = cost (atom_tree a) + x.cost < 2 ^ 64
 
 -- an atom of a program, with what the program costs for each of them
-abbrev pub link_cost : AtomTree → ℕ
-link_cost a = 5 + atom_cost a
+abbrev pub link_cost : Prices → AtomTree → ℕ
+link_cost prices a = prices.atom + atom_cost prices a
 
 -- all three are there, and the atom and the rest cost more together than the best
-abbrev pub CostsMore : Option Chain → Option Atom → Option Chain → Type 0
-CostsMore best atom rest = (b : Chain) × (a : Atom) × (x : Chain) × (best ≡ Some b) × (atom ≡ Some a) × (rest ≡ Some x) × (b.cost < link_cost (atom_tree a) + x.cost)
+abbrev pub CostsMore : Prices → Option Chain → Option Atom → Option Chain → Type 0
+CostsMore prices best atom rest = (b : Chain) × (a : Atom) × (x : Chain) × (best ≡ Some b) × (atom ≡ Some a) × (rest ≡ Some x) × (b.cost < link_cost prices (atom_tree a) + x.cost)
 
 -- the edge leads to a node after its own, and none of the rest leads back to its own
 pub record IsFirstEdge (e : Edge) (rest : List Edge) : Type 0 where
@@ -78,9 +79,9 @@ pub record IsFirstEdge (e : Edge) (rest : List Edge) : Type 0 where
   pub never_back : (f : Edge) → In f rest → f.to ≢ e.from
 
 -- for each node the best program that a walk over the edges from it to the last node has
-pub record AreBestRests (c : List Entry) (edges : List Edge) (last : ℕ) (table : List (Option Chain)) : Type 0 where
-  pub each : (n : ℕ) (o : Option Chain) → slice_get table n ≡ Some o → IsBestChain program_cost (λ p. Walks p c edges last n) o
+pub record AreBestRests (prices : Prices) (c : List Entry) (edges : List Edge) (last : ℕ) (table : List (Option Chain)) : Type 0 where
+  pub each : (n : ℕ) (o : Option Chain) → slice_get table n ≡ Some o → IsBestChain (program_cost prices) (λ p. Walks p c edges last n) o
 
 -- what the atoms on a walk over the edges to the last node cost is one of the machine's numbers
-abbrev pub WalksAreCheap : List Entry → List Edge → ℕ → Type 0
-WalksAreCheap c edges last = (p : Atoms) (at : ℕ) → Walks p c edges last at → program_cost p < 2 ^ 64
+abbrev pub WalksAreCheap : Prices → List Entry → List Edge → ℕ → Type 0
+WalksAreCheap prices c edges last = (p : Atoms) (at : ℕ) → Walks p c edges last at → program_cost prices p < 2 ^ 64

@@ -8,7 +8,7 @@ ghost use Rattle.fill_rank.specs.Rank.{IsLesser, chain_rank};
 ghost use Rattle.fill_rank.specs.Sets.{CostsMore, IsCheap, IsPut, link_cost};
 
 use fill_text::{List, NoMemory};
-use fill_tree::{Atom, Program};
+use fill_tree::{Atom, Prices, Program};
 use std::alloc::Global;
 use std::cmp::Ordering;
 
@@ -57,16 +57,17 @@ fn followed_by(alloc: Global, atom: &Atom, rest: &Program) -> Result<Program, No
 /// A condition before a row of conditions; none where either is absent.
 pub(crate) fn put_condition(
     alloc: Global,
+    prices: &Prices,
     atom: &Option<Atom>,
     row: &Option<Chain>,
 ) -> Result<Option<Chain>, NoMemory>
-    requires { IsCheap condition_cost atom.now row.now }
-    ensures { IfOk result (λ made. IsPut condition_cost atom.now row.now made) }
+    requires { IsCheap (condition_cost prices.now) atom.now row.now }
+    ensures { IfOk result (λ made. IsPut (condition_cost prices.now) atom.now row.now made) }
 {
     let (Some(atom), Some(row)) = (atom, row) else {
         return Ok(None);
     };
-    let Some(own) = atom.condition_cost() else {
+    let Some(own) = atom.condition_cost(prices) else {
         unreachable!()
     };
     let cost = own + row.cost;
@@ -77,27 +78,33 @@ pub(crate) fn put_condition(
 /// An atom before the rest of a program; none where either is absent.
 pub(crate) fn put_atom(
     alloc: Global,
+    prices: &Prices,
     atom: &Option<Atom>,
     rest: &Option<Chain>,
 ) -> Result<Option<Chain>, NoMemory>
-    requires { IsCheap link_cost atom.now rest.now }
-    ensures { IfOk result (λ made. IsPut link_cost atom.now rest.now made) }
+    requires { IsCheap (link_cost prices.now) atom.now rest.now }
+    ensures { IfOk result (λ made. IsPut (link_cost prices.now) atom.now rest.now made) }
 {
     let (Some(atom), Some(rest)) = (atom, rest) else {
         return Ok(None);
     };
-    let Some(own) = atom.cost() else {
+    let Some(own) = atom.cost(prices) else {
         unreachable!()
     };
-    let cost = own + 5 + rest.cost;
+    let cost = own + prices.atom as u64 + rest.cost;
     let atoms = followed_by(alloc, atom, &rest.atoms)?;
     Ok(Some(Chain { cost, atoms }))
 }
 
 /// Whether the atom before the rest of a program costs more than the best so far, so that it need not be put together.
-pub(crate) fn is_dearer(best: &Option<Chain>, atom: &Option<Atom>, rest: &Option<Chain>) -> bool
-    requires { IsCheap link_cost atom.now rest.now }
-    ensures { IsTrue result → CostsMore best.now atom.now rest.now }
+pub(crate) fn is_dearer(
+    prices: &Prices,
+    best: &Option<Chain>,
+    atom: &Option<Atom>,
+    rest: &Option<Chain>,
+) -> bool
+    requires { IsCheap (link_cost prices.now) atom.now rest.now }
+    ensures { IsTrue result → CostsMore prices.now best.now atom.now rest.now }
 {
     let (Some(atom), Some(rest)) = (atom, rest) else {
         return false;
@@ -105,8 +112,8 @@ pub(crate) fn is_dearer(best: &Option<Chain>, atom: &Option<Atom>, rest: &Option
     let Some(best) = best else {
         return false;
     };
-    let Some(own) = atom.cost() else {
+    let Some(own) = atom.cost(prices) else {
         unreachable!()
     };
-    best.cost < own + 5 + rest.cost
+    best.cost < own + prices.atom as u64 + rest.cost
 }

@@ -1,5 +1,6 @@
 //! The least program of a graph.
 ghost use Rattle.std.specs.Prelude.{◌≡◌, ℕ, ◌-◌, ◌<◌, ◌∷◌, [], List as Items, IfOk, OnOk, length};
+ghost use Rattle.fill_tokens.specs.declared.prices.Prices.{Prices as Table};
 ghost use Rattle.fill_tree.specs.Chosen.{IsLeast};
 ghost use Rattle.fill_tree.specs.Meaning.{program_tree};
 ghost use Rattle.fill_arena.specs.Contents.{IsAtomSet, IsGraph};
@@ -14,25 +15,26 @@ use crate::known::Known;
 use crate::sets::atom_of;
 use fill_arena::{Arena, Edge, GraphId};
 use fill_text::{List, NoMemory};
-use fill_tree::Program;
+use fill_tree::{Prices, Program};
 use std::alloc::Global;
 
-/// The least program that stands in a graph.
+/// The least program that stands in a graph, by the prices.
 ///
 /// The edges into a node stand before those out of it. So going over the edges from the back, all that lead on from
 /// where an edge ends are done, and a table of each node's least rest of a program is enough.
-pub fn least(alloc: Global, arena: &Arena, g: GraphId) -> Result<Program, NoMemory>
+pub fn least(alloc: Global, prices: &Prices, arena: &Arena, g: GraphId) -> Result<Program, NoMemory>
     requires { IsGraph arena.now g }
-    ensures { IfOk result (λ p. IsLeast (ProgramStands arena.now g) (program_tree p)) }
+    ensures { IfOk result (λ p. IsLeast prices.now (ProgramStands arena.now g) (program_tree p)) }
 {
     arena.keeps_made();
+    prices.keep_small();
     let edges = arena.edges(g);
     let mut rests = no_edges(alloc, arena.nodes(g))?;
     let mut known = Known::new(alloc);
     let mut left = edges.len();
     while left > 0 {
         left -= 1;
-        take_edge(alloc, arena, &mut known, &mut rests, edges[left])?;
+        take_edge(alloc, prices, arena, &mut known, &mut rests, edges[left])?;
     }
     let Some(first) = rests[0].take() else {
         unreachable!()
@@ -44,7 +46,7 @@ pub fn least(alloc: Global, arena: &Arena, g: GraphId) -> Result<Program, NoMemo
 fn no_edges(alloc: Global, nodes: usize) -> Result<Vec<Option<Chain>>, NoMemory>
     requires { 0 < nodes }
     ensures length { IfOk result (λ rests. length rests.items ≡ nodes) }
-    ensures best { (c : Items Entry) → IfOk result (λ rests. AreBestRests c [] (nodes - 1) rests.items) }
+    ensures best { (prices : Table) (c : Items Entry) → IfOk result (λ rests. AreBestRests prices c [] (nodes - 1) rests.items) }
 {
     let mut rests = Vec::new(alloc);
     for _node in 1..nodes {
@@ -60,6 +62,7 @@ fn no_edges(alloc: Global, nodes: usize) -> Result<Vec<Option<Chain>>, NoMemory>
 /// Takes one more edge, at the front of the others.
 fn take_edge(
     alloc: Global,
+    prices: &Prices,
     arena: &Arena,
     known: &mut Known,
     rests: &mut Vec<Option<Chain>>,
@@ -68,18 +71,18 @@ fn take_edge(
     requires set { IsAtomSet arena.now edge.atoms }
     requires from { edge.from < length rests.old.items }
     requires to { edge.to < length rests.old.items }
-    requires known { AreKnown arena.now known.old }
-    requires cheap { (others : Items Listed) × (last : ℕ) × AreBestRests arena.now others last rests.old.items × WalksAreCheap arena.now (edge ∷ others) last }
-    ensures known { OnOk result (AreKnown arena.now known.new) }
+    requires known { AreKnown prices.now arena.now known.old }
+    requires cheap { (others : Items Listed) × (last : ℕ) × AreBestRests prices.now arena.now others last rests.old.items × WalksAreCheap prices.now arena.now (edge ∷ others) last }
+    ensures known { OnOk result (AreKnown prices.now arena.now known.new) }
     ensures length { length rests.new.items ≡ length rests.old.items }
     ensures best { OnOk result ((last : ℕ) (others : Items Listed) → IsFirstEdge edge others →
-        AreBestRests arena.now others last rests.old.items → AreBestRests arena.now (edge ∷ others) last rests.new.items) }
+        AreBestRests prices.now arena.now others last rests.old.items → AreBestRests prices.now arena.now (edge ∷ others) last rests.new.items) }
 {
-    let atom = Some(atom_of(alloc, arena, known, edge.atoms)?);
-    if is_dearer(&rests[edge.from], &atom, &rests[edge.to]) {
+    let atom = Some(atom_of(alloc, prices, arena, known, edge.atoms)?);
+    if is_dearer(prices, &rests[edge.from], &atom, &rests[edge.to]) {
         return Ok(());
     }
-    let along = put_atom(alloc, &atom, &rests[edge.to])?;
+    let along = put_atom(alloc, prices, &atom, &rests[edge.to])?;
     let before = rests[edge.from].take();
     rests[edge.from] = lesser(before, along);
     Ok(())

@@ -2,6 +2,7 @@
 ghost use Rattle.std.specs.Prelude.{◌≡◌, List as Items, IfSome, OnOk, Some, option_copied};
 ghost use Rattle.std.specs.Bool.{nat_eq};
 ghost use Rattle.std.specs.HashMap.{get};
+ghost use Rattle.fill_tokens.specs.declared.prices.Prices.{Prices};
 ghost use Rattle.fill_tree.specs.Meaning.{atom_tree, source_tree};
 ghost use Rattle.fill_arena.specs.Stands.{PlaceStands, SourceStands};
 ghost use Rattle.fill_arena.specs.declared.entry.Entry.{Entry};
@@ -26,7 +27,7 @@ pub(crate) struct Known {
 
 impl Known {
     pub fn new(alloc: Global) -> Known
-        ensures { (c : Items Entry) → AreKnown c result }
+        ensures { (prices : Prices) (c : Items Entry) → AreKnown prices c result }
     {
         Known {
             places: HashMap::new(alloc),
@@ -36,28 +37,28 @@ impl Known {
     }
 
     pub fn place(&self, s: PlaceSet) -> Option<Place>
-        ensures right { (c : Items Entry) → AreKnown c self.now → IfSome result (λ p. IsBest place_rank (PlaceStands c s) p) }
+        ensures right { (prices : Prices) (c : Items Entry) → AreKnown prices c self.now → IfSome result (λ p. IsBest (place_rank prices) (PlaceStands c s) p) }
         ensures found { result ≡ get nat_eq self.now.places s }
     {
         self.places.get(&s).copied()
     }
 
     pub fn source(&self, s: SourceSet) -> Option<&Source>
-        ensures right { (c : Items Entry) → AreKnown c self.now → IfSome result (λ x. IsBest source_rank (SourceStands c s) (source_tree x.now)) }
+        ensures right { (prices : Prices) (c : Items Entry) → AreKnown prices c self.now → IfSome result (λ x. IsBest (source_rank prices) (SourceStands c s) (source_tree x.now)) }
         ensures found { option_copied result ≡ get nat_eq self.now.sources s }
     {
         self.sources.get(&s)
     }
 
     pub fn part(&self, s: AtomSet) -> Option<&Option<Atom>>
-        ensures right { (c : Items Entry) → AreKnown c self.now → IfSome result (λ o. IsBestOf atom_tree atom_rank (PartStands c s) o.now) }
+        ensures right { (prices : Prices) (c : Items Entry) → AreKnown prices c self.now → IfSome result (λ o. IsBestOf atom_tree (atom_rank prices) (PartStands c s) o.now) }
         ensures found { option_copied result ≡ get nat_eq self.now.parts s }
     {
         self.parts.get(&s)
     }
 
     pub fn keep_place(&mut self, s: PlaceSet, p: &Place) -> Result<(), NoMemory>
-        ensures kept { OnOk result ((c : Items Entry) → AreKnown c self.old → IsBest place_rank (PlaceStands c s) p.now → AreKnown c self.new) }
+        ensures kept { OnOk result ((prices : Prices) (c : Items Entry) → AreKnown prices c self.old → IsBest (place_rank prices) (PlaceStands c s) p.now → AreKnown prices c self.new) }
         ensures there { OnOk result (get nat_eq self.new.places s ≡ Some p.now) }
     {
         match self.places.insert(s, *p) {
@@ -67,7 +68,7 @@ impl Known {
     }
 
     pub fn keep_source(&mut self, s: SourceSet, x: Source) -> Result<(), NoMemory>
-        ensures kept { OnOk result ((c : Items Entry) → AreKnown c self.old → IsBest source_rank (SourceStands c s) (source_tree x) → AreKnown c self.new) }
+        ensures kept { OnOk result ((prices : Prices) (c : Items Entry) → AreKnown prices c self.old → IsBest (source_rank prices) (SourceStands c s) (source_tree x) → AreKnown prices c self.new) }
         ensures there { OnOk result (get nat_eq self.new.sources s ≡ Some x) }
     {
         match self.sources.insert(s, x) {
@@ -77,7 +78,7 @@ impl Known {
     }
 
     pub fn keep_part(&mut self, s: AtomSet, o: Option<Atom>) -> Result<(), NoMemory>
-        ensures kept { OnOk result ((c : Items Entry) → AreKnown c self.old → IsBestOf atom_tree atom_rank (PartStands c s) o → AreKnown c self.new) }
+        ensures kept { OnOk result ((prices : Prices) (c : Items Entry) → AreKnown prices c self.old → IsBestOf atom_tree (atom_rank prices) (PartStands c s) o → AreKnown prices c self.new) }
         ensures there { OnOk result (get nat_eq self.new.parts s ≡ Some o) }
     {
         match self.parts.insert(s, o) {

@@ -6,55 +6,55 @@ ghost use Rattle.fill_tree.specs.Meaning.{atom_tree, source_tree};
 ghost use Rattle.fill_arena.specs.Contents.{In};
 ghost use Rattle.fill_rank.specs.Rank.{IsBest, IsLesser, atom_rank, place_rank, source_rank};
 
-use fill_tokens::Place;
+use fill_tokens::{Place, Prices};
 use fill_tree::{Atom, Source};
 use std::cmp::Ordering;
 
 /// The best of the places.
-pub(crate) fn least_place(places: &[Place]) -> Place
+pub(crate) fn least_place(prices: &Prices, places: &[Place]) -> Place
     requires { 0 < length places.now }
-    ensures { IsBest place_rank (λ p. In p places.now) result }
+    ensures { IsBest (place_rank prices.now) (λ p. In p places.now) result }
 {
     let mut best = places[0];
     for i in 1..places.len() {
-        if place_before(&places[i], &best) {
+        if place_before(prices, &places[i], &best) {
             best = places[i];
         }
     }
     best
 }
 
-fn place_before(a: &Place, b: &Place) -> bool
-    ensures { IsTrue result ↔ (place_rank a.now b.now ≡ Less) }
+fn place_before(prices: &Prices, a: &Place, b: &Place) -> bool
+    ensures { IsTrue result ↔ (place_rank prices.now a.now b.now ≡ Less) }
 {
-    a.cost().cmp(&b.cost()).then(a.compare(b)) == Ordering::Less
+    a.cost(prices).cmp(&b.cost(prices)).then(a.compare(b)) == Ordering::Less
 }
 
 /// Whether the first source is before the second.
-fn source_before(a: &Source, b: &Source) -> bool
-    requires first { source_cost (source_tree a.now) < 2 ^ 64 }
-    requires second { source_cost (source_tree b.now) < 2 ^ 64 }
-    ensures { IsTrue result ↔ (source_rank (source_tree a.now) (source_tree b.now) ≡ Less) }
+fn source_before(prices: &Prices, a: &Source, b: &Source) -> bool
+    requires first { source_cost prices.now (source_tree a.now) < 2 ^ 64 }
+    requires second { source_cost prices.now (source_tree b.now) < 2 ^ 64 }
+    ensures { IsTrue result ↔ (source_rank prices.now (source_tree a.now) (source_tree b.now) ≡ Less) }
 {
-    let Some(first) = a.cost() else {
+    let Some(first) = a.cost(prices) else {
         unreachable!()
     };
-    let Some(second) = b.cost() else {
+    let Some(second) = b.cost(prices) else {
         unreachable!()
     };
     first.cmp(&second).then(a.compare(b)) == Ordering::Less
 }
 
 /// The lesser of two sources, of which the first may be absent.
-pub(crate) fn lesser_source(best: Option<Source>, next: Source) -> Option<Source>
-    requires best { IfSome best (λ x. source_cost (source_tree x) < 2 ^ 64) }
-    requires next { source_cost (source_tree next) < 2 ^ 64 }
-    ensures { IsLesser (λ x y. source_rank (source_tree x) (source_tree y)) best (Some next) result }
+pub(crate) fn lesser_source(prices: &Prices, best: Option<Source>, next: Source) -> Option<Source>
+    requires best { IfSome best (λ x. source_cost prices.now (source_tree x) < 2 ^ 64) }
+    requires next { source_cost prices.now (source_tree next) < 2 ^ 64 }
+    ensures { IsLesser (λ x y. source_rank prices.now (source_tree x) (source_tree y)) best (Some next) result }
 {
     let Some(known) = best else {
         return Some(next);
     };
-    Some(if source_before(&next, &known) {
+    Some(if source_before(prices, &next, &known) {
         next
     } else {
         known
@@ -62,25 +62,25 @@ pub(crate) fn lesser_source(best: Option<Source>, next: Source) -> Option<Source
 }
 
 /// Whether the first atom is before the second, as atoms of a program.
-fn atom_before(a: &Atom, b: &Atom) -> bool
-    requires first { atom_cost (atom_tree a.now) < 2 ^ 64 }
-    requires second { atom_cost (atom_tree b.now) < 2 ^ 64 }
-    ensures { IsTrue result ↔ (atom_rank (atom_tree a.now) (atom_tree b.now) ≡ Less) }
+fn atom_before(prices: &Prices, a: &Atom, b: &Atom) -> bool
+    requires first { atom_cost prices.now (atom_tree a.now) < 2 ^ 64 }
+    requires second { atom_cost prices.now (atom_tree b.now) < 2 ^ 64 }
+    ensures { IsTrue result ↔ (atom_rank prices.now (atom_tree a.now) (atom_tree b.now) ≡ Less) }
 {
-    let Some(first) = a.cost() else {
+    let Some(first) = a.cost(prices) else {
         unreachable!()
     };
-    let Some(second) = b.cost() else {
+    let Some(second) = b.cost(prices) else {
         unreachable!()
     };
     first.cmp(&second).then(a.compare(b)) == Ordering::Less
 }
 
 /// The lesser of two atoms that may be absent.
-pub(crate) fn lesser_atom(best: Option<Atom>, next: Option<Atom>) -> Option<Atom>
-    requires best { IfSome best (λ x. atom_cost (atom_tree x) < 2 ^ 64) }
-    requires next { IfSome next (λ x. atom_cost (atom_tree x) < 2 ^ 64) }
-    ensures { IsLesser (λ x y. atom_rank (atom_tree x) (atom_tree y)) best next result }
+pub(crate) fn lesser_atom(prices: &Prices, best: Option<Atom>, next: Option<Atom>) -> Option<Atom>
+    requires best { IfSome best (λ x. atom_cost prices.now (atom_tree x) < 2 ^ 64) }
+    requires next { IfSome next (λ x. atom_cost prices.now (atom_tree x) < 2 ^ 64) }
+    ensures { IsLesser (λ x y. atom_rank prices.now (atom_tree x) (atom_tree y)) best next result }
 {
     let Some(known) = best else {
         return next;
@@ -88,7 +88,7 @@ pub(crate) fn lesser_atom(best: Option<Atom>, next: Option<Atom>) -> Option<Atom
     let Some(other) = next else {
         return Some(known);
     };
-    Some(if atom_before(&other, &known) {
+    Some(if atom_before(prices, &other, &known) {
         other
     } else {
         known

@@ -3,6 +3,7 @@
 //! The best of a product of sets is the product of the bests, since costs add up and parts are compared one after the
 //! other. Lookups are no such product, for not all of their conditions may be constants: see [`Rows`].
 ghost use Rattle.std.specs.Prelude.{◌≡◌, ◌≤◌, ◌∷◌, length, List as Items, IfOk, OnOk, option_map};
+ghost use Rattle.fill_tokens.specs.declared.prices.Prices.{Prices as Table};
 ghost use Rattle.fill_tree.specs.Meaning.{atom_tree, source_tree};
 ghost use Rattle.fill_arena.specs.Contents.{EachIn, IsAtomSet, IsPlaceSet, IsSourceSet};
 ghost use Rattle.fill_arena.specs.Stands.{AtomStands, PlaceStands, SourceFits, SourceStands};
@@ -20,7 +21,7 @@ use fill_arena::{
     Arena, AtomItem, AtomSet, ConditionItem, PlaceSet, SelectItem, SourceItem, SourceSet,
 };
 use fill_text::NoMemory;
-use fill_tokens::Place;
+use fill_tokens::{Place, Prices};
 use fill_tree::{Atom, Select, Source};
 use std::alloc::Global;
 
@@ -28,17 +29,23 @@ use std::alloc::Global;
 const FEW_ITEMS: usize = 4;
 
 /// The best place of a set.
-fn place_of(arena: &Arena, known: &mut Known, s: PlaceSet) -> Result<Place, NoMemory>
+fn place_of(
+    prices: &Prices,
+    arena: &Arena,
+    known: &mut Known,
+    s: PlaceSet,
+) -> Result<Place, NoMemory>
     requires set { IsPlaceSet arena.now s }
-    requires known { AreKnown arena.now known.old }
-    ensures known { OnOk result (AreKnown arena.now known.new) }
-    ensures best { IfOk result (λ p. IsBest place_rank (PlaceStands arena.now s) p) }
+    requires known { AreKnown prices.now arena.now known.old }
+    ensures known { OnOk result (AreKnown prices.now arena.now known.new) }
+    ensures best { IfOk result (λ p. IsBest (place_rank prices.now) (PlaceStands arena.now s) p) }
 {
     if let Some(found) = known.place(s) {
         return Ok(found);
     }
     arena.keeps_made();
-    let best = least_place(arena.places(s));
+    prices.keep_small();
+    let best = least_place(prices, arena.places(s));
     known.keep_place(s, &best)?;
     Ok(best)
 }
@@ -47,19 +54,20 @@ fn place_of(arena: &Arena, known: &mut Known, s: PlaceSet) -> Result<Place, NoMe
 #[cycle(sets)]
 fn source_of(
     alloc: Global,
+    prices: &Prices,
     arena: &Arena,
     known: &mut Known,
     s: SourceSet,
 ) -> Result<Source, NoMemory>
     requires set { IsSourceSet arena.now s }
-    requires known { AreKnown arena.now known.old }
-    ensures known { OnOk result (AreKnown arena.now known.new) }
-    ensures best { IfOk result (λ x. IsBest source_rank (SourceStands arena.now s) (source_tree x)) }
+    requires known { AreKnown prices.now arena.now known.old }
+    ensures known { OnOk result (AreKnown prices.now arena.now known.new) }
+    ensures best { IfOk result (λ x. IsBest (source_rank prices.now) (SourceStands arena.now s) (source_tree x)) }
 {
     if let Some(found) = known.source(s) {
         return found.copy(alloc);
     }
-    let best = scan_sources(alloc, arena, known, s)?;
+    let best = scan_sources(alloc, prices, arena, known, s)?;
     known.keep_source(s, best.copy(alloc)?)?;
     Ok(best)
 }
@@ -67,21 +75,23 @@ fn source_of(
 #[cycle(sets)]
 fn scan_sources(
     alloc: Global,
+    prices: &Prices,
     arena: &Arena,
     known: &mut Known,
     s: SourceSet,
 ) -> Result<Source, NoMemory>
     requires set { IsSourceSet arena.now s }
-    requires known { AreKnown arena.now known.old }
-    ensures known { OnOk result (AreKnown arena.now known.new) }
-    ensures best { IfOk result (λ x. IsBest source_rank (SourceStands arena.now s) (source_tree x)) }
+    requires known { AreKnown prices.now arena.now known.old }
+    ensures known { OnOk result (AreKnown prices.now arena.now known.new) }
+    ensures best { IfOk result (λ x. IsBest (source_rank prices.now) (SourceStands arena.now s) (source_tree x)) }
 {
     arena.keeps_made();
+    prices.keep_small();
     let items = arena.sources(s);
     let mut best: Option<Source> = None;
     for item in items {
-        let next = source_in(alloc, arena, known, s, item)?;
-        best = lesser_source(best, next);
+        let next = source_in(alloc, prices, arena, known, s, item)?;
+        best = lesser_source(prices, best, next);
     }
     let Some(source) = best else { unreachable!() };
     Ok(source)
@@ -91,36 +101,38 @@ fn scan_sources(
 #[cycle(sets)]
 fn source_in(
     alloc: Global,
+    prices: &Prices,
     arena: &Arena,
     known: &mut Known,
     set: SourceSet,
     item: &SourceItem,
 ) -> Result<Source, NoMemory>
     requires item { IsSourceItem arena.now set item.now }
-    requires known { AreKnown arena.now known.old }
-    ensures known { OnOk result (AreKnown arena.now known.new) }
-    ensures best { IfOk result (λ x. IsBest source_rank (λ y. SourceFits y arena.now item.now) (source_tree x)) }
+    requires known { AreKnown prices.now arena.now known.old }
+    ensures known { OnOk result (AreKnown prices.now arena.now known.new) }
+    ensures best { IfOk result (λ x. IsBest (source_rank prices.now) (λ y. SourceFits y arena.now item.now) (source_tree x)) }
 {
     match item {
         SourceItem::Col(column) => Ok(Source::Col(*column)),
-        SourceItem::Select(listed) => lookup_in(alloc, arena, known, set, listed),
+        SourceItem::Select(listed) => lookup_in(alloc, prices, arena, known, set, listed),
     }
 }
 
 #[cycle(sets)]
 fn lookup_in(
     alloc: Global,
+    prices: &Prices,
     arena: &Arena,
     known: &mut Known,
     set: SourceSet,
     item: &SelectItem,
 ) -> Result<Source, NoMemory>
     requires item { IsSelectItem arena.now set item.now }
-    requires known { AreKnown arena.now known.old }
-    ensures known { OnOk result (AreKnown arena.now known.new) }
-    ensures best { IfOk result (λ x. IsBest source_rank (λ y. SourceFits y arena.now (SourceItem.Select item.now)) (source_tree x)) }
+    requires known { AreKnown prices.now arena.now known.old }
+    ensures known { OnOk result (AreKnown prices.now arena.now known.new) }
+    ensures best { IfOk result (λ x. IsBest (source_rank prices.now) (λ y. SourceFits y arena.now (SourceItem.Select item.now)) (source_tree x)) }
 {
-    let rows = rows_of(alloc, arena, known, set, item.conditions.as_slice())?;
+    let rows = rows_of(alloc, prices, arena, known, set, item.conditions.as_slice())?;
     let Rows { any: _any, mixed } = rows;
     let Some(row) = mixed else { unreachable!() };
     let select = Select {
@@ -136,6 +148,7 @@ fn lookup_in(
 #[cycle(sets)]
 fn rows_of(
     alloc: Global,
+    prices: &Prices,
     arena: &Arena,
     known: &mut Known,
     set: SourceSet,
@@ -143,15 +156,15 @@ fn rows_of(
 ) -> Result<Rows, NoMemory>
     requires items { EachIn (IsConditionItem arena.now set) items.now }
     requires few { length items.now ≤ 3 }
-    requires known { AreKnown arena.now known.old }
-    ensures known { OnOk result (AreKnown arena.now known.new) }
-    ensures best { IfOk result (λ rows. AreBestRows arena.now items.now rows) }
+    requires known { AreKnown prices.now arena.now known.old }
+    ensures known { OnOk result (AreKnown prices.now arena.now known.new) }
+    ensures best { IfOk result (λ rows. AreBestRows prices.now arena.now items.now rows) }
 {
     let mut rows = no_conditions(alloc);
     let mut left = items.len();
     while left > 0 {
         left -= 1;
-        rows = longer_rows(alloc, arena, known, set, &items[left], rows)?;
+        rows = longer_rows(alloc, prices, arena, known, set, &items[left], rows)?;
     }
     Ok(rows)
 }
@@ -159,6 +172,7 @@ fn rows_of(
 #[cycle(sets)]
 fn longer_rows(
     alloc: Global,
+    prices: &Prices,
     arena: &Arena,
     known: &mut Known,
     set: SourceSet,
@@ -166,21 +180,22 @@ fn longer_rows(
     rows: Rows,
 ) -> Result<Rows, NoMemory>
     requires item { IsConditionItem arena.now set item.now }
-    requires rows { (is : Items Listed) × EachIn (IsConditionItem arena.now set) (item.now ∷ is) × (length (item.now ∷ is) ≤ 3) × AreBestRows arena.now is rows }
-    requires known { AreKnown arena.now known.old }
-    ensures known { OnOk result (AreKnown arena.now known.new) }
-    ensures best { IfOk result (λ made. (is : Items Listed) → AreBestRows arena.now is rows → AreBestRows arena.now (item.now ∷ is) made) }
+    requires rows { (is : Items Listed) × EachIn (IsConditionItem arena.now set) (item.now ∷ is) × (length (item.now ∷ is) ≤ 3) × AreBestRows prices.now arena.now is rows }
+    requires known { AreKnown prices.now arena.now known.old }
+    ensures known { OnOk result (AreKnown prices.now arena.now known.new) }
+    ensures best { IfOk result (λ made. (is : Items Listed) → AreBestRows prices.now arena.now is rows → AreBestRows prices.now arena.now (item.now ∷ is) made) }
 {
     let constant = match &item.constant {
         Some(text) => Some(Atom::Const(text.copy()?)),
         None => None,
     };
     let part = match item.atoms {
-        Some(atoms) => part_of(alloc, arena, known, atoms)?,
+        Some(atoms) => part_of(alloc, prices, arena, known, atoms)?,
         None => None,
     };
     arena.keeps_made();
-    put_in_front(alloc, constant, part, rows)
+    prices.keep_small();
+    put_in_front(alloc, prices, constant, part, rows)
 }
 
 fn copy_of(alloc: Global, atom: &Option<Atom>) -> Result<Option<Atom>, NoMemory>
@@ -196,19 +211,20 @@ fn copy_of(alloc: Global, atom: &Option<Atom>) -> Result<Option<Atom>, NoMemory>
 #[cycle(sets)]
 fn part_of(
     alloc: Global,
+    prices: &Prices,
     arena: &Arena,
     known: &mut Known,
     s: AtomSet,
 ) -> Result<Option<Atom>, NoMemory>
     requires set { IsAtomSet arena.now s }
-    requires known { AreKnown arena.now known.old }
-    ensures known { OnOk result (AreKnown arena.now known.new) }
-    ensures best { IfOk result (λ o. IsBestOf atom_tree atom_rank (PartStands arena.now s) o) }
+    requires known { AreKnown prices.now arena.now known.old }
+    ensures known { OnOk result (AreKnown prices.now arena.now known.new) }
+    ensures best { IfOk result (λ o. IsBestOf atom_tree (atom_rank prices.now) (PartStands arena.now s) o) }
 {
     if let Some(found) = known.part(s) {
         return copy_of(alloc, found);
     }
-    let best = scan_parts(alloc, arena, known, s)?;
+    let best = scan_parts(alloc, prices, arena, known, s)?;
     known.keep_part(s, copy_of(alloc, &best)?)?;
     Ok(best)
 }
@@ -216,21 +232,23 @@ fn part_of(
 #[cycle(sets)]
 fn scan_parts(
     alloc: Global,
+    prices: &Prices,
     arena: &Arena,
     known: &mut Known,
     s: AtomSet,
 ) -> Result<Option<Atom>, NoMemory>
     requires set { IsAtomSet arena.now s }
-    requires known { AreKnown arena.now known.old }
-    ensures known { OnOk result (AreKnown arena.now known.new) }
-    ensures best { IfOk result (λ o. IsBestOf atom_tree atom_rank (PartStands arena.now s) o) }
+    requires known { AreKnown prices.now arena.now known.old }
+    ensures known { OnOk result (AreKnown prices.now arena.now known.new) }
+    ensures best { IfOk result (λ o. IsBestOf atom_tree (atom_rank prices.now) (PartStands arena.now s) o) }
 {
     arena.keeps_made();
+    prices.keep_small();
     let items = arena.atoms(s);
     let mut best: Option<Atom> = None;
     for item in items {
-        let next = part_in(alloc, arena, known, s, item)?;
-        best = lesser_atom(best, next);
+        let next = part_in(alloc, prices, arena, known, s, item)?;
+        best = lesser_atom(prices, best, next);
     }
     Ok(best)
 }
@@ -239,25 +257,26 @@ fn scan_parts(
 #[cycle(sets)]
 fn part_in(
     alloc: Global,
+    prices: &Prices,
     arena: &Arena,
     known: &mut Known,
     set: AtomSet,
     item: &AtomItem,
 ) -> Result<Option<Atom>, NoMemory>
     requires item { IsAtomItem arena.now set item.now }
-    requires known { AreKnown arena.now known.old }
-    ensures known { OnOk result (AreKnown arena.now known.new) }
-    ensures best { IfOk result (λ o. IsBestOf atom_tree atom_rank (λ a. PartFits arena.now item.now a) o) }
+    requires known { AreKnown prices.now arena.now known.old }
+    ensures known { OnOk result (AreKnown prices.now arena.now known.new) }
+    ensures best { IfOk result (λ o. IsBestOf atom_tree (atom_rank prices.now) (λ a. PartFits arena.now item.now a) o) }
 {
     match item {
         AtomItem::Const(_) => Ok(None),
         AtomItem::Whole(sources) => Ok(Some(Atom::Whole(source_of(
-            alloc, arena, known, *sources,
+            alloc, prices, arena, known, *sources,
         )?))),
         AtomItem::Sub(sources, lefts, rights) => {
-            let source = source_of(alloc, arena, known, *sources)?;
-            let left = place_of(arena, known, *lefts)?;
-            let right = place_of(arena, known, *rights)?;
+            let source = source_of(alloc, prices, arena, known, *sources)?;
+            let left = place_of(prices, arena, known, *lefts)?;
+            let right = place_of(prices, arena, known, *rights)?;
             Ok(Some(Atom::Sub(source, left, right)))
         }
     }
@@ -265,7 +284,7 @@ fn part_in(
 
 /// The constant that an item stands for, if it is one.
 fn constant_in(item: &AtomItem) -> Result<Option<Atom>, NoMemory>
-    ensures { (c : Items Entry) → IfOk result (λ o. IsBestOf atom_tree atom_rank (λ a. ConstantFits c item.now a) o) }
+    ensures { (prices : Table) (c : Items Entry) → IfOk result (λ o. IsBestOf atom_tree (atom_rank prices) (λ a. ConstantFits c item.now a) o) }
 {
     match item {
         AtomItem::Const(text) => Ok(Some(Atom::Const(text.copy()?))),
@@ -274,14 +293,15 @@ fn constant_in(item: &AtomItem) -> Result<Option<Atom>, NoMemory>
 }
 
 /// The best constant of a set, if any.
-fn constant_of(arena: &Arena, s: AtomSet) -> Result<Option<Atom>, NoMemory>
+fn constant_of(prices: &Prices, arena: &Arena, s: AtomSet) -> Result<Option<Atom>, NoMemory>
     requires { IsAtomSet arena.now s }
-    ensures { IfOk result (λ o. IsBestOf atom_tree atom_rank (ConstantStands arena.now s) o) }
+    ensures { IfOk result (λ o. IsBestOf atom_tree (atom_rank prices.now) (ConstantStands arena.now s) o) }
 {
     arena.keeps_made();
+    prices.keep_small();
     let mut best: Option<Atom> = None;
     for item in arena.atoms(s) {
-        best = lesser_atom(best, constant_in(item)?);
+        best = lesser_atom(prices, best, constant_in(item)?);
     }
     Ok(best)
 }
@@ -289,37 +309,40 @@ fn constant_of(arena: &Arena, s: AtomSet) -> Result<Option<Atom>, NoMemory>
 /// The same, kept only where the set has many items: a graph has many sets of few, and most of them on one edge.
 fn edge_part(
     alloc: Global,
+    prices: &Prices,
     arena: &Arena,
     known: &mut Known,
     s: AtomSet,
 ) -> Result<Option<Atom>, NoMemory>
     requires set { IsAtomSet arena.now s }
-    requires known { AreKnown arena.now known.old }
-    ensures known { OnOk result (AreKnown arena.now known.new) }
-    ensures best { IfOk result (λ o. IsBestOf atom_tree atom_rank (PartStands arena.now s) o) }
+    requires known { AreKnown prices.now arena.now known.old }
+    ensures known { OnOk result (AreKnown prices.now arena.now known.new) }
+    ensures best { IfOk result (λ o. IsBestOf atom_tree (atom_rank prices.now) (PartStands arena.now s) o) }
 {
     if arena.atoms(s).len() > FEW_ITEMS {
-        return part_of(alloc, arena, known, s);
+        return part_of(alloc, prices, arena, known, s);
     }
-    scan_parts(alloc, arena, known, s)
+    scan_parts(alloc, prices, arena, known, s)
 }
 
 /// The best atom of a set.
 pub(crate) fn atom_of(
     alloc: Global,
+    prices: &Prices,
     arena: &Arena,
     known: &mut Known,
     s: AtomSet,
 ) -> Result<Atom, NoMemory>
     requires set { IsAtomSet arena.now s }
-    requires known { AreKnown arena.now known.old }
-    ensures known { OnOk result (AreKnown arena.now known.new) }
-    ensures best { IfOk result (λ a. IsBest atom_rank (AtomStands arena.now s) (atom_tree a)) }
+    requires known { AreKnown prices.now arena.now known.old }
+    ensures known { OnOk result (AreKnown prices.now arena.now known.new) }
+    ensures best { IfOk result (λ a. IsBest (atom_rank prices.now) (AtomStands arena.now s) (atom_tree a)) }
 {
     arena.keeps_made();
-    let constant = constant_of(arena, s)?;
-    let part = edge_part(alloc, arena, known, s)?;
-    let Some(atom) = lesser_atom(constant, part) else {
+    prices.keep_small();
+    let constant = constant_of(prices, arena, s)?;
+    let part = edge_part(alloc, prices, arena, known, s)?;
+    let Some(atom) = lesser_atom(prices, constant, part) else {
         unreachable!()
     };
     Ok(atom)

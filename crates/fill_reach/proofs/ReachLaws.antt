@@ -5,7 +5,7 @@ use Rattle.std.proofs.lemmas.List.{take_all, get_or_default}
 use Rattle.fill_text.specs.Data.{SheetData, TableData, nth, key_at, table_row_at}
 use Rattle.fill_tables.specs.Keys.{IsKeyedRow}
 use Rattle.fill_tables.specs.Tables.{AreTables, IsTable}
-use Rattle.fill_tokens.specs.Profile.{IsPlaceOf}
+use Rattle.fill_tokens.specs.TokenSet.{IsPlaceOf}
 use Rattle.fill_tokens.specs.declared.place.Place.TheVariants.{CPos}
 use Rattle.fill_tokens.proofs.ValueLaws.{value_within}
 use Rattle.fill_tree.specs.Tree.{SourceTree, AtomTree, Atoms, col, select, constant, whole, sub, end, more}
@@ -192,7 +192,7 @@ module _ (settings : Settings) (sheet : SheetData) (tables : List TableData) (ro
       }
 
   -- the place of a position that has 32 bits
-  place_is : (a : ℕ) → a < 2 ^ 31 → IsPlaceOf settings.profile (CPos (pos a))
+  place_is : (a : ℕ) → a < 2 ^ 31 → IsPlaceOf settings.profile.tokens (CPos (pos a))
   place_is a lt = (grind arith, tt)
 
   -- a lookup by these conditions picks the row that has their texts

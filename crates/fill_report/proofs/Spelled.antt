@@ -44,10 +44,10 @@ key_small tables table key columns are is =
 
 -- no settings allow a depth above 3
 depth_small : (settings : Settings) → AreSettings settings → settings.depth ≤ 3
-depth_small settings h = let le : settings.depth ≤ cond (settings.profile == 1) 2 3 = h.1 in small (settings.profile == 1) refl le where
-  small : (b : Bool) → (settings.profile == 1) ≡ b → settings.depth ≤ cond (settings.profile == 1) 2 3 → settings.depth ≤ 3
-  small true e le = let two : settings.depth ≤ 2 = subst (λ x. settings.depth ≤ cond x 2 3) e le in omega arith
-  small false e le = subst (λ x. settings.depth ≤ cond x 2 3) e le
+depth_small settings h =
+    let deep = h.0 in
+    let most = h.1 in
+    omega arith
 
 module _ (g : Ground) (kept : IsKept g) where
   input_number : (c : ℕ) → Contains g.sheet.inputs c → IsNumber c
@@ -90,7 +90,7 @@ module _ (g : Ground) (kept : IsKept g) where
 
   literal_spelled : (l : Literal) → separate.IsLiteral g.settings g.sheet l → IsLiteral l
   literal_spelled l h =
-      let tested : separate.IsTested g.settings.profile l.seq = h.tested in
+      let tested : separate.IsTested g.settings.profile.tokens l.seq = h.tested in
       let some : 0 < length l.seq = tested.some in
       record {
         column = input_number l.column h.input;

@@ -9,13 +9,15 @@ use Rattle.std.proofs.lemmas.List.Elements.{All-push, All-nil}
 use Rattle.fill_records.specs.Records.{field_of, records_of}
 use Rattle.fill_sheet.specs.Columns.{AreInputs, IsColumn, IsOutput}
 use Rattle.fill_tables.specs.Keys.{AreKeyColumns}
+use Rattle.fill_tree.specs.declared.profile.Profile.{Profile}
+use Rattle.fill_tree.specs.declared.profile.TheConstants.Profile as named
 use Rattle.fill_tree.specs.declared.user.Constants.{Constants}
 use Rattle.fill_tree.specs.declared.user.Constants.TheVariants.{Any}
 use Rattle.fill_script.specs.Line.{columns_in, constants_in, constants_of, depth_in, header_in, inputs_in, is_begin, is_text, key_from, key_in, name_in, number_between, output_in, profile_in, sheet_in, statement_in, table_from, table_in}
 use Rattle.fill_script.specs.Opening.{after_line, after_lines, after_statement, clashes, is_said, is_understood, is_wide, unset, with_statement}
 use Rattle.fill_script.specs.Entries.{IsEntry, entries_from}
 use Rattle.fill_tree.specs.Grammar.{AreSettings}
-use Rattle.fill_script.specs.Script.{IsScript, IsTableLine, assembled, read_script, script_from, script_with, unless_more}
+use Rattle.fill_script.specs.Script.{IsScript, IsTableLine, assembled, profile_of, read_script, script_from, script_with, unless_more}
 use Rattle.fill_script.specs.declared.error.ScriptError.{ScriptError}
 use Rattle.fill_script.specs.declared.error.ScriptError.TheVariants as error
 use Rattle.fill_script.specs.declared.opening.Opening.{Opening}
@@ -201,20 +203,23 @@ after_lines-kept o number (line ∷ more) p is made =
     let first = onward_ok (λ q. after_lines q (number + 1) more) (after_line o number line) p made in
     after_lines-kept first.0 (number + 1) more p (after_line-kept o number line first.0 is first.1) first.2
 
-limit : (p : ℕ) → 2 ≤ cond (p == 1) 2 3
-limit p = elim (p == 1) as (λ b. 2 ≤ cond b 2 3) [ true ↦ omega arith | false ↦ omega arith ]
+-- both profiles of the session file allow lookups two deep, and the second one three deep
+limit : (p : ℕ) → (2 ≤ (profile_of p).depth) × ((profile_of p).depth ≤ 3)
+limit p = elim (p == 2) as (λ b. let q : Profile = if b then named.SECOND else named.FIRST in (2 ≤ q.depth) × (q.depth ≤ 3))
+    [ true ↦ (omega arith, omega arith) | false ↦ (omega arith, omega arith) ]
 
-settings-proper : (depth profile : Option ℕ) (constants : Option Constants) → ForSome depth (IsDepth profile) → ForSome profile (λ p. (p ≡ 1) ⊎ (p ≡ 2))
-    → AreSettings (record { depth = unwrap_or depth 1; constants = unwrap_or constants Any; profile = unwrap_or profile 1 })
-settings-proper None None constants depths profiles = (inl refl, omega arith)
-settings-proper None (Some p) constants depths profiles = (profiles p refl, omega (arith, limit p))
-settings-proper (Some d) None constants depths profiles = elim (depths d refl) [
-  | inl low ↦ (inl refl, low)
+settings-proper : (depth number : Option ℕ) (constants : Option Constants) → ForSome depth (IsDepth number) → ForSome number (λ p. (p ≡ 1) ⊎ (p ≡ 2))
+    → AreSettings (record { depth = unwrap_or depth 1; constants = unwrap_or constants Any; profile = profile_of (unwrap_or number 1) })
+settings-proper None number constants depths numbers = let most = limit (unwrap_or number 1) in (omega (arith, most.0), most.1)
+settings-proper (Some d) None constants depths numbers = elim (depths d refl) [
+  | inl low ↦ (low, (limit 1).1)
   | inr high ↦ let no : None ≡ Some 2 = high.1 in cc
 ]
-settings-proper (Some d) (Some p) constants depths profiles = elim (depths d refl) [
-  | inl low ↦ (profiles p refl, omega (arith, low, limit p))
-  | inr high ↦ let two : p ≡ 2 = let some : Some p ≡ Some 2 = high.1 in cc in (profiles p refl, rw two high.0)
+settings-proper (Some d) (Some p) constants depths numbers = elim (depths d refl) [
+  | inl low ↦ (omega (arith, low, (limit p).0), (limit p).1)
+  | inr high ↦
+      let two : p ≡ 2 = let some : Some p ≡ Some 2 = high.1 in cc in
+      subst (λ n. (d ≤ (profile_of n).depth) × ((profile_of n).depth ≤ 3)) (sym two) (high.0, omega arith)
 ]
 
 not_among-at : (xs : List ℕ) (column k : ℕ) → list_any (λ input. input == column) xs ≡ false → k < length xs → get_or xs k column ≢ column

@@ -1,9 +1,11 @@
 -- The session file: the script that its records spell, or the one refusal.
-use Rattle.std.specs.Prelude.{ℕ, ◌+◌, List, length, take, drop, position, All, Option, Some, None, Result, Ok, Err, Bool, true, false, if◌then◌else◌, nat_lt, unwrap_or, ⊤}
+use Rattle.std.specs.Prelude.{ℕ, ◌+◌, ◌==◌, List, length, take, drop, position, All, Option, Some, None, Result, Ok, Err, Bool, true, false, if◌then◌else◌, nat_lt, unwrap_or, ⊤}
 use Rattle.fill_records.specs.Records.{records_of}
 use Rattle.fill_sheet.specs.Columns.{AreInputs, IsOutput}
 use Rattle.fill_tables.specs.Keys.{AreKeyColumns}
 use Rattle.fill_tree.specs.Grammar.{AreSettings}
+use Rattle.fill_tree.specs.declared.profile.Profile.{Profile}
+use Rattle.fill_tree.specs.declared.profile.TheConstants.Profile as profile
 use Rattle.fill_tree.specs.declared.user.Constants.TheVariants.{Any}
 use Rattle.fill_tree.specs.declared.user.Settings.{Settings}
 use Rattle.fill_script.specs.Line.{is_begin}
@@ -17,9 +19,13 @@ use Rattle.fill_script.specs.declared.script.Script.{Script}
 use Rattle.fill_script.specs.declared.script.TableLine.{TableLine}
 use Rattle.fill_script.specs.declared.script.TableLine.TheVariants.{Table, Key}
 
+-- the profile of a number of the session file
+abbrev pub profile_of : ℕ → Profile
+profile_of number = if number == 2 then profile.SECOND else profile.FIRST
+
 -- the settings: depth 1, any constants and the first profile where no line says otherwise
 abbrev pub settings_of : Opening → Settings
-settings_of o = record { depth = unwrap_or o.depth 1; constants = unwrap_or o.constants Any; profile = unwrap_or o.profile 1 }
+settings_of o = record { depth = unwrap_or o.depth 1; constants = unwrap_or o.constants Any; profile = profile_of (unwrap_or o.profile 1) }
 
 -- the script of a sheet, inputs and entries, and of what else was set
 abbrev pub assembled : Opening → List ℕ → List ℕ → List Entry → Script

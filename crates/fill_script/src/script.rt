@@ -1,7 +1,7 @@
 //! Scripts.
 ghost use Rattle.std.specs.Prelude.{◌≡◌, ◌≢◌, ◌≤◌, length, position, take, Ok, Err, IfOk, IfErr};
 ghost use Rattle.fill_script.specs.Line.{is_begin};
-ghost use Rattle.fill_script.specs.Script.{IsScript, read_script, script_in, script_of};
+ghost use Rattle.fill_script.specs.Script.{IsScript, read_script, script_in, script_of, profile_of};
 
 use crate::ScriptError;
 use crate::entries::entries_of;
@@ -9,7 +9,7 @@ use crate::line::is_begin;
 use crate::opening::Opening;
 use fill_records::{Record, read_records};
 use fill_text::{List, Name};
-use fill_tree::{Constants, Edit, Settings};
+use fill_tree::{Constants, Edit, Profile, Settings};
 use std::alloc::Global;
 
 /// What a session file asks for.
@@ -145,10 +145,21 @@ impl Script {
             settings: Settings {
                 depth: depth.unwrap_or(1),
                 constants: constants.unwrap_or(Constants::Any),
-                profile: profile.unwrap_or(1),
+                profile: profile_of(profile.unwrap_or(1)),
             },
             entries,
         })
+    }
+}
+
+/// The profile of a number of the session file.
+fn profile_of(number: u8) -> Profile
+    ensures { result ≡ profile_of number }
+{
+    if number == 2 {
+        Profile::SECOND
+    } else {
+        Profile::FIRST
     }
 }
 

@@ -56,7 +56,7 @@ guarded_is_one g (x ∷ xs) (y ∷ ys) e h k =
     (subst (λ (l : List Example). IsGuardBefore g (rows_of l) (lists_of xs) x.guard) first h.0) in
     let chosen : ChosenOn g y.examples x.program = subst (λ (l : List Example). ChosenOn g l x.program) first h.1 in
     let same = same_branch x y first (guard_is_one g (rows_of y.examples) (lists_of ys) x.guard y.guard guard k.0)
-    (least_is_one (Explains g.settings g.sheet g.tables y.examples) x.program y.program chosen k.1) in
+    (least_is_one g.settings.profile.prices (Explains g.settings g.sheet g.tables y.examples) x.program y.program chosen k.1) in
     let later = guarded_is_one g xs ys rest h.2 k.2 in
     λ i. same i ∷ later i
 

@@ -1,9 +1,12 @@
 -- The branches of examples: how these are placed, and each branch's guard and program.
-use Rattle.std.specs.Prelude.{◌≡◌, ℕ, ◌==◌, ◌≤◌, List, [], ◌∷◌, length, map, cond, Option, None, Some}
+use Rattle.std.specs.Prelude.{◌≡◌, ℕ, ◌≤◌, List, [], ◌∷◌, length, map, Option, None, Some}
 use Rattle.std.specs.List.{flat_map}
 use Rattle.fill_tree.specs.Separate.{IsLeastGuard}
 use Rattle.fill_tree.specs.Tree.{Atoms}
 use Rattle.fill_tree.specs.declared.guard.Guard.{Guard}
+use Rattle.fill_tree.specs.declared.profile.Placing as rule
+use Rattle.fill_tree.specs.declared.profile.Placing.TheVariants as rules
+use Rattle.fill_tree.specs.declared.profile.Profile.{Profile}
 use Rattle.fill_tree.specs.declared.user.Example.{Example}
 use Rattle.fill_split.specs.Placement.{Placed}
 use Rattle.fill_split.specs.declared.rule.Placing.{Placing}
@@ -12,9 +15,13 @@ use Rattle.fill_space.specs.declared.ground.Ground.{Ground}
 use Rattle.fill_space.specs.Ground.{FitsOn, WeighsOn, ChosenOn}
 use Rattle.fill_session.specs.Edits.{rows_of}
 
--- the first branch that fits takes an example under profile 1, and the lightest one under profile 2
-abbrev pub rule_of_profile : ℕ → Placing
-rule_of_profile profile = cond (profile == 1) First Lightest
+-- which branch takes an example, of those that fit: the first one, or the lightest one
+abbrev pub rule_by : rule.Placing → Placing
+rule_by rules.FirstFit = First
+rule_by rules.LeastCost = Lightest
+
+abbrev pub rule_of_profile : Profile → Placing
+rule_of_profile profile = rule_by profile.placing
 
 -- the examples are placed into these lists
 abbrev pub ArePlaced : Ground → List Example → List (List Example) → Type 0

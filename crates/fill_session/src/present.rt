@@ -38,9 +38,8 @@ impl Present {
 fn rule_of(settings: &Settings) -> Placing
     ensures { result ≡ rule_of_profile settings.now.profile }
 {
-    if settings.profile == 1 {
-        Placing::First
-    } else {
-        Placing::Lightest
+    match settings.profile.placing {
+        fill_tree::Placing::FirstFit => Placing::First,
+        fill_tree::Placing::LeastCost => Placing::Lightest,
     }
 }

@@ -9,7 +9,7 @@ use Rattle.fill_tokens.specs.declared.kind.RunClass.TheVariants as class
 use Rattle.fill_tokens.specs.declared.kind.Kind.{Kind}
 use Rattle.fill_tokens.specs.declared.kind.Kind.TheVariants.{AtStart, AtEnd, Run, Single}
 use Rattle.fill_tokens.specs.declared.token.Token.{Token}
-use Rattle.fill_tokens.specs.declared.token.Token.TheVariants.{Start, End, Digits, Upper, Lower, Alpha, Word, Space, Hyphen, Dot, Comma, Semicolon, Colon, Slash, Backslash, Underscore, At, Hash, Ampersand, LeftParen, RightParen, DoubleQuote, SingleQuote, Percent, Plus, Dollar, NonSpace, NonDigit, NonAlpha}
+use Rattle.fill_tokens.specs.declared.token.Token.TheVariants.{Start, End, Digits, Upper, Lower, Alpha, Word, Space, Hyphen, Dot, Comma, Semicolon, Colon, Slash, Backslash, Underscore, At, Hash, Ampersand, LeftParen, RightParen, DoubleQuote, SingleQuote, Percent, Plus, Dollar, NonSpace, NonDigit, NonAlpha, Equals, Less, Greater, LeftBracket, RightBracket, LeftBrace, RightBrace, Bar, Newline}
 use Rattle.fill_shapes.specs.Stretched.{is_sign, IsStretched}
 use Rattle.fill_shapes.proofs.BoundLaws.{bound, mono, mono_le, lt_from, le_from, first, last, bound_within, block, lies, lies_in}
 
@@ -50,6 +50,15 @@ plain Dollar = refl
 plain NonSpace = tt
 plain NonDigit = tt
 plain NonAlpha = tt
+plain Equals = refl
+plain Less = refl
+plain Greater = refl
+plain LeftBracket = refl
+plain RightBracket = refl
+plain LeftBrace = refl
+plain RightBrace = refl
+plain Bar = refl
+plain Newline = refl
 
 -- characters of the same classes are in the same classes of runs
 same_runs : (r : RunClass) (c d : ℕ) → class_of c ≡ class_of d → run_has r c ≡ run_has r d

@@ -3,10 +3,10 @@ use Rattle.std.specs.Prelude.{◌≡◌, ◌⊎◌, ℕ, ◌+◌, ◌<◌, ◌�
 use Rattle.fill_text.specs.Classes.{class_of}
 use Rattle.fill_spans.specs.Pieces.{Rises}
 
--- a character of ASCII below the digits, between them and the letters, or between those of both cases. Each token of one
--- character is one of these
+-- a character of ASCII below the digits, between them and the letters, between those of both cases, or above them. Each
+-- token of one character is one of these
 abbrev pub is_sign : ℕ → Bool
-is_sign c = nat_lt c 48 || (nat_le 58 c && nat_le c 64) || (nat_le 91 c && nat_le c 96)
+is_sign c = nat_lt c 48 || (nat_le 58 c && nat_le c 64) || (nat_le 91 c && nat_le c 96) || (nat_le 123 c && nat_le c 126)
 
 -- the character c of a shape stands for the characters of t from a to b: they are all of its classes, and there is only
 -- one, c itself, or they are no signs

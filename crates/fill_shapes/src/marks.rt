@@ -40,7 +40,7 @@ pub fn is_sign(c: char) -> bool
     ensures { result ≡ is_sign c }
 {
     let n = u32::from(c);
-    n < 48 || (58 <= n && n <= 64) || (91 <= n && n <= 96)
+    n < 48 || (58 <= n && n <= 64) || (91 <= n && n <= 96) || (123 <= n && n <= 126)
 }
 
 /// Whether the characters at the two places are in the same classes, and neither is a sign.

@@ -4,7 +4,7 @@ use Rattle.std.specs.Char.{IsScalar}
 use Rattle.fill_text.specs.Data.{SheetData, TableData, nth, key_at, table_cell_at}
 use Rattle.fill_tables.specs.Keys.{AreKeyColumns, IsKey, IsKeyedRow}
 use Rattle.fill_tables.specs.Tables.{AreTables, IsTable}
-use Rattle.fill_tokens.specs.Profile.{IsPlaceOf}
+use Rattle.fill_tokens.specs.TokenSet.{IsPlaceOf}
 use Rattle.fill_tree.specs.Tree.{SourceTree, AtomTree, Atoms, col, select, constant, whole, sub, end, more}
 use Rattle.fill_tree.specs.Grammar as grammar
 use Rattle.fill_tree.specs.Grammar.{AreNumbersOf, AreSettings, HasPart, IsSource, atom_depth, greatest_depth, number_of_atoms, source_depth}
@@ -30,7 +30,7 @@ use Rattle.fill_sources.specs.declared.texts.Origin.TheVariants.{Cell}
 use Rattle.fill_sources.specs.declared.row.OnRow.{OnRow}
 
 -- the grammar of sources asks nothing of settings but their profile
-module _ (settings other : Settings) (same : other.profile ≡ settings.profile) (sheet : SheetData) (tables : List TableData) where
+module _ (settings other : Settings) (same : other.profile.tokens ≡ settings.profile.tokens) (sheet : SheetData) (tables : List TableData) where
   mutual
     pub source_under : (x : SourceTree) → IsSource settings sheet tables x → IsSource other sheet tables x
     source_under (col c) h = h
@@ -291,7 +291,7 @@ reached_some on r h = let deep : 1 + greatest_depth h.reached.1 ≡ r.depth = h.
 
 -- no settings allow a depth above 3
 pub depth_few : (settings : Settings) → AreSettings settings → settings.depth ≤ 3
-depth_few settings h = let le : settings.depth ≤ cond (settings.profile == 1) 2 3 = h.1 in few (settings.profile == 1) refl le where
-  few : (b : Bool) → (settings.profile == 1) ≡ b → settings.depth ≤ cond (settings.profile == 1) 2 3 → settings.depth ≤ 3
-  few true e le = let two : settings.depth ≤ 2 = subst (λ x. settings.depth ≤ cond x 2 3) e le in omega arith
-  few false e le = subst (λ x. settings.depth ≤ cond x 2 3) e le
+depth_few settings h =
+    let deep = h.0 in
+    let most = h.1 in
+    omega arith

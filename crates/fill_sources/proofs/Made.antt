@@ -15,7 +15,7 @@ pub right_stays : (on : OnRow) (texts : List (List ℕ)) (c d : List Entry) → 
 right_stays on texts c d o memo r =
     record {
       indexes = r.indexes;
-      places = recalled_stays on.settings.profile c d o texts memo.places.items r.places;
+      places = recalled_stays on.settings.profile.tokens c d o texts memo.places.items r.places;
       sources = λ k made h v at e x. r.sources k made h v at e (extends_on c d e o x);
       parts = λ k made h e x. r.parts k made h e (extends_on c d e o x);
     }

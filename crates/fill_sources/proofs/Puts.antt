@@ -3,7 +3,7 @@ use Rattle.std.proofs.Common.{◌≡◌, ◌≢◌, ◌↔◌, ◌⊎◌, inl, i
 use Rattle.std.proofs.lemmas.Bool.{cases_lt}
 use Rattle.std.proofs.lemmas.Option.{slice_get_within}
 use Rattle.fill_tokens.specs.Value.{HasValue}
-use Rattle.fill_tokens.specs.Profile.{IsPlaceOf}
+use Rattle.fill_tokens.specs.TokenSet.{IsPlaceOf}
 use Rattle.fill_tree.specs.Tree.{SourceTree, AtomTree, col, select, constant, whole, sub}
 use Rattle.fill_arena.specs.Contents.{EachIn, Extends, SomeIn}
 use Rattle.fill_arena.specs.Stands.{AtomFits, SourceFits}
@@ -186,8 +186,8 @@ module _ (on : OnRow) (texts : List (List ℕ)) (h : Spot) (width : ℕ) (t : Li
         λ f. (t, at, ((sources d o).1 x).0 f.0, ((lefts d o).1 p).0 f.1, ((rights d o).1 q).0 f.2),
         λ r. (
           ((sources d o).1 x).1 (subst (λ v. Gives on v x) (one r.0 r.1) r.2),
-          ((lefts d o).1 p).1 (subst (λ v. IsPlaceOf on.settings.profile p × HasValue p v h.at) (one r.0 r.1) r.3),
-          ((rights d o).1 q).1 (subst (λ v. IsPlaceOf on.settings.profile q × HasValue q v (h.at + width)) (one r.0 r.1) r.4),
+          ((lefts d o).1 p).1 (subst (λ v. IsPlaceOf on.settings.profile.tokens p × HasValue p v h.at) (one r.0 r.1) r.3),
+          ((rights d o).1 q).1 (subst (λ v. IsPlaceOf on.settings.profile.tokens q × HasValue q v (h.at + width)) (one r.0 r.1) r.4),
         ),
       )
 

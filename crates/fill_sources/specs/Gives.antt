@@ -2,7 +2,8 @@
 use Rattle.std.specs.Prelude.{◌↔◌, ℕ, ◌≤◌, List, length, Option, None, Some}
 use Rattle.fill_tables.specs.Keys.{KeysDistinguish}
 use Rattle.fill_tokens.specs.Value.{HasValue}
-use Rattle.fill_tokens.specs.Profile.{IsPlaceOf}
+use Rattle.fill_tokens.specs.TokenSet.{IsPlaceOf}
+use Rattle.fill_tokens.specs.declared.token_set.TokenSet.{TokenSet}
 use Rattle.fill_tokens.specs.declared.place.Place.{Place}
 use Rattle.fill_tree.specs.Tree.{SourceTree, AtomTree}
 use Rattle.fill_tree.specs.Grammar.{AreSettings, IsSource, IsPart, IsCondition, atom_depth, source_depth}
@@ -50,11 +51,11 @@ abbrev pub ArePartsIn : OnRow → List Entry → List ℕ → Option ℕ → Typ
 ArePartsIn on c v None = (a : AtomTree) → ¬ (PartGives on v a)
 ArePartsIn on c v (Some s) = IsAtomSet c s × ((a : AtomTree) → AtomStands c s a ↔ PartGives on v a)
 
--- exactly the places of the profile whose value in the text is k stand in the set; without a set there is none
-abbrev pub ArePlacesOf : ℕ → List Entry → List ℕ → ℕ → Option ℕ → Type 0
-ArePlacesOf profile c v k None = (p : Place) → ¬ (IsPlaceOf profile p × HasValue p v k)
-ArePlacesOf profile c v k (Some s) = IsPlaceSet c s × ((p : Place) → PlaceStands c s p ↔ (IsPlaceOf profile p × HasValue p v k))
+-- exactly the places of the set whose value in the text is k stand in the set; without a set there is none
+abbrev pub ArePlacesOf : TokenSet → List Entry → List ℕ → ℕ → Option ℕ → Type 0
+ArePlacesOf token_set c v k None = (p : Place) → ¬ (IsPlaceOf token_set p × HasValue p v k)
+ArePlacesOf token_set c v k (Some s) = IsPlaceSet c s × ((p : Place) → PlaceStands c s p ↔ (IsPlaceOf token_set p × HasValue p v k))
 
 -- .. of the settings' profile
 abbrev pub ArePlacesAt : OnRow → List Entry → List ℕ → ℕ → Option ℕ → Type 0
-ArePlacesAt on c v k made = ArePlacesOf on.settings.profile c v k made
+ArePlacesAt on c v k made = ArePlacesOf on.settings.profile.tokens c v k made

@@ -1,6 +1,6 @@
 -- What reads characters in the known texts.
 use Rattle.std.specs.Prelude.{◌≡◌, ◌↔◌, ◌⊎◌, ℕ, ◌+◌, ◌<◌, ◌≤◌, List, length, Option, Some, slice_get, slice_range}
-use Rattle.fill_tokens.specs.Profile.{IsPlaceOf}
+use Rattle.fill_tokens.specs.TokenSet.{IsPlaceOf}
 use Rattle.fill_tokens.specs.Value.{HasValue}
 use Rattle.fill_tree.specs.Tree.{SourceTree, AtomTree, constant, whole, sub}
 use Rattle.fill_arena.specs.Contents.{In, SomeIn, Extends}
@@ -40,7 +40,7 @@ abbrev pub ReadsBetween : OnRow → List (List ℕ) → Spot → ℕ → AtomTre
 ReadsBetween on texts h width (constant u) = ⊥
 ReadsBetween on texts h width (whole x) = ⊥
 ReadsBetween on texts h width (sub x p q) = (t : List ℕ) × (slice_get texts h.text ≡ Some t) × Gives on t x
-    × (IsPlaceOf on.settings.profile p × HasValue p t h.at) × (IsPlaceOf on.settings.profile q × HasValue q t (h.at + width))
+    × (IsPlaceOf on.settings.profile.tokens p × HasValue p t h.at) × (IsPlaceOf on.settings.profile.tokens q × HasValue q t (h.at + width))
 
 abbrev pub ReadsSpot : OnRow → List (List ℕ) → Spot → ℕ → AtomTree → Type 0
 ReadsSpot on texts h width a = ReadsWhole on texts h width a ⊎ ReadsBetween on texts h width a

@@ -37,7 +37,7 @@ Lasts c P = (d : List Entry) → Extends c d → P d
 
 -- the index is that of the text of number k
 abbrev pub IsIndexOf : OnRow → List (List ℕ) → ℕ → IndexView → Type 0
-IsIndexOf on texts k index = (v : List ℕ) → slice_get texts k ≡ Some v → index ≡ record { text = v; profile = on.settings.profile }
+IsIndexOf on texts k index = (v : List ℕ) → slice_get texts k ≡ Some v → index ≡ record { text = v; token_set = on.settings.profile.tokens }
 
 -- the set is that of the places at a position of a text, by their numbers
 abbrev pub IsPlaceMade : OnRow → List (List ℕ) → List Entry → ℕ × ℕ → Option ℕ → Type 0
@@ -61,7 +61,7 @@ part_in memo k = get_by (λ y. bytes_eq k.0 y.0.now && nat_eq k.1 y.1) memo.part
 -- what was made is right
 pub record IsRight (on : OnRow) (texts : List (List ℕ)) (c : List Entry) (memo : Memo) : Type 0 where
   pub indexes : (k : ℕ) (index : IndexView) → get nat_eq memo.indexes k ≡ Some index → IsIndexOf on texts k index
-  pub places : AreRecalled on.settings.profile c texts memo.places.items
+  pub places : AreRecalled on.settings.profile.tokens c texts memo.places.items
   pub sources : (k : ℕ × ℕ) (made : Option ℕ) → get pair_eq memo.sources k ≡ Some made → IsSourceMade on texts c k made
   pub parts : (k : List ℕ × ℕ) (made : Option ℕ) → part_in memo k ≡ Some made → IsPartMade on c k made
 

@@ -17,21 +17,22 @@ use crate::spots::Spot;
 use crate::texts::Texts;
 use fill_arena::{Arena, PlaceSet, SourceSet};
 use fill_text::{NoMemory, Text};
+use fill_tokens::TokenSet;
 use std::alloc::Global;
 
 /// What earlier rows found of the positions of these texts.
 fn recall_places(
     alloc: Global,
     texts: &Texts<'_>,
-    profile: u8,
+    token_set: TokenSet,
     memory: &PlaceMemory,
 ) -> Result<Vec<TextPlaces>, NoMemory>
-    ensures { IfOk result (λ places. (c : List Entry) → PlacesStand c memory.now → AreRecalled profile c (texts_in texts.now) places.items) }
+    ensures { IfOk result (λ places. (c : List Entry) → PlacesStand c memory.now → AreRecalled token_set c (texts_in texts.now) places.items) }
 {
     let named = texts.named.as_slice();
     let mut places = Vec::with_capacity(alloc, named.len())?;
     for k in 0..named.len() {
-        let found = memory.recall(alloc, named[k].text, profile)?;
+        let found = memory.recall(alloc, named[k].text, token_set)?;
         places.push(TextPlaces {
             found,
             is_new: false,
@@ -41,11 +42,17 @@ fn recall_places(
 }
 
 /// Keeps what was found of the positions of the text, where this row found some of it.
-fn keep_text(alloc: Global, text: &Text, profile: u8, places: &TextPlaces, memory: &mut PlaceMemory)
-    ensures { (c : List Entry) → AreFound profile c text.now places.now.found.items → PlacesStand c memory.old → PlacesStand c memory.new }
+fn keep_text(
+    alloc: Global,
+    text: &Text,
+    token_set: TokenSet,
+    places: &TextPlaces,
+    memory: &mut PlaceMemory,
+)
+    ensures { (c : List Entry) → AreFound token_set c text.now places.now.found.items → PlacesStand c memory.old → PlacesStand c memory.new }
 {
     if places.is_new {
-        memory.keep(alloc, text, profile, places.found.as_slice());
+        memory.keep(alloc, text, token_set, places.found.as_slice());
     }
 }
 
@@ -63,7 +70,7 @@ impl<'a> Known<'a> {
         ensures { IfOk result (λ known. (c : List Entry) → PlacesStand c memory.now → AreKnown on.now c known) }
     {
         let texts = find_texts(alloc, on)?;
-        let places = recall_places(alloc, &texts, on.settings.profile, memory)?;
+        let places = recall_places(alloc, &texts, on.settings.profile.tokens, memory)?;
         Ok(Known {
             texts,
             memo: Memo::new(alloc, places),
@@ -80,7 +87,7 @@ impl<'a> Known<'a> {
             keep_text(
                 alloc,
                 named[k].text,
-                on.settings.profile,
+                on.settings.profile.tokens,
                 &places[k],
                 memory,
             );

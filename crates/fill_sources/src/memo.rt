@@ -1,5 +1,6 @@
 //! The sets that were made for a row, or of places for an earlier one, so that each is made once.
 ghost use Rattle.std.specs.Prelude.{◌≡◌, ◌⊎◌, ℕ, List as Listed, slice_set, IfOk, IfSome, OnOk};
+ghost use Rattle.fill_tokens.specs.declared.token_set.TokenSet.{TokenSet};
 ghost use Rattle.fill_arena.specs.Contents.{EachIn, Extends};
 ghost use Rattle.fill_arena.specs.declared.entry.Entry.{Entry};
 ghost use Rattle.fill_sources.specs.Found.{AreFound, AreRecalled, IsFound};
@@ -42,7 +43,7 @@ impl TextPlaces {
         positions: usize,
         found: Found,
     ) -> Result<(), NoMemory>
-        ensures { OnOk result ((profile : ℕ) (c : Listed Entry) (v : Listed ℕ) → AreFound profile c v self.old.found.items → IsFound profile c v at found → AreFound profile c v self.new.found.items) }
+        ensures { OnOk result ((token_set : TokenSet) (c : Listed Entry) (v : Listed ℕ) → AreFound token_set c v self.old.found.items → IsFound token_set c v at found → AreFound token_set c v self.new.found.items) }
     {
         make_room(alloc, &mut self.found, at, positions)?;
         put_found(&mut self.found, at, found);
@@ -58,7 +59,7 @@ fn make_room(
     at: usize,
     positions: usize,
 ) -> Result<(), NoMemory>
-    ensures { OnOk result ((profile : ℕ) (c : Listed Entry) (v : Listed ℕ) → AreFound profile c v found.old.items → AreFound profile c v found.new.items) }
+    ensures { OnOk result ((token_set : TokenSet) (c : Listed Entry) (v : Listed ℕ) → AreFound token_set c v found.old.items → AreFound token_set c v found.new.items) }
 {
     if at < found.len() {
         return Ok(());
@@ -87,7 +88,7 @@ fn put_found(found: &mut Vec<Found>, at: usize, new: Found)
 
 /// What is found where this set was made, or none.
 fn found_of(made: &Option<PlaceSet>) -> Found
-    ensures { (profile : ℕ) (c : Listed Entry) (v : Listed ℕ) (k : ℕ) → ((d : Listed Entry) → Extends c d → ArePlacesOf profile d v k made.now) → IsFound profile c v k result }
+    ensures { (token_set : TokenSet) (c : Listed Entry) (v : Listed ℕ) (k : ℕ) → ((d : Listed Entry) → Extends c d → ArePlacesOf token_set d v k made.now) → IsFound token_set c v k result }
 {
     match *made {
         Some(places) => Found::In(places),
@@ -98,7 +99,7 @@ fn found_of(made: &Option<PlaceSet>) -> Found
 impl<'a> Memo<'a> {
     /// What earlier rows found, and nothing of this one yet.
     pub(crate) fn new(alloc: Global, places: Vec<TextPlaces>) -> Memo<'a>
-        ensures { (on : Row) (texts : Listed (Listed ℕ)) (c : Listed Entry) → AreRecalled on.settings.profile c texts places.items → IsRight on texts c result }
+        ensures { (on : Row) (texts : Listed (Listed ℕ)) (c : Listed Entry) → AreRecalled on.settings.profile.tokens c texts places.items → IsRight on texts c result }
     {
         Memo {
             indexes: HashMap::new(alloc),

@@ -7,6 +7,7 @@ ghost use Rattle.fill_sources.specs.declared.memory.Kept.{Kept as KeptText};
 
 use fill_arena::PlaceSet;
 use fill_text::{NoMemory, Text};
+use fill_tokens::TokenSet;
 use std::alloc::Global;
 use std::collections::HashMap;
 
@@ -32,11 +33,11 @@ pub(crate) enum Found {
     In(PlaceSet),
 }
 
-/// What was found of the positions of a text under a profile.
+/// What was found of the positions of a text by tokens of a set.
 #[derive(Drop)]
 pub(crate) struct Kept {
     pub(crate) text: Text,
-    pub(crate) profile: u8,
+    pub(crate) token_set: TokenSet,
     pub(crate) found: Vec<Found>,
 }
 
@@ -67,9 +68,9 @@ impl PlaceMemory {
         &self,
         alloc: Global,
         text: &Text,
-        profile: u8,
+        token_set: TokenSet,
     ) -> Result<Vec<Found>, NoMemory>
-        ensures { IfOk result (λ found. (c : Listed Entry) → PlacesStand c self.now → AreFound profile c text.now found.items) }
+        ensures { IfOk result (λ found. (c : Listed Entry) → PlacesStand c self.now → AreFound token_set c text.now found.items) }
     {
         if self.texts.len() == 0 {
             return Ok(Vec::new(alloc));
@@ -77,7 +78,7 @@ impl PlaceMemory {
         let Some(kept) = self.texts.get(&hash_of(text)) else {
             return Ok(Vec::new(alloc));
         };
-        if kept.profile != profile {
+        if !kept.token_set.same(token_set) {
             return Ok(Vec::new(alloc));
         }
         if !kept.text.same(text) {
@@ -89,14 +90,14 @@ impl PlaceMemory {
 
     /// Keeps what was found of the positions of the text, if it is not too long. Where there is no memory for it, all is
     /// forgotten.
-    pub(crate) fn keep(&mut self, alloc: Global, text: &Text, profile: u8, found: &[Found])
-        ensures { (c : Listed Entry) → PlacesStand c self.old → AreFound profile c text.now found.now → PlacesStand c self.new }
+    pub(crate) fn keep(&mut self, alloc: Global, text: &Text, token_set: TokenSet, found: &[Found])
+        ensures { (c : Listed Entry) → PlacesStand c self.old → AreFound token_set c text.now found.now → PlacesStand c self.new }
     {
         if text.len() > LONGEST {
             return;
         }
         self.make_room(alloc, text.len());
-        match put_kept(alloc, &mut self.texts, text, profile, found) {
+        match put_kept(alloc, &mut self.texts, text, token_set, found) {
             Ok(()) => {}
             Err(NoMemory) => self.texts = HashMap::new(alloc),
         }
@@ -120,10 +121,10 @@ fn put_kept(
     alloc: Global,
     texts: &mut HashMap<u64, Kept>,
     text: &Text,
-    profile: u8,
+    token_set: TokenSet,
     found: &[Found],
 ) -> Result<(), NoMemory>
-    ensures { OnOk result ((hash : ℕ) × (k : KeptText) × Updates nat_eq texts.old texts.new hash (Some k) × (k.text ≡ text.now) × (k.profile ≡ profile) × (k.found.items ≡ found.now)) }
+    ensures { OnOk result ((hash : ℕ) × (k : KeptText) × Updates nat_eq texts.old texts.new hash (Some k) × (k.text ≡ text.now) × (k.token_set ≡ token_set) × (k.found.items ≡ found.now)) }
 {
     let hash = hash_of(text);
     let text = text.copy()?;
@@ -132,7 +133,7 @@ fn put_kept(
         hash,
         Kept {
             text,
-            profile,
+            token_set,
             found,
         },
     ) {

@@ -3,7 +3,7 @@ ghost use Rattle.std.specs.Prelude.{◌≡◌, ℕ, ◌≤◌, List as Listed, l
 ghost use Rattle.std.specs.declared.cmp.Ordering.TheVariants.{Less};
 ghost use Rattle.fill_tokens.specs.Place.{place_cmp};
 ghost use Rattle.fill_tokens.specs.PlaceGrammar.{IsPlace};
-ghost use Rattle.fill_tokens.specs.Profile.{IsPlaceOf};
+ghost use Rattle.fill_tokens.specs.TokenSet.{IsPlaceOf};
 ghost use Rattle.fill_tokens.specs.Value.{HasValue};
 ghost use Rattle.fill_text.specs.Lists.{Lists};
 ghost use Rattle.fill_arena.specs.Contents.{Extends};
@@ -28,14 +28,14 @@ fn list_places(look: &Look<'_, '_>, memo: &mut Memo<'_>, h: Spot) -> Result<List
     requires memo { (c : Listed Entry) × IsRight look.now.on.now (texts_in look.now.texts.now) c memo.old }
     requires within { IsReadable (texts_in look.now.texts.now) h 0 }
     ensures places { IfOk result (λ places. (v : Listed ℕ) → slice_get (texts_in look.now.texts.now) h.text ≡ Some v →
-        Lists place_cmp (λ p. IsPlaceOf look.now.on.now.settings.profile p × HasValue p v h.at) places) }
+        Lists place_cmp (λ p. IsPlaceOf look.now.on.now.settings.profile.tokens p × HasValue p v h.at) places) }
     ensures memo { OnOk result ((c : Listed Entry) → IsRight look.now.on.now (texts_in look.now.texts.now) c memo.old → IsRight look.now.on.now (texts_in look.now.texts.now) c memo.new) }
 {
     if let Some(index) = memo.index(h.text) {
         return index.places_at(look.alloc, h.at);
     }
     let text = look.texts.named[h.text].text;
-    let index = PlaceIndex::new(look.alloc, text, look.on.settings.profile)?;
+    let index = PlaceIndex::new(look.alloc, text, look.on.settings.profile.tokens)?;
     let places = index.places_at(look.alloc, h.at)?;
     memo.keep_index(h.text, index)?;
     Ok(places)
@@ -45,7 +45,7 @@ fn list_places(look: &Look<'_, '_>, memo: &mut Memo<'_>, h: Spot) -> Result<List
 fn place_set(arena: &mut Arena, places: &[Place]) -> Result<Option<PlaceSet>, NoMemory>
     requires rising { AllPairs (λ p q. place_cmp p q ≡ Less) places.now }
     requires grammar { All IsPlace places.now }
-    ensures made { IfOk result (λ made. (on : Row) (v : Listed ℕ) (k : ℕ) → Lists place_cmp (λ p. IsPlaceOf on.settings.profile p × HasValue p v k) places.now →
+    ensures made { IfOk result (λ made. (on : Row) (v : Listed ℕ) (k : ℕ) → Lists place_cmp (λ p. IsPlaceOf on.settings.profile.tokens p × HasValue p v k) places.now →
         Lasts arena.new (λ d. ArePlacesAt on d v k made)) }
     ensures kept { Extends arena.old arena.new }
 {

@@ -22,10 +22,10 @@ use Rattle.fill_space.specs.Spaces.{SpacesData, SpaceStands}
 
 -- the first programs of a space's graph
 pub best_told : (s : SpacesData) (space k : ℕ) (r : Result (List Program) NoMemory)
-    → IfOk r (λ made. AreFirst program_cmp (ProgramStands s.arena space) k (map program_tree made))
+    → IfOk r (λ made. AreFirst (program_cmp s.ground.settings.profile.prices) (ProgramStands s.arena space) k (map program_tree made))
     → IfOk r (λ made. (l : List Example) → SpaceStands s space l → AreBestOn s.ground l k (map program_tree made))
 best_told s space k (Ok made) h = λ l x.
-    first_same program_cmp program_total exact_programs (ProgramStands s.arena space) k (map program_tree made) h (ExplainsOn s.ground l)
+    first_same (program_cmp s.ground.settings.profile.prices) (program_total s.ground.settings.profile.prices) (exact_programs s.ground.settings.profile.prices) (ProgramStands s.arena space) k (map program_tree made) h (ExplainsOn s.ground l)
     (λ p stands. (x.exact p).0 stands) (λ p explains. (x.exact p).1 explains)
 best_told s space k (Err want) h = tt
 
@@ -88,7 +88,7 @@ module _ {A : Type 0} (R : A → A → Ordering) (total : IsTotalOrder R) (exact
     ]
 
 pub best_are_one : (g : Ground) (l : List Example) (k : ℕ) (ps qs : List Atoms) → AreBestOn g l k ps → AreBestOn g l k qs → ps ≡ qs
-best_are_one g l k ps qs a b = first_are_one program_cmp program_total exact_programs (ExplainsOn g l) k ps qs a b
+best_are_one g l k ps qs a b = first_are_one (program_cmp g.settings.profile.prices) (program_total g.settings.profile.prices) (exact_programs g.settings.profile.prices) (ExplainsOn g l) k ps qs a b
 
 pub best_begins : (g : Ground) (l : List Example) (k : ℕ) (ps : List Atoms) → 1 ≤ k → FitsOn g l → AreBestOn g l k ps → BeginsWithChosen g l ps
 best_begins g l k [] some fits best = absurd (elim (best.others fits.0 fits.1) [
@@ -101,6 +101,6 @@ best_begins g l k (p ∷ rest) some fits best = (
   refl,
   record {
     has = best.have p (here p rest);
-    least = no_earlier program_cmp program_total exact_programs (ExplainsOn g l) k p rest best;
+    least = no_earlier (program_cmp g.settings.profile.prices) (program_total g.settings.profile.prices) (exact_programs g.settings.profile.prices) (ExplainsOn g l) k p rest best;
   },
 )

@@ -42,7 +42,7 @@ of_neither g c a b l m x y none fits =
     none fits.0 ((x.exact fits.0).1 explained.0, (y.exact fits.0).1 explained.1)
 
 -- the least program of a space is the chosen one
-pub chosen : (s : SpacesData) (k : ℕ) (p : Atoms) → IsLeast (ProgramStands s.arena k) p → (l : List Example) → SpaceStands s k l → ChosenOn s.ground l p
+pub chosen : (s : SpacesData) (k : ℕ) (p : Atoms) → IsLeast s.ground.settings.profile.prices (ProgramStands s.arena k) p → (l : List Example) → SpaceStands s k l → ChosenOn s.ground l p
 chosen s k p h l x = record { has = (x.exact p).0 h.has; least = λ q explains. h.least q ((x.exact q).1 explains) }
 
 -- what stands in a space differs on a row where what explains the examples does

@@ -17,7 +17,7 @@ use Rattle.fill_space.specs.Spaces.{SpacesData, SpaceStands}
 -- the objection of a space's graph
 pub object_told : (s : SpacesData) (space row : ℕ) (said : Option (List ℕ)) (r : Result (Option Objection) NoMemory)
     → IfOk r (λ found. MatchOption found ((p : Atoms) → ProgramStands s.arena space p → Answers s.ground.sheet s.ground.tables row said p)
-    (IsObjection s.arena space s.ground.sheet s.ground.tables row said))
+    (IsObjection s.ground.settings.profile.prices s.arena space s.ground.sheet s.ground.tables row said))
     → IfOk r (λ found. (l : List Example) → SpaceStands s space l → ObjectionIs s.ground l row said (option_map objection_tree found))
 object_told s space row said (Ok None) h = λ l x p explains. h p ((x.exact p).1 explains)
 object_told s space row said (Ok (Some o)) h = λ l x. record {
@@ -41,7 +41,7 @@ objection_is_one g l row said None None h k = refl
 objection_is_one g l row said None (Some q) h k = absurd (k.least.has.otherwise (h q.program k.least.has.explains))
 objection_is_one g l row said (Some o) None h k = absurd (h.least.has.otherwise (k o.program h.least.has.explains))
 objection_is_one g l row said (Some o) (Some q) h k =
-    let program : o.program ≡ q.program = least_is_one (ObjectsOn g l row said) o.program q.program h.least k.least in
+    let program : o.program ≡ q.program = least_is_one g.settings.profile.prices (ObjectsOn g l row said) o.program q.program h.least k.least in
     let text : o.text ≡ q.text =
     value_is_one (ProgramIs g.sheet g.tables row q.program) o.text q.text
     (subst (λ (p : Atoms). IsValue (ProgramIs g.sheet g.tables row p) o.text) program h.value) k.value in

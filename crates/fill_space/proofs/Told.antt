@@ -2,6 +2,7 @@
 use Rattle.std.proofs.Common.{◌≡◌, ◌≤◌, ◌^◌, ℕ, List, ◌++◌, length, Bool, Option, Some, None, Result, Ok, Err, subst, sym, arith}
 use Rattle.std.specs.Prelude.{◌↔◌, IfOk, IfSome, IsTrue, MatchOption, OnSome}
 use Rattle.fill_text.specs.declared.error.NoMemory.{NoMemory}
+use Rattle.fill_tokens.specs.Prices.{ArePrices}
 use Rattle.fill_tree.specs.Chosen.{IsLeast}
 use Rattle.fill_tree.specs.Cost.{program_cost}
 use Rattle.fill_tree.specs.Meaning.{program_tree}
@@ -49,7 +50,7 @@ module _ (g : Ground) (c d : List Entry) (s : SpacesData) (is : spaces_over g c 
       is (λ l m x y. of_both g c d a b k l m x y h some)
   both_told a b (Err want) h some = tt
 
-pub least_told : (s : SpacesData) (k : ℕ) (r : Result Program NoMemory) → IfOk r (λ p. IsLeast (ProgramStands s.arena k) (program_tree p))
+pub least_told : (s : SpacesData) (k : ℕ) (r : Result Program NoMemory) → IfOk r (λ p. IsLeast s.ground.settings.profile.prices (ProgramStands s.arena k) (program_tree p))
     → IfOk r (λ p. (l : List Example) → SpaceStands s k l → ChosenOn s.ground l (program_tree p))
 least_told s k (Ok p) h = λ l x. chosen s k (program_tree p) h l x
 least_told s k (Err want) h = tt
@@ -65,8 +66,8 @@ doubt_told s k row (Ok b) h = λ l x. let same = doubtful s k row l x in ((λ ye
 doubt_told s k row (Err want) h = tt
 
 -- no chosen program of a space costs more than 64 bits hold
-pub too_dear : (s : SpacesData) (k : ℕ) (l : List Example) (p : Atoms) → IsWellMade s.arena → SpaceStands s k l → ChosenOn s.ground l p → 2 ^ 64 ≤ program_cost p → ⊥
-too_dear s k l p made x best dear = let cheap = program_present s.arena made k p ((x.exact p).1 best.has) in omega (arith, cheap, dear)
+pub too_dear : (s : SpacesData) (k : ℕ) (l : List Example) (p : Atoms) → ArePrices s.ground.settings.profile.prices → IsWellMade s.arena → SpaceStands s k l → ChosenOn s.ground l p → 2 ^ 64 ≤ program_cost s.ground.settings.profile.prices p → ⊥
+too_dear s k l p small made x best dear = let cheap = program_present s.ground.settings.profile.prices small s.arena made k p ((x.exact p).1 best.has) in omega (arith, cheap, dear)
 
 -- what was made for a list stands for some list
 pub some_made : (s : SpacesData) (made : Option ℕ) (none : Type 0) (l : List Example) → MatchOption made none (λ k. SpaceStands s k l)

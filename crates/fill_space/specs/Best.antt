@@ -8,7 +8,7 @@ use Rattle.fill_space.specs.Ground.{Ground, ChosenOn, ExplainsOn}
 
 -- the first k programs that explain the examples, in the order of programs; all of them where they are fewer
 abbrev pub AreBestOn : Ground → List Example → ℕ → List Atoms → Type 0
-AreBestOn g examples k programs = AreFirst program_cmp (ExplainsOn g examples) k programs
+AreBestOn g examples k programs = AreFirst (program_cmp g.settings.profile.prices) (ExplainsOn g examples) k programs
 
 -- the list begins with the chosen program
 abbrev pub BeginsWithChosen : Ground → List Example → List Atoms → Type 0

@@ -18,9 +18,9 @@ FitsOn g examples = Fits g.settings g.sheet g.tables examples
 abbrev pub ChosenOn : Ground → List Example → Atoms → Type 0
 ChosenOn g examples p = IsChosen g.settings g.sheet g.tables examples p
 
--- what the examples weigh: the cost of their chosen program
+-- what the examples weigh: the cost of their chosen program, by the prices of the settings
 abbrev pub WeighsOn : Ground → List Example → ℕ → Type 0
-WeighsOn g examples n = (p : Atoms) × ChosenOn g examples p × (program_cost p ≡ n)
+WeighsOn g examples n = (p : Atoms) × ChosenOn g examples p × (program_cost g.settings.profile.prices p ≡ n)
 
 -- the sheet has the example's row, and its text is short enough to learn from
 pub record MayStand (g : Ground) (e : Example) : Type 0 where

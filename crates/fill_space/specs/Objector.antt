@@ -26,7 +26,7 @@ pub record ObjectsOn (g : Ground) (examples : List Example) (row : ℕ) (said : 
 
 -- the program objects, and no program that does is before it; with its value on the row
 pub record IsObjectionOn (g : Ground) (examples : List Example) (row : ℕ) (said : Option (List ℕ)) (o : ObjectionTree) : Type 0 where
-  pub least : IsLeast (ObjectsOn g examples row said) o.program
+  pub least : IsLeast g.settings.profile.prices (ObjectsOn g examples row said) o.program
   pub value : IsValue (ProgramIs g.sheet g.tables row o.program) o.text
 
 -- the objection to what was said: none where every program that explains the examples answers so

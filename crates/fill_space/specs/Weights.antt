@@ -8,4 +8,4 @@ use Rattle.fill_space.specs.Ground.{Ground, WeighsOn}
 
 pub one_weight : (g : Ground) (l : List Example) (v w : ℕ) → WeighsOn g l v → WeighsOn g l w → v ≡ w
 one_weight g l v w h k =
-    sym h.2 ∙ (ap program_cost (least_is_one (Explains g.settings g.sheet g.tables l) h.0 k.0 h.1 k.1) ∙ k.2)
+    sym h.2 ∙ (ap (program_cost g.settings.profile.prices) (least_is_one g.settings.profile.prices (Explains g.settings g.sheet g.tables l) h.0 k.0 h.1 k.1) ∙ k.2)

@@ -85,8 +85,10 @@ impl Maker for Spaces {
 
     fn weight(&self, kept: Space) -> Result<u64, NoMemory> {
         self.arena.keeps_made();
+        let prices = &self.ground.settings.profile.prices;
+        prices.keep_small();
         let program = self.least(self.alloc, kept)?;
-        let Some(cost) = program.cost() else {
+        let Some(cost) = program.cost(prices) else {
             unreachable!()
         };
         Ok(cost)

@@ -112,7 +112,12 @@ impl Spaces {
         requires { (l : Listed Example) × SpaceStands self.now s l }
         ensures { IfOk result (λ p. (l : Listed Example) → SpaceStands self.now s l → ChosenOn self.now.ground l (program_tree p)) }
     {
-        fill_rank::least(alloc, &self.arena, s.graph())
+        fill_rank::least(
+            alloc,
+            &self.ground.settings.profile.prices,
+            &self.arena,
+            s.graph(),
+        )
     }
 
     /// The first `k` programs that explain the examples that the space stands for, by the order of programs; all of them
@@ -123,7 +128,8 @@ impl Spaces {
         requires few { k ≤ 20 }
         ensures { IfOk result (λ made. (l : Listed Example) → SpaceStands self.now s l → AreBestOn self.now.ground l k (map program_tree made)) }
     {
-        fill_best::best(alloc, &self.arena, s.graph(), k)
+        let prices = &self.ground.settings.profile.prices;
+        fill_best::best(alloc, prices, &self.arena, s.graph(), k)
     }
 
     /// Of the programs that explain the examples of the space the least one whose answer on a row is not the one that was
@@ -144,6 +150,7 @@ impl Spaces {
         let ground = &self.ground;
         fill_object::object(
             alloc,
+            &ground.settings.profile.prices,
             &self.arena,
             s.graph(),
             row,

@@ -4,7 +4,9 @@ use Rattle.fill_text.specs.Classes.{class_of}
 use Rattle.fill_text.specs.declared.class.Class.{Class}
 use Rattle.fill_tokens.specs.Token.{token_number}
 use Rattle.fill_tokens.specs.Span.{IsRun, KindSpans}
+use Rattle.fill_tokens.specs.TokenSet.{IsTokenOf}
 use Rattle.fill_tokens.specs.declared.token.Token.{Token}
+use Rattle.fill_tokens.specs.declared.token_set.TokenSet.{TokenSet}
 use Rattle.fill_tokens.specs.declared.kind.Kind.TheVariants.{Single}
 use Rattle.fill_spans.specs.Pieces.{AreExactly, ArePieces}
 use Rattle.fill_spans.specs.declared.pieces.Pieces.{Pieces}
@@ -35,7 +37,7 @@ pub record AreRead (p : ℕ → Bool) (t : List ℕ) (i : ℕ) (starts ends : Li
 abbrev pub SinglesBelow : ℕ → List ℕ → ℕ → ℕ → ℕ → Type 0
 SinglesBelow c t i a b = KindSpans (Single c) t a b × (a < i)
 
--- the pieces of the first m tokens, in the order of their numbers
-pub record AreRows (m : ℕ) (t : List ℕ) (rows : List Pieces) : Type 0 where
+-- the pieces of those of the first m tokens that the set has, in the order of their numbers
+pub record AreRows (token_set : TokenSet) (m : ℕ) (t : List ℕ) (rows : List Pieces) : Type 0 where
   pub many : length rows ≡ m
-  pub each : (i : ℕ) (row : Pieces) (token : Token) → slice_get rows i ≡ Some row → token_number token ≡ i + 1 → ArePieces token t row
+  pub each : (i : ℕ) (row : Pieces) (token : Token) → slice_get rows i ≡ Some row → token_number token ≡ i + 1 → IsTokenOf token_set token → ArePieces token t row

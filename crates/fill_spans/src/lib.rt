@@ -10,4 +10,4 @@ mod spans;
 
 pub use pieces::Pieces;
 pub use runs::classes;
-pub use spans::{Spans, pieces_of, token_at};
+pub use spans::{Spans, pieces_of};

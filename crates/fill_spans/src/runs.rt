@@ -1,7 +1,5 @@
 //! The runs of a class of characters.
 ghost use Rattle.std.specs.Prelude.{◌≡◌, ℕ, List, Bool, ◌<◌, ◌≤◌, ◌+◌, ◌++◌, ◌∷◌, [], length, slice_index, slice_get, Some, OnOk, IfOk};
-ghost use Rattle.fill_text.specs.Classes.{class_of};
-ghost use Rattle.fill_text.specs.declared.class.Class.{Class};
 ghost use Rattle.fill_tokens.specs.Kind.{run_has};
 ghost use Rattle.fill_tokens.specs.Span.{KindSpans};
 ghost use Rattle.fill_tokens.specs.declared.kind.Kind.TheVariants.{Run};
@@ -25,23 +23,6 @@ pub fn classes(alloc: Global, t: &Text) -> Result<Vec<Class>, NoMemory>
     Ok(classes)
 }
 
-/// Whether a character of these classes is in the class.
-fn has(class: RunClass, classes: &Class) -> bool
-    ensures { (c : ℕ) → classes.now ≡ class_of c → result ≡ run_has class c }
-{
-    match class {
-        RunClass::Digit => classes.digit,
-        RunClass::Upper => classes.upper,
-        RunClass::Lower => classes.lower,
-        RunClass::Alpha => classes.alpha,
-        RunClass::Word => classes.alpha || classes.digit,
-        RunClass::Space => classes.space,
-        RunClass::NonSpace => !classes.space,
-        RunClass::NonDigit => !classes.digit,
-        RunClass::NonAlpha => !classes.alpha,
-    }
-}
-
 /// Whether the character of this place is in the class.
 fn has_at(class: RunClass, classes: &[Class], i: usize, t: &Text) -> bool
     requires classes { AreClasses t.now classes.now }
@@ -49,7 +30,7 @@ fn has_at(class: RunClass, classes: &[Class], i: usize, t: &Text) -> bool
     ensures { result ≡ run_has class (slice_index t.now i) }
 {
     let _text = t;
-    has(class, &classes[i])
+    class.is_among(&classes[i])
 }
 
 /// Goes on by one character, which is in the class or is not: puts the run to the list that ends before it, and gives the

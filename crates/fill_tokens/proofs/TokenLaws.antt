@@ -1,16 +1,17 @@
 -- The numbers and the names of tokens tell them apart, and the list of all tokens has each at its number.
-use Rattle.std.proofs.Common.{◌≡◌, ◌<◌, ◌≤◌, ℕ, zero, suc, ◌+◌, ◌-◌, ◌==◌, ◌&&◌, Bool, true, false, List, [], ◌∷◌, length, get_or, Some, slice_get, refl, ap, sym, ◌∙◌, inl, inr, arith, subst, eqb-true, add-zero}
+use Rattle.std.proofs.Common.{◌≡◌, ◌<◌, ◌≤◌, ℕ, zero, suc, ◌+◌, ◌-◌, ◌==◌, ◌&&◌, Bool, true, false, List, [], ◌∷◌, length, get_or, Some, slice_get, refl, ap, sym, ◌∙◌, inl, inr, arith, subst, eqb-true, add-zero, leb}
 use Rattle.std.specs.Prelude.{◌≢◌, ◌↔◌, find, nat_eq, Option}
 use Rattle.std.specs.Cmp.Lexicographic.{pointwise}
 use Rattle.std.specs.Ordering.{nat_cmp, on}
-use Rattle.std.proofs.lemmas.Bool.{cases_order, and_parts}
+use Rattle.std.proofs.lemmas.Bool.{cases_order, and_parts, leb-true, le-leb}
 use Rattle.std.proofs.lemmas.Option.{same_Some, get_or_from_slice_get, slice_get-get_or}
 use Rattle.std.proofs.lemmas.Cmp.{nat_list_eq_equiv}
 use Rattle.std.proofs.lemmas.Map.Lookups.{CmpEqualImpliesEq, exact_unsigned}
 use Rattle.fill_tokens.specs.Token.{token_number, token_name}
-use Rattle.fill_tokens.specs.Profile.{IsTokenOf}
+use Rattle.fill_tokens.specs.TokenSet.{IsTokenOf, has_token}
+use Rattle.fill_tokens.specs.declared.token_set.TheConstants.TokenSet as set
 use Rattle.fill_tokens.specs.declared.token.Token.{Token}
-use Rattle.fill_tokens.specs.declared.token.Token.TheVariants.{Start, NonSpace, NonDigit, NonAlpha}
+use Rattle.fill_tokens.specs.declared.token.Token.TheVariants.{Start, Dollar, NonDigit, NonAlpha}
 use Rattle.fill_tokens.specs.declared.token.TheConstants.Token.{ALL}
 
 pub listed : (t : Token) → slice_get ALL (token_number t - 1) ≡ Some t
@@ -69,26 +70,34 @@ next_unnamed name i d within this below j t h e n = elim (cases_order j i) [
   | inr o ↦ elim o [ inl l ↦ below j t l e n | inr g ↦ absurd (omega arith) ]
 ]
 
--- none of the three negated classes
-number_unlike : (x y : Token) → token_number x ≢ token_number y → x ≢ y
-number_unlike x y h e = h (ap token_number e)
+-- what each of the sets has, as a test on numbers
+first_tells : (x : Token) → has_token set.FIRST x ≡ leb (token_number x) 26
+first_tells Start = refl
+first_tells _ = refl
 
-in_first_back : (x : Token) → x ≢ NonSpace → x ≢ NonDigit → x ≢ NonAlpha → token_number x ≤ 26
-in_first_back Start a b c = omega arith
-in_first_back NonSpace a b c = absurd (a refl)
-in_first_back NonDigit a b c = absurd (b refl)
-in_first_back NonAlpha a b c = absurd (c refl)
-in_first_back _ a b c = omega arith
+second_tells : (x : Token) → has_token set.SECOND x ≡ leb (token_number x) 29
+second_tells Start = refl
+second_tells _ = refl
 
-pub in_first : (x : Token) → IsTokenOf 1 x ↔ ((x ≢ NonSpace) × (x ≢ NonDigit) × (x ≢ NonAlpha))
-in_first x = (
-  λ h. (
-    number_unlike x NonSpace (λ e. absurd (omega arith)),
-    number_unlike x NonDigit (λ e. absurd (omega arith)),
-    number_unlike x NonAlpha (λ e. absurd (omega arith)),
-  ),
-  λ h. in_first_back x h.0 h.1 h.2,
-)
+pub in_all : (x : Token) → IsTokenOf set.ALL x
+in_all Start = refl
+in_all _ = refl
 
-pub in_second : (x : Token) → IsTokenOf 2 x
-in_second x = number_within x
+pub in_first : (x : Token) → IsTokenOf set.FIRST x ↔ (token_number x ≤ token_number Dollar)
+in_first x = ((λ h. leb-true (token_number x) 26 (sym (first_tells x) ∙ h)), (λ h. first_tells x ∙ le-leb (token_number x) 26 h))
+
+pub in_second : (x : Token) → IsTokenOf set.SECOND x ↔ (token_number x ≤ token_number NonAlpha)
+in_second x = ((λ h. leb-true (token_number x) 29 (sym (second_tells x) ∙ h)), (λ h. second_tells x ∙ le-leb (token_number x) 29 h))
+
+-- a token is not one that the set lacks
+unlike_of : (x y : Token) → IsTokenOf set.THIRD x → has_token set.THIRD y ≡ false → x ≢ y
+unlike_of x y h without e = let same : has_token set.THIRD x ≡ has_token set.THIRD y = ap (has_token set.THIRD) e in cc
+
+in_third_back : (x : Token) → x ≢ NonDigit → x ≢ NonAlpha → IsTokenOf set.THIRD x
+in_third_back Start a b = refl
+in_third_back NonDigit a b = absurd (a refl)
+in_third_back NonAlpha a b = absurd (b refl)
+in_third_back _ a b = refl
+
+pub in_third : (x : Token) → IsTokenOf set.THIRD x ↔ ((x ≢ NonDigit) × (x ≢ NonAlpha))
+in_third x = ((λ h. (unlike_of x NonDigit h refl, unlike_of x NonAlpha h refl)), (λ h. in_third_back x h.0 h.1))

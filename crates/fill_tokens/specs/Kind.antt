@@ -6,7 +6,7 @@ use Rattle.fill_tokens.specs.declared.kind.RunClass.TheVariants as class
 use Rattle.fill_tokens.specs.declared.kind.Kind.{Kind}
 use Rattle.fill_tokens.specs.declared.kind.Kind.TheVariants.{AtStart, AtEnd, Run, Single}
 use Rattle.fill_tokens.specs.declared.token.Token.{Token}
-use Rattle.fill_tokens.specs.declared.token.Token.TheVariants.{Start, End, Digits, Upper, Lower, Alpha, Word, Space, Hyphen, Dot, Comma, Semicolon, Colon, Slash, Backslash, Underscore, At, Hash, Ampersand, LeftParen, RightParen, DoubleQuote, SingleQuote, Percent, Plus, Dollar, NonSpace, NonDigit, NonAlpha}
+use Rattle.fill_tokens.specs.declared.token.Token.TheVariants.{Start, End, Digits, Upper, Lower, Alpha, Word, Space, Hyphen, Dot, Comma, Semicolon, Colon, Slash, Backslash, Underscore, At, Hash, Ampersand, LeftParen, RightParen, DoubleQuote, SingleQuote, Percent, Plus, Dollar, NonSpace, NonDigit, NonAlpha, Equals, Less, Greater, LeftBracket, RightBracket, LeftBrace, RightBrace, Bar, Newline}
 
 -- the characters of a class of runs; a word has letters and digits, and a negated class has what the class has not
 abbrev pub run_has : RunClass → ℕ → Bool
@@ -50,3 +50,12 @@ kind_of Dollar = Single 36
 kind_of NonSpace = Run class.NonSpace
 kind_of NonDigit = Run class.NonDigit
 kind_of NonAlpha = Run class.NonAlpha
+kind_of Equals = Single 61
+kind_of Less = Single 60
+kind_of Greater = Single 62
+kind_of LeftBracket = Single 91
+kind_of RightBracket = Single 93
+kind_of LeftBrace = Single 123
+kind_of RightBrace = Single 125
+kind_of Bar = Single 124
+kind_of Newline = Single 10

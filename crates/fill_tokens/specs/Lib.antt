@@ -2,8 +2,9 @@ pub mod Cuts
 pub mod Kind
 pub mod Place
 pub mod PlaceGrammar
-pub mod Profile
+pub mod Prices
 pub mod Seq
 pub mod Span
 pub mod Token
+pub mod TokenSet
 pub mod Value

@@ -1,5 +1,5 @@
--- The cost and the order of places.
-use Rattle.std.specs.Prelude.{ℕ, ◌+◌, ◌-◌, ◌*◌, ◌==◌, List, ℤ, pos, negsuc, length, if◌then◌else◌}
+-- The order of places.
+use Rattle.std.specs.Prelude.{ℕ, ◌+◌, List, ℤ, pos, negsuc, length}
 use Rattle.std.specs.declared.cmp.Ordering.{Ordering}
 use Rattle.std.specs.declared.cmp.Ordering.TheVariants.{Less, Greater}
 use Rattle.std.specs.Ordering.{nat_cmp, ordering_then, on, then_cmp}
@@ -13,16 +13,6 @@ use Rattle.fill_tokens.specs.declared.place.Place.TheVariants.{CPos, Pos}
 abbrev pub magnitude : ℤ → ℕ
 magnitude (pos n) = n
 magnitude (negsuc n) = n + 1
-
--- 0 and -1, the two ends of a text, are cheap
-abbrev pub fixed_cost : ℤ → ℕ
-fixed_cost (pos n) = if n == 0 then 1 else 10
-fixed_cost (negsuc n) = if n == 0 then 1 else 10
-
--- a place between sequences costs more for each token, and for each cut that it passes by
-abbrev pub place_cost : Place → ℕ
-place_cost (CPos k) = fixed_cost k
-place_cost (Pos r s c) = 2 + 2 * (length r + length s) + 2 * (magnitude c - 1)
 
 abbrev pub sign_number : ℤ → ℕ
 sign_number (pos n) = 0

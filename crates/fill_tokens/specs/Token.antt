@@ -1,7 +1,7 @@
 -- The numbers and the names of tokens.
 use Rattle.std.specs.Prelude.{ℕ, List, codes}
 use Rattle.fill_tokens.specs.declared.token.Token.{Token}
-use Rattle.fill_tokens.specs.declared.token.Token.TheVariants.{Start, End, Digits, Upper, Lower, Alpha, Word, Space, Hyphen, Dot, Comma, Semicolon, Colon, Slash, Backslash, Underscore, At, Hash, Ampersand, LeftParen, RightParen, DoubleQuote, SingleQuote, Percent, Plus, Dollar, NonSpace, NonDigit, NonAlpha}
+use Rattle.fill_tokens.specs.declared.token.Token.TheVariants.{Start, End, Digits, Upper, Lower, Alpha, Word, Space, Hyphen, Dot, Comma, Semicolon, Colon, Slash, Backslash, Underscore, At, Hash, Ampersand, LeftParen, RightParen, DoubleQuote, SingleQuote, Percent, Plus, Dollar, NonSpace, NonDigit, NonAlpha, Equals, Less, Greater, LeftBracket, RightBracket, LeftBrace, RightBrace, Bar, Newline}
 
 -- the numbers, by which tokens are ordered
 abbrev pub token_number : Token → ℕ
@@ -34,6 +34,15 @@ token_number Dollar = 26
 token_number NonSpace = 27
 token_number NonDigit = 28
 token_number NonAlpha = 29
+token_number Equals = 30
+token_number Less = 31
+token_number Greater = 32
+token_number LeftBracket = 33
+token_number RightBracket = 34
+token_number LeftBrace = 35
+token_number RightBrace = 36
+token_number Bar = 37
+token_number Newline = 38
 
 -- the names, as texts of trees spell them
 abbrev pub token_name : Token → List ℕ
@@ -66,3 +75,12 @@ token_name Dollar = codes "Dollar"
 token_name NonSpace = codes "NonSpace"
 token_name NonDigit = codes "NonDigit"
 token_name NonAlpha = codes "NonAlpha"
+token_name Equals = codes "Equals"
+token_name Less = codes "Less"
+token_name Greater = codes "Greater"
+token_name LeftBracket = codes "LeftBracket"
+token_name RightBracket = codes "RightBracket"
+token_name LeftBrace = codes "LeftBrace"
+token_name RightBrace = codes "RightBrace"
+token_name Bar = codes "Bar"
+token_name Newline = codes "Newline"

@@ -1,9 +1,10 @@
 //! The kinds of pieces that tokens span.
-ghost use Rattle.std.specs.Prelude.{◌≡◌};
+ghost use Rattle.std.specs.Prelude.{◌≡◌, ℕ};
+ghost use Rattle.fill_text.specs.Classes.{class_of};
 ghost use Rattle.fill_tokens.specs.Kind.{run_has, kind_of};
 
 use crate::token::Token;
-use fill_text::class_of;
+use fill_text::{Class, class_of};
 
 /// A class of characters that a token matches maximal runs of.
 #[derive(Clone, Copy, Debug, PartialEq, Eq)]
@@ -33,27 +34,33 @@ pub enum Kind {
 }
 
 impl RunClass {
+    /// Whether a character in these classes is in the class.
+    pub fn is_among(self, classes: &Class) -> bool
+        ensures { (c : ℕ) → classes.now ≡ class_of c → result ≡ run_has self c }
+    {
+        match self {
+            RunClass::Digit => classes.digit,
+            RunClass::Upper => classes.upper,
+            RunClass::Lower => classes.lower,
+            RunClass::Alpha => classes.alpha,
+            RunClass::Word => classes.alpha || classes.digit,
+            RunClass::Space => classes.space,
+            RunClass::NonSpace => !classes.space,
+            RunClass::NonDigit => !classes.digit,
+            RunClass::NonAlpha => !classes.alpha,
+        }
+    }
+
     /// Whether the class has the character.
     pub fn has(self, c: char) -> bool
         ensures { result ≡ run_has self c }
     {
-        let class = class_of(c);
-        match self {
-            RunClass::Digit => class.digit,
-            RunClass::Upper => class.upper,
-            RunClass::Lower => class.lower,
-            RunClass::Alpha => class.alpha,
-            RunClass::Word => class.alpha || class.digit,
-            RunClass::Space => class.space,
-            RunClass::NonSpace => !class.space,
-            RunClass::NonDigit => !class.digit,
-            RunClass::NonAlpha => !class.alpha,
-        }
+        self.is_among(&class_of(c))
     }
 }
 
 impl Token {
-    /// What the token spans: the table to which a further token is added.
+    /// What the token spans.
     pub fn kind(self) -> Kind
         ensures { result ≡ kind_of self }
     {
@@ -87,6 +94,15 @@ impl Token {
             Token::NonSpace => Kind::Run(RunClass::NonSpace),
             Token::NonDigit => Kind::Run(RunClass::NonDigit),
             Token::NonAlpha => Kind::Run(RunClass::NonAlpha),
+            Token::Equals => Kind::Single('='),
+            Token::Less => Kind::Single('<'),
+            Token::Greater => Kind::Single('>'),
+            Token::LeftBracket => Kind::Single('['),
+            Token::RightBracket => Kind::Single(']'),
+            Token::LeftBrace => Kind::Single('{'),
+            Token::RightBrace => Kind::Single('}'),
+            Token::Bar => Kind::Single('|'),
+            Token::Newline => Kind::Single('\n'),
         }
     }
 }

@@ -12,9 +12,10 @@ ghost use Rattle.fill_tokens.specs.Span.{Spans, Begins};
 ghost use Rattle.fill_tokens.specs.Value.{HasValue, IsCount, IsCutFromLeft, IsCutFromRight};
 ghost use Rattle.fill_tokens.specs.Cuts.{AreCuts, AreMatches};
 ghost use Rattle.fill_tokens.specs.Place.{place_cmp, seq_cmp, signed_cmp};
-ghost use Rattle.fill_tokens.specs.Profile.{IsTokenOf};
+ghost use Rattle.fill_tokens.specs.TokenSet.{IsTokenOf};
 ghost use Rattle.fill_tokens.specs.declared.token.Token.{Token};
-ghost use Rattle.fill_tokens.specs.declared.token.Token.TheVariants.{NonSpace, NonDigit, NonAlpha};
+ghost use Rattle.fill_tokens.specs.declared.token.Token.TheVariants.{Dollar, NonDigit, NonAlpha};
+ghost use Rattle.fill_tokens.specs.declared.token_set.TheConstants.TokenSet as token_set;
 ghost use Rattle.fill_tokens.specs.declared.place.Place.{Place};
 
 use crate::token::Token;
@@ -32,11 +33,14 @@ pub fn all_tokens_are_listed()
     ensures { (x : Token) → slice_get Token.ALL (token_number x - 1) ≡ Some x }
 {}
 
-/// The first profile has all tokens but the runs of negated classes, and the second one has all.
-#[tactic(auto, using(crate::proofs::TokenLaws::in_first, crate::proofs::TokenLaws::in_second))]
-pub fn profiles_have_their_tokens()
-    ensures first { (x : Token) → IsTokenOf 1 x ↔ ((x ≢ NonSpace) × (x ≢ NonDigit) × (x ≢ NonAlpha)) }
-    ensures second { (x : Token) → IsTokenOf 2 x }
+/// The first set has the tokens up to the last sign of the first ones, the second one also the runs of negated classes,
+/// and the third one all tokens but two of these.
+#[tactic(auto, using(crate::proofs::TokenLaws::in_first, crate::proofs::TokenLaws::in_second, crate::proofs::TokenLaws::in_third, crate::proofs::TokenLaws::in_all))]
+pub fn sets_have_their_tokens()
+    ensures first { (x : Token) → IsTokenOf token_set.FIRST x ↔ (token_number x ≤ token_number Dollar) }
+    ensures second { (x : Token) → IsTokenOf token_set.SECOND x ↔ (token_number x ≤ token_number NonAlpha) }
+    ensures third { (x : Token) → IsTokenOf token_set.THIRD x ↔ ((x ≢ NonDigit) × (x ≢ NonAlpha)) }
+    ensures all { (x : Token) → IsTokenOf token_set.ALL x }
 {}
 
 /// From each position a token spans at most one piece, and up to each position too.

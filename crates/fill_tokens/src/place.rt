@@ -1,6 +1,6 @@
 //! Places.
 ghost use Rattle.std.specs.Prelude.{◌≡◌, ◌↔◌, IsTrue};
-ghost use Rattle.fill_tokens.specs.Place.{place_cost, place_cmp, signed_cmp};
+ghost use Rattle.fill_tokens.specs.Place.{place_cmp, signed_cmp};
 
 use crate::seq::Seq;
 use std::cmp::Ordering;
@@ -24,20 +24,6 @@ fn compare_signed(a: i32, b: i32) -> Ordering
 }
 
 impl Place {
-    /// The cost of the place, a part of the cost of a program.
-    pub fn cost(&self) -> u64
-        ensures { result ≡ place_cost self.now }
-    {
-        match self {
-            Place::CPos(0) | Place::CPos(-1) => 1,
-            Place::CPos(_) => 10,
-            Place::Pos(left, right, count) => {
-                let tokens = left.len() as u64 + right.len() as u64;
-                2 + 2 * tokens + 2 * u64::from(count.unsigned_abs().saturating_sub(1))
-            }
-        }
-    }
-
     /// The total order of places: `CPos` before `Pos`, each by its parts from the left. It looks at no more parts than it
     /// takes.
     pub fn compare(&self, other: &Place) -> Ordering

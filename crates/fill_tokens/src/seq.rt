@@ -1,7 +1,9 @@
 //! Sequences of tokens.
-ghost use Rattle.std.specs.Prelude.{◌≡◌, [], ◌∷◌, ◌≤◌, ◌<◌, ◌↔◌, IsTrue, slice_get, length};
+ghost use Rattle.std.specs.Prelude.{◌≡◌, [], ◌∷◌, ◌≤◌, ◌<◌, ◌↔◌, ◌^◌, IsTrue, slice_get, length};
 ghost use Rattle.fill_tokens.specs.Place.{seq_cmp};
+ghost use Rattle.fill_tokens.specs.Prices.{seq_cost};
 
+use crate::prices::Prices;
 use crate::token::Token;
 use std::cmp::Ordering;
 use std::marker::Model;
@@ -111,6 +113,21 @@ impl Seq {
                 1 => b,
                 _ => c,
             },
+        }
+    }
+
+    /// The cost of the sequence: that of its tokens.
+    pub fn cost(&self, prices: &Prices) -> u64
+        ensures value { result ≡ seq_cost prices.now self.now }
+        ensures few { result < 2 ^ 18 }
+    {
+        match self.tokens {
+            Tokens::None => 0,
+            Tokens::One(a) => u64::from(a.cost(prices)),
+            Tokens::Two(a, b) => u64::from(a.cost(prices)) + u64::from(b.cost(prices)),
+            Tokens::Three(a, b, c) => {
+                u64::from(a.cost(prices)) + u64::from(b.cost(prices)) + u64::from(c.cost(prices))
+            }
         }
     }
 

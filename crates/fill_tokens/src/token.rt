@@ -1,5 +1,5 @@
 //! Tokens.
-ghost use Rattle.std.specs.Prelude.{◌≡◌, ◌≢◌, MatchOption};
+ghost use Rattle.std.specs.Prelude.{◌≡◌, ◌≢◌, ◌+◌, ◌<◌, MatchOption};
 ghost use Rattle.fill_tokens.specs.Token.{token_number, token_name};
 ghost use Rattle.fill_tokens.specs.declared.token.Token.{Token};
 
@@ -35,11 +35,31 @@ pub enum Token {
     NonSpace,
     NonDigit,
     NonAlpha,
+    Equals,
+    Less,
+    Greater,
+    LeftBracket,
+    RightBracket,
+    LeftBrace,
+    RightBrace,
+    Bar,
+    Newline,
+}
+
+/// How many tokens there are.
+pub const TOKEN_COUNT: usize = 38;
+
+/// The token of a place in the list of all tokens, from 0.
+pub fn token_at(i: usize) -> Token
+    requires { i < TOKEN_COUNT }
+    ensures { token_number result ≡ i + 1 }
+{
+    Token::ALL[i]
 }
 
 impl Token {
     /// All tokens, in the order of their numbers.
-    pub const ALL: [Token; 29] = [
+    pub const ALL: [Token; 38] = [
         Token::Start,
         Token::End,
         Token::Digits,
@@ -69,6 +89,15 @@ impl Token {
         Token::NonSpace,
         Token::NonDigit,
         Token::NonAlpha,
+        Token::Equals,
+        Token::Less,
+        Token::Greater,
+        Token::LeftBracket,
+        Token::RightBracket,
+        Token::LeftBrace,
+        Token::RightBrace,
+        Token::Bar,
+        Token::Newline,
     ];
 
     /// The token's number, from 1, by which tokens are ordered.
@@ -126,6 +155,15 @@ impl Token {
             Token::NonSpace => "NonSpace",
             Token::NonDigit => "NonDigit",
             Token::NonAlpha => "NonAlpha",
+            Token::Equals => "Equals",
+            Token::Less => "Less",
+            Token::Greater => "Greater",
+            Token::LeftBracket => "LeftBracket",
+            Token::RightBracket => "RightBracket",
+            Token::LeftBrace => "LeftBrace",
+            Token::RightBrace => "RightBrace",
+            Token::Bar => "Bar",
+            Token::Newline => "Newline",
         }
     }
 

@@ -1,5 +1,5 @@
 pub mod AtomLists
-mod Examples
+pub mod Examples
 pub mod Explained
 pub mod GuardLaws
 pub mod Lookups

@@ -6,6 +6,7 @@ use Rattle.fill_text.specs.Data.{SheetData, TableData}
 use Rattle.fill_tokens.specs.declared.place.Place.TheVariants.{CPos}
 use Rattle.fill_tree.specs.Tree.{SourceTree, col, select, constant, whole, sub, end, more}
 use Rattle.fill_tree.specs.Grammar.{AreNumbersOf, IsSource, InGrammar, HasPart}
+use Rattle.fill_tree.specs.declared.profile.TheConstants.Profile as profile
 use Rattle.fill_tree.specs.declared.user.Settings.{Settings}
 use Rattle.fill_tree.specs.declared.user.Constants.TheVariants.{Any}
 use Rattle.fill_tree.specs.Value.{SourceIs, AtomIs, ConditionIs, ProgramIs}
@@ -93,7 +94,7 @@ price_is_source : (settings : Settings) → IsSource settings sheet tables price
 price_is_source settings = (numbers, inl tt, (((0, lit< tt, refl), lit< tt), (are_scalar, tt)))
 
 abbrev deep : ℕ → Settings
-deep depth = record { depth = depth; constants = Any; profile = 1 }
+deep depth = record { depth = depth; constants = Any; profile = profile.FIRST }
 
 price_in_grammar : InGrammar (deep 1) sheet tables (more (whole price) end)
 price_in_grammar = ((price_is_source (deep 1), lit≤ tt), tt)

@@ -1,21 +1,18 @@
 -- Which trees the bounded grammar has, for settings, a sheet and tables.
-use Rattle.std.specs.Prelude.{◌≡◌, ◌≢◌, ◌⊎◌, ℕ, suc, ◌+◌, ◌<◌, ◌≤◌, ◌^◌, ◌==◌, cond, List, [], Some, All, Contains, Bool, true, false, ◌||◌, max, length}
+use Rattle.std.specs.Prelude.{◌≡◌, ◌≢◌, ◌⊎◌, ℕ, suc, ◌+◌, ◌<◌, ◌≤◌, ◌^◌, List, [], Some, All, Contains, Bool, true, false, ◌||◌, max, length}
 use Rattle.std.specs.Char.{IsScalar}
 use Rattle.fill_text.specs.Classes.{is_separator}
 use Rattle.fill_text.specs.Data.{SheetData, TableData, key_at, width_at}
-use Rattle.fill_tokens.specs.Profile.{IsProfile, IsPlaceOf}
+use Rattle.fill_tokens.specs.TokenSet.{IsPlaceOf}
 use Rattle.fill_tree.specs.Tree.{SourceTree, AtomTree, Atoms, col, select, constant, whole, sub, end, more}
 use Rattle.fill_tree.specs.declared.user.Settings.{Settings}
 use Rattle.fill_tree.specs.declared.user.Constants.{Constants}
 use Rattle.fill_tree.specs.declared.user.Constants.TheVariants.{Any, Separators}
 
--- how many lookups may stand inside each other at most
-abbrev pub depth_limit : ℕ → ℕ
-depth_limit profile = cond (profile == 1) 2 3
-
--- what settings keep wherever they are handed in
+-- what settings keep wherever they are handed in: lookups stand inside each other no deeper than the profile allows, and
+-- no profile allows more than three
 abbrev pub AreSettings : Settings → Type 0
-AreSettings settings = IsProfile settings.profile × (settings.depth ≤ depth_limit settings.profile)
+AreSettings settings = (settings.depth ≤ settings.profile.depth) × (settings.profile.depth ≤ 3)
 
 abbrev pub number_of_atoms : Atoms → ℕ
 number_of_atoms end = 0
@@ -62,7 +59,7 @@ AreNumbersOf tables column table key size = (columns : List ℕ) × (width : ℕ
     × (width_at tables table ≡ Some width) × (length columns ≡ size) × (1 ≤ column) × (column ≤ width) × ¬ (Contains columns column)
     × (column < 2 ^ 32) × (table < 2 ^ 32) × (key < 2 ^ 32)
 
--- under the settings' profile
+-- under the settings, whose profile has the tokens of places
 abbrev mutual
   pub IsSource : Settings → SheetData → List TableData → SourceTree → Type 0
   IsSource settings sheet tables (col c) = Contains sheet.inputs c × (c < 2 ^ 32)
@@ -73,7 +70,7 @@ abbrev mutual
   pub IsCondition : Settings → SheetData → List TableData → AtomTree → Type 0
   IsCondition settings sheet tables (constant t) = All IsScalar t
   IsCondition settings sheet tables (whole s) = IsSource settings sheet tables s
-  IsCondition settings sheet tables (sub s p q) = IsSource settings sheet tables s × IsPlaceOf settings.profile p × IsPlaceOf settings.profile q
+  IsCondition settings sheet tables (sub s p q) = IsSource settings sheet tables s × IsPlaceOf settings.profile.tokens p × IsPlaceOf settings.profile.tokens q
 
   pub AreConditions : Settings → SheetData → List TableData → Atoms → Type 0
   AreConditions settings sheet tables end = Unit {0}
@@ -88,7 +85,7 @@ Allows Separators t = All (λ c. is_separator c ≡ true) t
 abbrev pub IsAtom : Settings → SheetData → List TableData → AtomTree → Type 0
 IsAtom settings sheet tables (constant t) = (t ≢ []) × All IsScalar t × Allows settings.constants t
 IsAtom settings sheet tables (whole s) = IsSource settings sheet tables s × (source_depth s ≤ settings.depth)
-IsAtom settings sheet tables (sub s p q) = IsSource settings sheet tables s × (source_depth s ≤ settings.depth) × IsPlaceOf settings.profile p × IsPlaceOf settings.profile q
+IsAtom settings sheet tables (sub s p q) = IsSource settings sheet tables s × (source_depth s ≤ settings.depth) × IsPlaceOf settings.profile.tokens p × IsPlaceOf settings.profile.tokens q
 
 abbrev pub InGrammar : Settings → SheetData → List TableData → Atoms → Type 0
 InGrammar settings sheet tables end = Unit {0}

@@ -5,6 +5,7 @@ use Rattle.std.specs.declared.cmp.Ordering.TheVariants.{Less, Equal, Greater}
 use Rattle.std.specs.Ordering.{nat_cmp, ordering_then}
 use Rattle.std.specs.Cmp.Lexicographic.{slice_cmp}
 use Rattle.fill_tokens.specs.Place.{place_cmp}
+use Rattle.fill_tokens.specs.declared.prices.Prices.{Prices}
 use Rattle.fill_tree.specs.Cost.{program_cost}
 use Rattle.fill_tree.specs.Tree.{SourceTree, AtomTree, Atoms, col, select, constant, whole, sub, end, more}
 
@@ -39,18 +40,18 @@ abbrev mutual
   atoms_cmp (more a cs) end = Greater
   atoms_cmp (more a cs) (more b bs) = ordering_then (atom_cmp a b) (atoms_cmp cs bs)
 
--- programs by cost, and then by their atoms
-abbrev pub program_cmp : Atoms → Atoms → Ordering
-program_cmp p q = ordering_then (nat_cmp (program_cost p) (program_cost q)) (atoms_cmp p q)
+-- programs by cost, by a table of prices, and then by their atoms
+abbrev pub program_cmp : Prices → Atoms → Atoms → Ordering
+program_cmp prices p q = ordering_then (nat_cmp (program_cost prices p) (program_cost prices q)) (atoms_cmp p q)
 
 -- the first program costs less, or as much and comes earlier
-abbrev pub Before : Atoms → Atoms → Type 0
-Before p q = program_cmp p q ≡ Less
+abbrev pub Before : Prices → Atoms → Atoms → Type 0
+Before prices p q = program_cmp prices p q ≡ Less
 
 -- the first program is the second or before it
-abbrev pub NotAfter : Atoms → Atoms → Type 0
-NotAfter p q = ¬ Before q p
+abbrev pub NotAfter : Prices → Atoms → Atoms → Type 0
+NotAfter prices p q = ¬ Before prices q p
 
 -- one of the two is before the other, and not both
-abbrev pub OneIsBefore : Atoms → Atoms → Type 0
-OneIsBefore p q = (Before p q × ¬ Before q p) ⊎ (Before q p × ¬ Before p q)
+abbrev pub OneIsBefore : Prices → Atoms → Atoms → Type 0
+OneIsBefore prices p q = (Before prices p q × ¬ Before prices q p) ⊎ (Before prices q p × ¬ Before prices p q)

@@ -7,27 +7,28 @@ use Rattle.std.specs.Cmp.Lexicographic.{slice_cmp}
 use Rattle.fill_text.specs.Data.{SheetData}
 use Rattle.fill_tokens.specs.Place.{seq_cmp}
 use Rattle.fill_tokens.specs.PlaceGrammar.{OnlyFirst, OnlyLast}
-use Rattle.fill_tokens.specs.Profile.{AreTokensOf}
+use Rattle.fill_tokens.specs.TokenSet.{AreTokensOf}
 use Rattle.fill_tokens.specs.declared.token.Token.{Token}
+use Rattle.fill_tokens.specs.declared.token_set.TokenSet.{TokenSet}
 use Rattle.fill_tokens.specs.declared.token.Token.TheVariants.{Start, End}
 use Rattle.fill_tree.specs.Guard.{GuardHolds}
 use Rattle.fill_tree.specs.declared.guard.Literal.{Literal}
 use Rattle.fill_tree.specs.declared.guard.Guard.{Guard}
 use Rattle.fill_tree.specs.declared.user.Settings.{Settings}
 
--- the sequences of literals under a profile: one or two of its tokens, the start of the text only first and its end
--- only last
-pub record IsTested (profile : ℕ) (r : List Token) : Type 0 where
+-- the sequences of literals by a set of tokens: one or two of these, the start of the text only first and its end only
+-- last
+pub record IsTested (token_set : TokenSet) (r : List Token) : Type 0 where
   pub some : 0 < length r
   pub few : length r ≤ 2
   pub start : OnlyFirst Start r
   pub last : OnlyLast End r
-  pub tokens : AreTokensOf profile r
+  pub tokens : AreTokensOf token_set r
 
 -- the literal tests an input's cell for one, two or three matches
 pub record IsLiteral (settings : Settings) (sheet : SheetData) (l : Literal) : Type 0 where
   pub input : Contains sheet.inputs l.column
-  pub tested : IsTested settings.profile l.seq
+  pub tested : IsTested settings.profile.tokens l.seq
   pub some : 1 ≤ l.least
   pub few : l.least ≤ 3
 

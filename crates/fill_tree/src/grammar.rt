@@ -1,6 +1,6 @@
 //! Which trees the bounded grammar has.
 ghost use Rattle.std.specs.Prelude.{◌≤◌, ◌↔◌, IsTrue, Contains, length, map};
-ghost use Rattle.fill_tokens.specs.Profile.{IsPlaceOf};
+ghost use Rattle.fill_tokens.specs.TokenSet.{IsPlaceOf};
 ghost use Rattle.fill_tree.specs.Tree.{atoms_of};
 ghost use Rattle.fill_tree.specs.Grammar.{AreConditions, AreNumbersOf, AreSettings, Allows, HasPart, InGrammar, IsAtom, IsCondition, IsPart, IsSource, atom_depth, source_depth};
 ghost use Rattle.fill_tree.specs.Meaning.{source_tree, select_tree, atom_tree, program_tree};
@@ -153,9 +153,9 @@ fn is_condition(atom: &Atom, settings: &Settings, sheet: &Sheet, tables: &Tables
 
 /// Whether the place is one of the grammar.
 fn is_place_of(p: &Place, settings: &Settings) -> bool
-    ensures { IsTrue result ↔ IsPlaceOf settings.now.profile p.now }
+    ensures { IsTrue result ↔ IsPlaceOf settings.now.profile.tokens p.now }
 {
-    is_place(p) && p.is_of(settings.profile)
+    is_place(p) && p.is_of(settings.profile.tokens)
 }
 
 /// Whether the column is one of the sheet's inputs.

@@ -1,11 +1,15 @@
 //! Laws of the definitions that the contracts of this crate cite.
 //!
 //! Each function does nothing: what it tells is its clauses, which hold for all plain trees.
-ghost use Rattle.std.specs.Prelude.{◌≡◌, ◌≢◌, ◌↔◌, ◌++◌, ℕ, List};
+ghost use Rattle.std.specs.Prelude.{◌≡◌, ◌≢◌, ◌↔◌, ◌++◌, ◌∷◌, [], ℕ, List, false};
 ghost use Rattle.std.specs.Cmp.{IsTotalOrder};
 ghost use Rattle.std.specs.declared.cmp.Ordering.TheVariants.{Equal};
+ghost use Rattle.fill_text.specs.Classes.{is_separator};
 ghost use Rattle.fill_text.specs.Data.{SheetData, TableData};
-ghost use Rattle.fill_tree.specs.Tree.{SourceTree, AtomTree, Atoms, end, more};
+ghost use Rattle.fill_tokens.specs.declared.prices.Prices.{Prices};
+ghost use Rattle.fill_tree.specs.Tree.{SourceTree, AtomTree, Atoms, constant, end, more};
+ghost use Rattle.fill_tree.specs.Cost.{program_cost};
+ghost use Rattle.fill_tree.specs.declared.profile.TheConstants.Profile as profile;
 ghost use Rattle.fill_tree.specs.Order.{source_cmp, atom_cmp, atoms_cmp, program_cmp, Before, NotAfter, OneIsBefore};
 ghost use Rattle.fill_tree.specs.Chosen.{Explains, IsChosen};
 ghost use Rattle.fill_tables.specs.Keys.{KeysDistinguish};
@@ -36,31 +40,39 @@ pub fn programs_are_ordered()
     ensures exact { (p : Atoms) → (q : Atoms) → atoms_cmp p q ≡ Equal → p ≡ q }
 {}
 
-/// So are they by their cost and then their atoms.
+/// So are they by their cost, by any prices, and then their atoms.
 #[tactic(auto, using(crate::proofs::ProgramOrder::program_total, crate::proofs::ProgramOrder::exact_programs))]
 pub fn programs_are_ordered_by_cost()
-    ensures total { IsTotalOrder program_cmp }
-    ensures exact { (p : Atoms) → (q : Atoms) → program_cmp p q ≡ Equal → p ≡ q }
+    ensures total { (prices : Prices) → IsTotalOrder (program_cmp prices) }
+    ensures exact { (prices : Prices) → (p : Atoms) → (q : Atoms) → program_cmp prices p q ≡ Equal → p ≡ q }
+{}
+
+/// A letter or digit as a program costs 27 by the first two profiles, and 55 by the third.
+#[tactic(auto, using(crate::proofs::Examples::letter_by_first, crate::proofs::Examples::letter_by_second, crate::proofs::Examples::letter_by_third))]
+pub fn letters_have_their_cost()
+    ensures first { (c : ℕ) → is_separator c ≡ false → (let p = profile.FIRST in program_cost p.prices (more (constant (c ∷ [])) end)) ≡ 27 }
+    ensures second { (c : ℕ) → is_separator c ≡ false → (let p = profile.SECOND in program_cost p.prices (more (constant (c ∷ [])) end)) ≡ 27 }
+    ensures third { (c : ℕ) → is_separator c ≡ false → (let p = profile.THIRD in program_cost p.prices (more (constant (c ∷ [])) end)) ≡ 55 }
 {}
 
 /// Of two different programs exactly one is before the other.
 #[tactic(auto, using(crate::proofs::ProgramOrder::one_is_before))]
 pub fn one_is_before()
-    ensures { (p : Atoms) → (q : Atoms) → p ≢ q → OneIsBefore p q }
+    ensures { (prices : Prices) → (p : Atoms) → (q : Atoms) → p ≢ q → OneIsBefore prices p q }
 {}
 
 /// A program with an earlier first atom, or with the same one and an earlier rest, is earlier. So the least of programs
 /// whose first atoms and rests are free of each other is the least first atom before the least rest.
 pub fn earlier_parts_make_earlier_programs()
-    ensures head { (a : AtomTree) → (b : AtomTree) → (p : Atoms) → (q : Atoms) →
-        Before (more a end) (more b end) → NotAfter p q → Before (more a p) (more b q) }
-    ensures tail { (a : AtomTree) → (b : AtomTree) → (p : Atoms) → (q : Atoms) →
-        NotAfter (more a end) (more b end) → Before p q → Before (more a p) (more b q) }
-    ensures both { (a : AtomTree) → (b : AtomTree) → (p : Atoms) → (q : Atoms) →
-        NotAfter (more a end) (more b end) → NotAfter p q → NotAfter (more a p) (more b q) }
-    ensures head_back { (a : AtomTree) → (b : AtomTree) → (p : Atoms) →
-        NotAfter (more a p) (more b p) → NotAfter (more a end) (more b end) }
-    ensures tail_back { (a : AtomTree) → (p : Atoms) → (q : Atoms) → NotAfter (more a p) (more a q) → NotAfter p q }
+    ensures head { (prices : Prices) → (a : AtomTree) → (b : AtomTree) → (p : Atoms) → (q : Atoms) →
+        Before prices (more a end) (more b end) → NotAfter prices p q → Before prices (more a p) (more b q) }
+    ensures tail { (prices : Prices) → (a : AtomTree) → (b : AtomTree) → (p : Atoms) → (q : Atoms) →
+        NotAfter prices (more a end) (more b end) → Before prices p q → Before prices (more a p) (more b q) }
+    ensures both { (prices : Prices) → (a : AtomTree) → (b : AtomTree) → (p : Atoms) → (q : Atoms) →
+        NotAfter prices (more a end) (more b end) → NotAfter prices p q → NotAfter prices (more a p) (more b q) }
+    ensures head_back { (prices : Prices) → (a : AtomTree) → (b : AtomTree) → (p : Atoms) →
+        NotAfter prices (more a p) (more b p) → NotAfter prices (more a end) (more b end) }
+    ensures tail_back { (prices : Prices) → (a : AtomTree) → (p : Atoms) → (q : Atoms) → NotAfter prices (more a p) (more a q) → NotAfter prices p q }
 {}
 
 /// A program explains two lists of examples together exactly where it explains each of them.

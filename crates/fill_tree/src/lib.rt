@@ -11,11 +11,13 @@ mod grammar;
 mod guard;
 pub mod laws;
 mod order;
+mod profile;
 mod tree;
 mod user;
 
-pub use fill_tokens::{Place, Seq, Token};
+pub use fill_tokens::{Place, Prices, Seq, Token, TokenSet};
 pub use grammar::{has_part, in_grammar, is_input, is_part};
 pub use guard::{Case, Guard, Literal, Switch};
+pub use profile::{Placing, Profile};
 pub use tree::{Atom, Program, Select, Source};
 pub use user::{Constants, Edit, Example, Settings};

@@ -6,6 +6,7 @@ ghost use Rattle.fill_tree.specs.Meaning.{source_tree, select_tree, atom_tree, p
 ghost use Rattle.fill_tree.specs.Order.{Before, source_cmp, atom_cmp, atoms_cmp};
 
 use crate::tree::{Atom, Program, Select, Source};
+use fill_tokens::Prices;
 use std::cmp::Ordering;
 
 impl Source {
@@ -81,12 +82,13 @@ impl Program {
         compare_atoms(self.atoms.as_slice(), other.atoms.as_slice())
     }
 
-    /// Whether the program costs less than the other, or as much and comes earlier in the order of their atoms.
-    pub fn before(&self, other: &Program) -> bool
-        requires own { program_cost (program_tree self.now) < 2 ^ 64 }
-        requires others { program_cost (program_tree other.now) < 2 ^ 64 }
-        ensures { IsTrue result ↔ Before (program_tree self.now) (program_tree other.now) }
+    /// Whether the program costs less than the other by the prices, or as much and comes earlier in the order of their atoms.
+    pub fn before(&self, other: &Program, prices: &Prices) -> bool
+        requires own { program_cost prices.now (program_tree self.now) < 2 ^ 64 }
+        requires others { program_cost prices.now (program_tree other.now) < 2 ^ 64 }
+        ensures { IsTrue result ↔ Before prices.now (program_tree self.now) (program_tree other.now) }
     {
-        self.cost().cmp(&other.cost()).then(self.compare(other)) == Ordering::Less
+        let by_cost = self.cost(prices).cmp(&other.cost(prices));
+        by_cost.then(self.compare(other)) == Ordering::Less
     }
 }

@@ -1,4 +1,5 @@
 //! What the user gives.
+use crate::profile::Profile;
 use fill_text::Text;
 
 /// Which constants a program may have.
@@ -10,17 +11,13 @@ pub enum Constants {
     Separators,
 }
 
-/// The bounds of the grammar.
-///
-/// Profile 1 has 26 tokens, and lookups stand inside each other at most twice. Profile 2 has three more, the runs of
-/// characters that are not space, not digits and not letters, and lookups stand inside each other at most three times.
+/// The bounds of the grammar, and what its programs cost.
 #[derive(Clone, Copy, Debug, PartialEq, Eq)]
 pub struct Settings {
-    /// How many lookups may stand inside each other.
+    /// How many lookups may stand inside each other, no more than the profile allows.
     pub depth: u8,
     pub constants: Constants,
-    /// The profile, 1 or 2.
-    pub profile: u8,
+    pub profile: Profile,
 }
 
 /// What a row's output cell shall be.

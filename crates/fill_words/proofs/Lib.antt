@@ -1,1 +1,3 @@
 mod OneKind
+pub mod Parts
+pub mod Rules

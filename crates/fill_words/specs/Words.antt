@@ -1,35 +1,66 @@
 -- What the words of the command line mean.
-use Rattle.std.specs.Prelude.{◌≡◌, ◌==◌, ℕ, Bool, true, false, not, List, [], ◌∷◌, Option, Some, None, Result}
-use Rattle.std.specs.Prelude.{MatchResult, bytes_eq, codes, flat_map, map, string_bytes, unwrap_or, if◌then◌else◌, ⊤}
-use Rattle.std.specs.List.{slice_split}
+use Rattle.std.specs.Prelude.{◌≡◌, ◌==◌, ℕ, Bool, true, false, not, zero, suc, List, [], ◌∷◌, Option, Some, None, Result}
+use Rattle.std.specs.Prelude.{◌++◌, MatchResult, bytes_eq, codes, flat_map, length, map, nat_lt, option_and_then, option_map, string_bytes, unwrap_or, if◌then◌else◌, ⊤}
+use Rattle.std.specs.List.{after_first, before_first, list_any, position_or_len, slice_split}
 use Rattle.std.specs.Option.{option_map_or}
+use Rattle.std.specs.Borrow.{Bor}
 use Rattle.clap.specs.Words.{Kinds, Row, Text, all_of, fault_of, first_of, matches_of}
 use Rattle.clap.specs.declared.error.kind.ErrorKind.{ErrorKind}
 use Rattle.clap.specs.declared.error.kind.ErrorKind.TheVariants.{DisplayHelp, DisplayVersion}
+use Rattle.fill_script.specs.Number.{number_in}
 use Rattle.fill_words.specs.declared.asked.Asked.{Asked}
+use Rattle.fill_words.specs.declared.asked.Target.{Target}
+use Rattle.fill_words.specs.declared.asked.Target.TheVariants as target
+use Rattle.fill_words.specs.declared.asked.Typed.{Typed}
+use Rattle.fill_words.specs.declared.reading.Chosen.{Chosen}
 use Rattle.fill_words.specs.declared.refusal.Refusal.{Refusal}
 use Rattle.fill_words.specs.declared.refusal.Refusal.TheVariants.{Shown, Usage, NoMemory}
 use Rattle.fill_words.specs.Options.{app}
 
+-- the column that is filled: one that is there, by its name or its number, or a new one of this name
+pub data TargetData : Type 0 where
+  There : Text → TargetData
+  New : Text → TargetData
+
+abbrev pub target_data : Target → TargetData
+target_data (target.There column) = There (string_bytes column)
+target_data (target.New name) = New (string_bytes name)
+
+-- an example: a row as a spreadsheet shows it, and the text that its cell shall have
+pub record TypedData : Type 0 where
+  pub row : ℕ
+  pub text : Text
+
+abbrev pub typed_data : Typed → TypedData
+typed_data e = record { row = e.row; text = string_bytes e.text }
+
 -- what words ask for, as `Asked` says it
 pub record AskedData : Type 0 where
   pub file : Text
-  pub to : Text
+  pub to : TargetData
   pub from : List Text
   pub header : Bool
+  pub examples : List TypedData
+  pub replace : Bool
   pub states : Bool
   pub only_sure : Bool
   pub profile : ℕ
+  pub quiet : Bool
+  pub strict : Bool
 
 abbrev pub data_of : Asked → AskedData
 data_of a = record {
   file = string_bytes a.file;
-  to = string_bytes a.to;
+  to = target_data a.to;
   from = map string_bytes a.from.items;
   header = a.header;
+  examples = map typed_data a.examples.items;
+  replace = a.replace;
   states = a.states;
   only_sure = a.only_sure;
   profile = a.profile;
+  quiet = a.quiet;
+  strict = a.strict;
 }
 
 -- words ask for a sheet, or for help or the version, or they are wrong
@@ -49,11 +80,54 @@ abbrev pub only_sure_in : Option Text → Option Bool
 only_sure_in None = Some false
 only_sure_in (Some word) = if bytes_eq word (codes "sure") then Some true else None
 
--- the profile that `--profile` names: 1 or 2
+-- the profile that `--profile` names: 1, 2 or 3
 abbrev pub profile_in : Option Text → Option ℕ
-profile_in None = Some 1
+profile_in None = Some 3
 profile_in (Some word) = if bytes_eq word (codes "1") then Some 1
-    else (if bytes_eq word (codes "2") then Some 2 else None)
+    else (if bytes_eq word (codes "2") then Some 2 else (if bytes_eq word (codes "3") then Some 3 else None))
+
+-- the column that is filled: `--to` names one that is there, or `--new` a new one, and not both
+abbrev pub target_in : Option Text → Option Text → Option TargetData
+target_in (Some column) None = Some (There column)
+target_in None (Some name) = Some (New name)
+target_in (Some column) (Some name) = None
+target_in None None = None
+
+-- a row's number: a plain decimal that is not 0
+abbrev pub counted_row : Option ℕ → Option ℕ
+counted_row None = None
+counted_row (Some zero) = None
+counted_row (Some (suc above)) = Some (suc above)
+
+abbrev pub row_in : Text → Option ℕ
+row_in word = counted_row (number_in word)
+
+-- the example of a row and a text
+abbrev pub typed_of : Text → Option ℕ → Option TypedData
+typed_of text None = None
+typed_of text (Some row) = Some (record { row = row; text = text })
+
+-- the example of a word: a row's number up to the first `=` (61), and after it a text, which may be empty
+abbrev pub example_in : Text → Option TypedData
+example_in word = if nat_lt (position_or_len (λ b. b == 61) word) (length word)
+    then typed_of (after_first (λ b. b == 61) word) (row_in (before_first (λ b. b == 61) word)) else None
+
+-- examples with one more, for a row that has none yet
+abbrev pub with_example : List TypedData → TypedData → Option (List TypedData)
+with_example before e = if list_any (λ other. other.row == e.row) before then None else Some (before ++ e ∷ [])
+
+-- examples with that of one more word
+abbrev pub with_word : List TypedData → Text → Option (List TypedData)
+with_word before word = option_and_then (with_example before) (example_in word)
+
+-- examples with those of more words, one after the other
+abbrev pub with_words : List TypedData → List Text → Option (List TypedData)
+with_words before [] = Some before
+with_words before (word ∷ more) = option_and_then (λ now. with_words now more) (with_word before word)
+
+-- the examples of words: each gives one, and no two of them are for one row
+abbrev pub examples_in : List Text → Option (List TypedData)
+examples_in words = with_words [] words
 
 -- the value of an option
 abbrev pub text_of : Text → List Row → Text
@@ -63,25 +137,52 @@ text_of id rows = unwrap_or (first_of id rows) []
 abbrev pub is_set : Text → List Row → Bool
 is_set id rows = option_map_or (λ text. bytes_eq text (codes "true")) (first_of id rows) false
 
-abbrev pub data_in : List Row → Bool → ℕ → AskedData
-data_in rows only_sure profile = record {
+-- the values of an option that may stand several times
+abbrev pub texts_of : Text → List Row → List Text
+texts_of id rows = unwrap_or (all_of id rows) []
+
+-- what the options say that not every word is a value of
+pub record ChosenData : Type 0 where
+  pub only_sure : Bool
+  pub profile : ℕ
+  pub to : TargetData
+  pub examples : List TypedData
+
+abbrev pub data_in : List Row → ChosenData → AskedData
+data_in rows chosen = record {
   file = text_of (codes "FILE") rows;
-  to = text_of (codes "to") rows;
-  from = flat_map columns_in (unwrap_or (all_of (codes "from") rows) []);
+  to = chosen.to;
+  from = flat_map columns_in (texts_of (codes "from") rows);
   header = not (is_set (codes "no-header") rows);
+  examples = chosen.examples;
+  replace = is_set (codes "replace") rows;
   states = is_set (codes "state") rows;
-  only_sure = only_sure;
-  profile = profile;
+  only_sure = chosen.only_sure;
+  profile = chosen.profile;
+  quiet = is_set (codes "quiet") rows;
+  strict = is_set (codes "strict") rows;
 }
 
-abbrev pub chosen : List Row → Option Bool → Option ℕ → Meaning
-chosen rows (Some only_sure) (Some profile) = Asks (data_in rows only_sure profile)
-chosen rows _ _ = Wrong
+abbrev pub chosen_data : Chosen → ChosenData
+chosen_data c = record { only_sure = c.only_sure; profile = c.profile; to = target_data c.to; examples = map typed_data c.examples.items }
+
+-- these values, where there are all of them
+abbrev pub chosen : Option Bool → Option ℕ → Option TargetData → Option (List TypedData) → Option ChosenData
+chosen (Some only_sure) (Some profile) (Some to) (Some examples) =
+    Some (record { only_sure = only_sure; profile = profile; to = to; examples = examples })
+chosen _ _ _ _ = None
+
+abbrev pub chosen_in : List Row → Option ChosenData
+chosen_in rows = chosen (only_sure_in (first_of (codes "only") rows)) (profile_in (first_of (codes "profile") rows))
+    (target_in (first_of (codes "to") rows) (first_of (codes "new") rows)) (examples_in (texts_of (codes "example") rows))
+
+abbrev pub meaning_by : List Row → Option ChosenData → Meaning
+meaning_by rows None = Wrong
+meaning_by rows (Some chosen) = Asks (data_in rows chosen)
 
 -- the meaning of words that `clap` takes, by what it matches
 abbrev pub meaning_of_rows : List Row → Meaning
-meaning_of_rows rows = chosen rows (only_sure_in (first_of (codes "only") rows))
-    (profile_in (first_of (codes "profile") rows))
+meaning_of_rows rows = meaning_by rows (chosen_in rows)
 
 -- ---- words
 
@@ -110,3 +211,14 @@ IsRefusedBy meaning NoMemory = ⊤
 -- the answer says what the words mean, or is want of memory
 abbrev pub Answers : Meaning → Result Asked Refusal → Type 0
 Answers meaning result = MatchResult result (λ asked. meaning ≡ Asks (data_of asked)) (IsRefusedBy meaning)
+
+-- the refusal says that a part of the words means nothing, or it is want of memory
+abbrev pub RefusesPart : {D : Type 0} → Option D → Refusal → Type 0
+RefusesPart meaning (Shown text) = ⊥
+RefusesPart meaning (Usage text) = meaning ≡ None
+RefusesPart meaning NoMemory = ⊤
+
+-- a row and a text, where the word gives them
+abbrev pub Parts : Option TypedData → Option (ℕ × Bor Text) → Type 0
+Parts meaning None = meaning ≡ None
+Parts meaning (Some parts) = meaning ≡ Some (record { row = parts.0; text = parts.1.now })

@@ -1,20 +1,46 @@
 //! What the words ask for.
 
+/// The column that is filled.
+#[derive(Debug, Drop)]
+pub enum Target {
+    /// One that is there: its name in the header, or its number from 1.
+    There(String),
+    /// A new one of this name, after the last one.
+    New(String),
+}
+
+/// An example that the words give, beside those of the column.
+#[derive(Debug, Drop)]
+pub struct Typed {
+    /// The row as a spreadsheet shows it, from 1: where there is a header, the first row is 2.
+    pub row: u32,
+    /// The text that its cell shall have.
+    pub text: String,
+}
+
 /// What the words ask for.
 #[derive(Debug, Drop)]
 pub struct Asked {
     /// The path of the sheet's file.
     pub file: String,
-    /// The column that is filled: its name in the header, or its number from 1.
-    pub to: String,
-    /// The columns that rules may read, named likewise; none: all others, the first eight.
+    /// The column that is filled.
+    pub to: Target,
+    /// The columns that rules may read, by name or number; none: all others, the first eight.
     pub from: Vec<String>,
     /// Whether the first record names the columns.
     pub header: bool,
+    /// The examples, each for another row.
+    pub examples: Vec<Typed>,
+    /// Whether what the column holds is no example, and is replaced.
+    pub replace: bool,
     /// Whether a column with the state of each cell comes last.
     pub states: bool,
     /// Whether a cell that is not sure stays empty.
     pub only_sure: bool,
-    /// The profile of the language, 1 or 2.
+    /// The profile of the language, 1 to 3.
     pub profile: u8,
+    /// Whether nothing is told of a sheet that was filled.
+    pub quiet: bool,
+    /// Whether each cell has to be given or sure.
+    pub strict: bool,
 }

@@ -1,6 +1,9 @@
 //! The options that take one of a few words.
-ghost use Rattle.std.specs.Prelude.{◌≡◌, option_map};
-ghost use Rattle.fill_words.specs.Words.{only_sure_in, profile_in};
+ghost use Rattle.std.specs.Prelude.{◌≡◌, IfOk, IfErr, Some, option_map};
+ghost use Rattle.fill_words.specs.Words.{RefusesPart, only_sure_in, profile_in, target_data, target_in};
+
+use crate::{Refusal, Target};
+use std::alloc::Global;
 
 /// Whether a cell that is not sure stays empty, by the word after `--only`.
 pub(crate) fn only_sure_by(word: Option<&str>) -> Option<bool>
@@ -18,8 +21,45 @@ pub(crate) fn profile_by(word: Option<&str>) -> Option<u8>
     ensures { result ≡ profile_in (option_map (λ w. w.now) word.entry) }
 {
     match word {
-        None | Some("1") => Some(1),
+        Some("1") => Some(1),
         Some("2") => Some(2),
+        None | Some("3") => Some(3),
         Some(_) => None,
     }
 }
+
+/// The column that is filled, by the words after `--to` and `--new`, of which there must be one.
+pub(crate) fn target_by(
+    alloc: Global,
+    to: Option<&str>,
+    new: Option<&str>,
+) -> Result<Target, Refusal>
+    ensures ok { IfOk result (λ target. target_in (option_map (λ w. w.now) to.entry) (option_map (λ w. w.now) new.entry) ≡ Some (target_data target)) }
+    ensures err { IfErr result (RefusesPart (target_in (option_map (λ w. w.now) to.entry) (option_map (λ w. w.now) new.entry))) }
+{
+    match (to, new) {
+        (Some(column), None) => match String::from_str(alloc, column) {
+            Ok(column) => Ok(Target::There(column)),
+            Err(_) => Err(Refusal::NoMemory),
+        },
+        (None, Some(name)) => match String::from_str(alloc, name) {
+            Ok(name) => Ok(Target::New(name)),
+            Err(_) => Err(Refusal::NoMemory),
+        },
+        (Some(_), Some(_)) => Err(Refusal::of_usage(alloc, BOTH)),
+        (None, None) => Err(Refusal::of_usage(alloc, NEITHER)),
+    }
+}
+
+/// What is wrong where the words name two columns to fill.
+const BOTH: &str = "error: the argument '--to <COLUMN>' cannot be used with '--new <NAME>'
+
+For more information, try '--help'.
+";
+
+/// What is wrong where they name none.
+const NEITHER: &str = "error: the following required arguments were not provided:
+  <--to <COLUMN>|--new <NAME>>
+
+For more information, try '--help'.
+";

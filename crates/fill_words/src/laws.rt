@@ -1,14 +1,19 @@
 //! What words mean, at some that are written out.
 ghost use Rattle.std.specs.Prelude.{◌≡◌, ◌∷◌, [], codes, false, true};
-ghost use Rattle.fill_words.specs.Words.{Asks, Shows, Wrong, asked_in};
+ghost use Rattle.fill_words.specs.Words.{Asks, New, Shows, There, Wrong, asked_in};
 
 /// Words that are written out have the meaning that a person gives them.
 pub fn words_mean()
     ensures fewest { asked_in (codes "people.csv" ∷ codes "--to" ∷ codes "Label" ∷ [])
-        ≡ Asks (record { file = codes "people.csv"; to = codes "Label"; from = []; header = true; states = false; only_sure = false; profile = 1 }) }
-    ensures most { asked_in (codes "--from=Name,City" ∷ codes "--state" ∷ codes "--no-header" ∷ codes "--to=3" ∷ codes "--only" ∷ codes "sure" ∷ codes "--profile" ∷ codes "2" ∷ codes "--" ∷ codes "-.csv" ∷ [])
-        ≡ Asks (record { file = codes "-.csv"; to = codes "3"; from = codes "Name" ∷ codes "City" ∷ []; header = false; states = true; only_sure = true; profile = 2 }) }
+        ≡ Asks (record { file = codes "people.csv"; to = There (codes "Label"); from = []; header = true; examples = []; replace = false; states = false; only_sure = false; profile = 3; quiet = false; strict = false }) }
+    ensures most { asked_in (codes "--from=Name,City" ∷ codes "--state" ∷ codes "--no-header" ∷ codes "--to=3" ∷ codes "--only" ∷ codes "sure" ∷ codes "--profile" ∷ codes "2" ∷ codes "--strict" ∷ codes "--" ∷ codes "-.csv" ∷ [])
+        ≡ Asks (record { file = codes "-.csv"; to = There (codes "3"); from = codes "Name" ∷ codes "City" ∷ []; header = false; examples = []; replace = false; states = true; only_sure = true; profile = 2; quiet = false; strict = true }) }
+    ensures added { asked_in (codes "people.csv" ∷ codes "--new" ∷ codes "Initials" ∷ codes "--replace" ∷ codes "--quiet" ∷ [])
+        ≡ Asks (record { file = codes "people.csv"; to = New (codes "Initials"); from = []; header = true; examples = []; replace = true; states = false; only_sure = false; profile = 3; quiet = true; strict = false }) }
     ensures help { asked_in (codes "--help" ∷ []) ≡ Shows }
     ensures none { asked_in [] ≡ Wrong }
+    ensures both { asked_in (codes "people.csv" ∷ codes "--to" ∷ codes "Label" ∷ codes "--new" ∷ codes "Name" ∷ []) ≡ Wrong }
+    ensures neither { asked_in (codes "people.csv" ∷ []) ≡ Wrong }
+    ensures unsplit { asked_in (codes "people.csv" ∷ codes "--to" ∷ codes "Label" ∷ codes "--example" ∷ codes "2" ∷ []) ≡ Wrong }
     ensures only { asked_in (codes "people.csv" ∷ codes "--to" ∷ codes "Label" ∷ codes "--only" ∷ codes "doubt" ∷ []) ≡ Wrong }
 {}

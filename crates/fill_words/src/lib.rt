@@ -4,6 +4,7 @@
 mod asked;
 mod choices;
 mod columns;
+mod examples;
 pub mod laws;
 mod options;
 mod reading;
@@ -11,6 +12,6 @@ mod refusal;
 #[cfg(test)]
 mod tests;
 
-pub use asked::Asked;
+pub use asked::{Asked, Target, Typed};
 pub use reading::read_words;
 pub use refusal::Refusal;

@@ -2,7 +2,7 @@
 ghost use Rattle.std.specs.Prelude.{◌≡◌, IfOk, Some, false};
 ghost use Rattle.clap.specs.Words.{app_of, rule_of};
 ghost use Rattle.clap.specs.declared.builder.value_parser.ValueParser.TheVariants.{NonEmptyString};
-ghost use Rattle.fill_words.specs.Options.{app, file_rule, flag_rule, from_rule, profile_rule, to_rule, value_rule};
+ghost use Rattle.fill_words.specs.Options.{app, example_rule, file_rule, flag_rule, from_rule, inputs, new_rule, outputs, profile_rule, value_rule, with_rules};
 
 use clap::builder::ValueParser;
 use clap::{Arg, ArgAction, Command};
@@ -14,7 +14,11 @@ other columns, and writes the sheet with the empty ones filled.";
 
 const EXAMPLES: &str = "Examples:
   fillcsv people.csv --to Label
-  fillcsv people.csv --to Label --from Name,City --state";
+  fillcsv people.csv --to Label --from Name,City --state
+  fillcsv people.csv --to Label --example '5=Noether (Erlangen)' --example 7=
+  fillcsv people.csv --new Initials --example 2=AB";
+
+const USAGE: &str = "fillcsv [OPTIONS] <--to <COLUMN>|--new <NAME>> <FILE>";
 
 /// An option that takes a value.
 fn valued<'a>(alloc: Global, name: &'a str, value: &'a str, help: &'a str) -> Arg<'a>
@@ -52,12 +56,12 @@ fn file<'a>(alloc: Global) -> Arg<'a>
     nonempty(Arg::new(alloc, "FILE").required(true)).help("The sheet, a CSV file")
 }
 
-fn to<'a>(alloc: Global) -> Arg<'a>
-    ensures rule { rule_of result ≡ to_rule }
+fn new<'a>(alloc: Global) -> Arg<'a>
+    ensures rule { rule_of result ≡ new_rule }
     ensures local { result.global ≡ false }
 {
-    let help = "The column to fill: its name, or its number from 1";
-    valued(alloc, "to", "COLUMN", help).required(true)
+    let help = "Fill a new column of this name, after the last one";
+    nonempty(valued(alloc, "new", "NAME", help))
 }
 
 fn from<'a>(alloc: Global) -> Arg<'a>
@@ -68,23 +72,69 @@ fn from<'a>(alloc: Global) -> Arg<'a>
     nonempty(valued(alloc, "from", "COLUMN,..", help)).action(ArgAction::Append)
 }
 
+fn example<'a>(alloc: Global) -> Arg<'a>
+    ensures rule { rule_of result ≡ example_rule }
+    ensures local { result.global ≡ false }
+{
+    let help = "A cell to learn from and to write: the row as a spreadsheet shows it, and the text";
+    valued(alloc, "example", "ROW=TEXT", help).action(ArgAction::Append)
+}
+
 fn profile<'a>(alloc: Global) -> Arg<'a>
     ensures rule { rule_of result ≡ profile_rule }
     ensures local { result.global ≡ false }
 {
-    let help = "The language of the rules [possible values: 1, 2]";
-    valued(alloc, "profile", "NUMBER", help).default_value("1")
+    let help = "The language of the rules [possible values: 1, 2, 3]";
+    valued(alloc, "profile", "NUMBER", help).default_value("3")
 }
 
 /// The words that the program takes, for `clap`.
 pub(crate) fn options<'a>(alloc: Global) -> Result<Command<'a>, AllocError>
     ensures { IfOk result (λ c. app_of c ≡ app) }
 {
+    let command = Command::new(alloc, "fillcsv")
+        .version("0.1.0")
+        .about(ABOUT)
+        .override_usage(USAGE)
+        .after_help(EXAMPLES)
+        .no_binary_name(true);
+    with_outputs(alloc, with_inputs(alloc, command)?)
+}
+
+/// The command with the words that say what is read.
+fn with_inputs<'a>(alloc: Global, command: Command<'a>) -> Result<Command<'a>, AllocError>
+    ensures { IfOk result (λ c. app_of c ≡ with_rules (app_of command.entry) inputs) }
+{
+    let to = valued(
+        alloc,
+        "to",
+        "COLUMN",
+        "The column to fill: its name, or its number from 1",
+    );
     let no_header = flag(
         alloc,
         "no-header",
         "The first record is a row like the others",
     );
+    let replace = flag(
+        alloc,
+        "replace",
+        "Replace what the column holds, and learn from --example alone",
+    );
+    command
+        .arg(file(alloc))?
+        .arg(to)?
+        .arg(new(alloc))?
+        .arg(from(alloc))?
+        .arg(no_header)?
+        .arg(example(alloc))?
+        .arg(replace)
+}
+
+/// The command with the words that say what is written.
+fn with_outputs<'a>(alloc: Global, command: Command<'a>) -> Result<Command<'a>, AllocError>
+    ensures { IfOk result (λ c. app_of c ≡ with_rules (app_of command.entry) outputs) }
+{
     let state = flag(alloc, "state", "Add a column with the state of each cell");
     let only = valued(
         alloc,
@@ -92,16 +142,16 @@ pub(crate) fn options<'a>(alloc: Global) -> Result<Command<'a>, AllocError>
         "STATE",
         "Fill only the cells in this state [possible values: sure]",
     );
-    Command::new(alloc, "fillcsv")
-        .version("0.1.0")
-        .about(ABOUT)
-        .after_help(EXAMPLES)
-        .no_binary_name(true)
-        .arg(file(alloc))?
-        .arg(to(alloc))?
-        .arg(from(alloc))?
-        .arg(no_header)?
+    let strict = flag(
+        alloc,
+        "strict",
+        "Status 1 also where a cell is neither given nor sure",
+    );
+    let quiet = flag(alloc, "quiet", "Tell nothing of a sheet that was filled");
+    command
         .arg(state)?
         .arg(only)?
+        .arg(strict)?
+        .arg(quiet)?
         .arg(profile(alloc))
 }

@@ -48,6 +48,29 @@ impl Refusal {
             Err(_) => Refusal::NoMemory,
         }
     }
+
+    /// The refusal of a word that gives no example, or none that may stand beside the others.
+    pub(crate) fn of_example(alloc: Global, word: &str, why: &str) -> Refusal
+        ensures { IsRefusedBy Wrong result }
+    {
+        let text = format!(in alloc;
+            "error: invalid value '{word}' for '--example <ROW=TEXT>': {why}\n\nFor more information, try '--help'.\n"
+        );
+        match text {
+            Ok(text) => Refusal::Usage(text),
+            Err(_) => Refusal::NoMemory,
+        }
+    }
+
+    /// The refusal with this text.
+    pub(crate) fn of_usage(alloc: Global, text: &str) -> Refusal
+        ensures { IsRefusedBy Wrong result }
+    {
+        match String::from_str(alloc, text) {
+            Ok(text) => Refusal::Usage(text),
+            Err(_) => Refusal::NoMemory,
+        }
+    }
 }
 
 impl From<AllocError> for Refusal {

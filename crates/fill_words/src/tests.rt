@@ -30,14 +30,18 @@ fn asks(alloc: Global, line: &str, wanted: &str) -> Result<bool, AllocError> {
 
 #[test]
 fn words_that_ask(rt: HostRuntime) -> Result<(), Fail> {
-    let table: [(&str, &str); 4] = [
+    let table: [(&str, &str); 5] = [
         (
             "people.csv --to Label",
-            "Asked { file: \"people.csv\", to: \"Label\", from: [], header: true, states: false, only_sure: false, profile: 1 }",
+            "Asked { file: \"people.csv\", to: There(\"Label\"), from: [], header: true, examples: [], replace: false, states: false, only_sure: false, profile: 3, quiet: false, strict: false }",
         ),
         (
             "--state --only=sure people.csv --profile 2 --to=Label --from Name,City --no-header --from 5",
-            "Asked { file: \"people.csv\", to: \"Label\", from: [\"Name\", \"City\", \"5\"], header: false, states: true, only_sure: true, profile: 2 }",
+            "Asked { file: \"people.csv\", to: There(\"Label\"), from: [\"Name\", \"City\", \"5\"], header: false, examples: [], replace: false, states: true, only_sure: true, profile: 2, quiet: false, strict: false }",
+        ),
+        (
+            "people.csv --new Initials --example 2=AB --replace --example=30= --quiet --example 4=a=b --strict",
+            "Asked { file: \"people.csv\", to: New(\"Initials\"), from: [], header: true, examples: [Typed { row: 2, text: \"AB\" }, Typed { row: 30, text: \"\" }, Typed { row: 4, text: \"a=b\" }], replace: true, states: false, only_sure: false, profile: 3, quiet: true, strict: true }",
         ),
         (
             "--to -- --people.csv",
@@ -45,7 +49,7 @@ fn words_that_ask(rt: HostRuntime) -> Result<(), Fail> {
         ),
         (
             "--to 3 -- --people.csv",
-            "Asked { file: \"--people.csv\", to: \"3\", from: [], header: true, states: false, only_sure: false, profile: 1 }",
+            "Asked { file: \"--people.csv\", to: There(\"3\"), from: [], header: true, examples: [], replace: false, states: false, only_sure: false, profile: 3, quiet: false, strict: false }",
         ),
     ];
     for (line, wanted) in table {
@@ -56,22 +60,30 @@ fn words_that_ask(rt: HostRuntime) -> Result<(), Fail> {
 
 #[test]
 fn words_that_are_wrong(rt: HostRuntime) -> Result<(), Fail> {
-    let table: [(&str, &str); 6] = [
+    let table: [(&str, &str); 16] = [
         (
             "people.csv",
-            "wrong: error: the following required arguments were not provided:\n  --to <COLUMN>\n\nUsage: fillcsv --to <COLUMN> <FILE>\n\nFor more information, try '--help'.\n",
+            "wrong: error: the following required arguments were not provided:\n  <--to <COLUMN>|--new <NAME>>\n\nFor more information, try '--help'.\n",
+        ),
+        (
+            "--to Label",
+            "wrong: error: the following required arguments were not provided:\n  <FILE>\n\nUsage: fillcsv [OPTIONS] <--to <COLUMN>|--new <NAME>> <FILE>\n\nFor more information, try '--help'.\n",
+        ),
+        (
+            "people.csv --to Label --new Name",
+            "wrong: error: the argument '--to <COLUMN>' cannot be used with '--new <NAME>'\n\nFor more information, try '--help'.\n",
         ),
         (
             "people.csv --to Label --form Name",
-            "wrong: error: unexpected argument '--form' found\n\n  tip: a similar argument exists: '--from'\n\nUsage: fillcsv --to <COLUMN> --from <COLUMN,..> <FILE>\n\nFor more information, try '--help'.\n",
+            "wrong: error: unexpected argument '--form' found\n\n  tip: a similar argument exists: '--from'\n\nUsage: fillcsv [OPTIONS] <--to <COLUMN>|--new <NAME>> <FILE>\n\nFor more information, try '--help'.\n",
         ),
         (
             "people.csv --to Label --only often",
             "wrong: error: invalid value 'often' for '--only <STATE>'\n  [possible values: sure]\n\nFor more information, try '--help'.\n",
         ),
         (
-            "people.csv --to Label --profile 3",
-            "wrong: error: invalid value '3' for '--profile <NUMBER>'\n  [possible values: 1, 2]\n\nFor more information, try '--help'.\n",
+            "people.csv --to Label --profile 4",
+            "wrong: error: invalid value '4' for '--profile <NUMBER>'\n  [possible values: 1, 2, 3]\n\nFor more information, try '--help'.\n",
         ),
         (
             " --to Label",
@@ -79,7 +91,39 @@ fn words_that_are_wrong(rt: HostRuntime) -> Result<(), Fail> {
         ),
         (
             "people.csv --to Label --to Name",
-            "wrong: error: the argument '--to <COLUMN>' cannot be used multiple times\n\nUsage: fillcsv [OPTIONS] --to <COLUMN> <FILE>\n\nFor more information, try '--help'.\n",
+            "wrong: error: the argument '--to <COLUMN>' cannot be used multiple times\n\nUsage: fillcsv [OPTIONS] <--to <COLUMN>|--new <NAME>> <FILE>\n\nFor more information, try '--help'.\n",
+        ),
+        (
+            "people.csv --to Label --example five",
+            "wrong: error: invalid value 'five' for '--example <ROW=TEXT>': a row's number and '=' stand in front of its text\n\nFor more information, try '--help'.\n",
+        ),
+        (
+            "people.csv --to Label --example =x",
+            "wrong: error: invalid value '=x' for '--example <ROW=TEXT>': a row's number and '=' stand in front of its text\n\nFor more information, try '--help'.\n",
+        ),
+        (
+            "people.csv --to Label --example 05=x",
+            "wrong: error: invalid value '05=x' for '--example <ROW=TEXT>': a row's number and '=' stand in front of its text\n\nFor more information, try '--help'.\n",
+        ),
+        (
+            "people.csv --to Label --example 0=x",
+            "wrong: error: invalid value '0=x' for '--example <ROW=TEXT>': a row's number and '=' stand in front of its text\n\nFor more information, try '--help'.\n",
+        ),
+        (
+            "people.csv --to Label --example +5=x",
+            "wrong: error: invalid value '+5=x' for '--example <ROW=TEXT>': a row's number and '=' stand in front of its text\n\nFor more information, try '--help'.\n",
+        ),
+        (
+            "people.csv --to Label --example 4294967296=x",
+            "wrong: error: invalid value '4294967296=x' for '--example <ROW=TEXT>': a row's number and '=' stand in front of its text\n\nFor more information, try '--help'.\n",
+        ),
+        (
+            "people.csv --to Label --example 5",
+            "wrong: error: invalid value '5' for '--example <ROW=TEXT>': a row's number and '=' stand in front of its text\n\nFor more information, try '--help'.\n",
+        ),
+        (
+            "people.csv --to Label --example 5=x --example 6=x --example 5=x",
+            "wrong: error: invalid value '5=x' for '--example <ROW=TEXT>': the row has an example already\n\nFor more information, try '--help'.\n",
         ),
     ];
     for (line, wanted) in table {
@@ -92,24 +136,31 @@ const HELP: &str =
     "shown: Fills in a column of a CSV sheet: it learns from the cells that are filled how they come from
 other columns, and writes the sheet with the empty ones filled.
 
-Usage: fillcsv [OPTIONS] --to <COLUMN> <FILE>
+Usage: fillcsv [OPTIONS] <--to <COLUMN>|--new <NAME>> <FILE>
 
 Arguments:
   <FILE>  The sheet, a CSV file
 
 Options:
-      --to <COLUMN>       The column to fill: its name, or its number from 1
-      --from <COLUMN,..>  The columns to read [default: the first eight others]
-      --no-header         The first record is a row like the others
-      --state             Add a column with the state of each cell
-      --only <STATE>      Fill only the cells in this state [possible values: sure]
-      --profile <NUMBER>  The language of the rules [possible values: 1, 2] [default: 1]
-  -h, --help              Print help
-  -V, --version           Print version
+      --to <COLUMN>         The column to fill: its name, or its number from 1
+      --new <NAME>          Fill a new column of this name, after the last one
+      --from <COLUMN,..>    The columns to read [default: the first eight others]
+      --no-header           The first record is a row like the others
+      --example <ROW=TEXT>  A cell to learn from and to write: the row as a spreadsheet shows it, and the text
+      --replace             Replace what the column holds, and learn from --example alone
+      --state               Add a column with the state of each cell
+      --only <STATE>        Fill only the cells in this state [possible values: sure]
+      --strict              Status 1 also where a cell is neither given nor sure
+      --quiet               Tell nothing of a sheet that was filled
+      --profile <NUMBER>    The language of the rules [possible values: 1, 2, 3] [default: 3]
+  -h, --help                Print help
+  -V, --version             Print version
 
 Examples:
   fillcsv people.csv --to Label
   fillcsv people.csv --to Label --from Name,City --state
+  fillcsv people.csv --to Label --example '5=Noether (Erlangen)' --example 7=
+  fillcsv people.csv --new Initials --example 2=AB
 ";
 
 #[test]

@@ -1,4 +1,0 @@
-pub mod Answer
-pub mod Applied
-pub mod Keys
-pub mod Sessions

@@ -3,14 +3,7 @@
 
 ghost use Rattle.std.specs.Prelude.{◌≡◌};
 
-mod applied;
-mod apply;
-mod command;
-mod keyed;
-mod keys;
-mod replay;
-mod stop;
-
+use fill_command::{MEMORY_LINE, run, say};
 use fill_edge::{FolderCabinet, Ledger, StdSink, Steps};
 use std::alloc::AllocError;
 use std::marker::Brand;
@@ -49,7 +42,7 @@ fn start<L: Ledger>(rt: HostRuntime, words: &[String], blank: Blank) -> u8
     let mut cabinet = FolderCabinet::new(rt);
     let (book, share) = blank.open::<L>();
     let mut steps = Steps::new(book, share);
-    command::run(alloc, words, &mut cabinet, &mut out, &mut err, &mut steps)
+    run(alloc, words, &mut cabinet, &mut out, &mut err, &mut steps)
 }
 
 fn main(rt: HostRuntime) -> ExitCode {
@@ -57,11 +50,8 @@ fn main(rt: HostRuntime) -> ExitCode {
         Ok(words) => ExitCode::from(start::<Brand>(rt, &words, Blank::new(1))),
         Err(AllocError) => {
             let mut err = StdSink::new(rt.stderr());
-            stop::say(&mut err, stop::MEMORY_LINE);
+            say(&mut err, MEMORY_LINE);
             ExitCode::from(6)
         }
     }
 }
-
-#[cfg(test)]
-mod tests;

@@ -1,7 +1,7 @@
 //! Session files, each form of a line and its near misses.
 use fill_script::*;
 use fill_text::{List, NoMemory};
-use fill_tree::{Constants, Edit, Settings};
+use fill_tree::{Constants, Edit, Profile, Settings};
 use std::alloc::Global;
 use std::test::Fail;
 
@@ -320,7 +320,7 @@ fn has_settings(script: &Script) -> bool {
     let settings = Settings {
         depth: 3,
         constants: Constants::Separators,
-        profile: 2,
+        profile: Profile::SECOND,
     };
     script.sheet.as_str() == "s.csv"
         && script.header
@@ -338,7 +338,7 @@ fn has_defaults(script: &Script) -> bool {
     !script.header
         && script.output == None
         && script.settings.depth == 1
-        && script.settings.profile == 1
+        && script.settings.profile == Profile::FIRST
         && script.settings.constants == Constants::Any
         && script.tables.len() == 0
         && script.entries.len() == 0

@@ -81,12 +81,15 @@ fn ends(alloc: Global, row: &Row) -> Result<bool, Fail> {
 
 const NAMES: &[u8] = b"Name,Last\r\nAda Byron,Byron\r\nMax Planck,\r\nX\r\n";
 
+/// Two rows with equal cells to read: what the first is given, the second is sure to get.
+const TWINS: &[u8] = b"Name,Last\nAda Byron,x\nAda Byron,\n";
+
 #[test]
 fn sheets_are_filled(rt: HostRuntime) -> Result<(), Fail> {
     let rows = [
         Row {
             sheet: NAMES,
-            words: &["s.csv", "--to", "Last", "--state"],
+            words: &["s.csv", "--to", "Last", "--state", "--profile", "1"],
             failing: 0,
             status: 0,
             output: b"Name,Last,Last state\nAda Byron,Byron,given\nMax Planck,Planck,doubt\nX,X,doubt\n",
@@ -107,20 +110,6 @@ fn sheets_are_filled(rt: HostRuntime) -> Result<(), Fail> {
         },
         Row {
             sheet: NAMES,
-            words: &["s.csv", "--to", "First"],
-            failing: 0,
-            status: 5,
-            output: b"",
-        },
-        Row {
-            sheet: NAMES,
-            words: &["t.csv", "--to", "Last"],
-            failing: 0,
-            status: 3,
-            output: b"",
-        },
-        Row {
-            sheet: NAMES,
             words: &["s.csv"],
             failing: 0,
             status: 2,
@@ -137,5 +126,261 @@ fn sheets_are_filled(rt: HostRuntime) -> Result<(), Fail> {
     for row in &rows {
         assert!(rt; ends(rt.alloc(), row)?, "{}", row.status);
     }
+    Ok(())
+}
+
+#[test]
+fn examples_are_typed(rt: HostRuntime) -> Result<(), Fail> {
+    let rows = [
+        Row {
+            sheet: TWINS,
+            words: &[
+                "s.csv",
+                "--to",
+                "Last",
+                "--example",
+                "2=Byron",
+                "--state",
+                "--strict",
+            ],
+            failing: 0,
+            status: 0,
+            output: b"Name,Last,Last state\nAda Byron,Byron,given\nAda Byron,Byron,sure\n",
+        },
+        Row {
+            sheet: TWINS,
+            words: &["s.csv", "--to", "Last", "--example", "2=", "--state"],
+            failing: 0,
+            status: 0,
+            output: b"Name,Last,Last state\nAda Byron,,given\nAda Byron,,sure\n",
+        },
+        Row {
+            sheet: b"Ada Byron,x\nAda Byron,\n",
+            words: &[
+                "s.csv",
+                "--to",
+                "2",
+                "--no-header",
+                "--example=1=a=b",
+                "--quiet",
+            ],
+            failing: 0,
+            status: 0,
+            output: b"Ada Byron,a=b\nAda Byron,a=b\n",
+        },
+        Row {
+            sheet: b"a,x\na,y\n",
+            words: &["s.csv", "--to", "2", "--no-header", "--example", "2=x"],
+            failing: 0,
+            status: 0,
+            output: b"a,x\na,x\n",
+        },
+        Row {
+            sheet: b"a,x\na,\n",
+            words: &[
+                "s.csv",
+                "--to",
+                "2",
+                "--no-header",
+                "--example",
+                "2=y",
+                "--state",
+            ],
+            failing: 0,
+            status: 1,
+            output: b"a,x,given\na,y,given\n",
+        },
+        Row {
+            sheet: b"Name,Last\nAda Byron,Byron\nAda Byron,wrong\n",
+            words: &[
+                "s.csv",
+                "--to",
+                "Last",
+                "--replace",
+                "--example",
+                "2=Byron",
+                "--strict",
+            ],
+            failing: 0,
+            status: 0,
+            output: b"Name,Last\nAda Byron,Byron\nAda Byron,Byron\n",
+        },
+        Row {
+            sheet: TWINS,
+            words: &["s.csv", "--to", "Last", "--replace", "--state"],
+            failing: 0,
+            status: 0,
+            output: b"Name,Last,Last state\nAda Byron,,none\nAda Byron,,none\n",
+        },
+        Row {
+            sheet: TWINS,
+            words: &["s.csv", "--to", "Last", "--replace", "--strict"],
+            failing: 0,
+            status: 1,
+            output: b"Name,Last\nAda Byron,\nAda Byron,\n",
+        },
+    ];
+    for row in &rows {
+        assert!(rt; ends(rt.alloc(), row)?, "{}", row.status);
+    }
+    Ok(())
+}
+
+#[test]
+fn columns_are_added(rt: HostRuntime) -> Result<(), Fail> {
+    let rows = [
+        Row {
+            sheet: b"Name\nAda Byron\nAda Byron\n",
+            words: &["s.csv", "--new", "Last", "--example", "3=Byron", "--state"],
+            failing: 0,
+            status: 0,
+            output: b"Name,Last,Last state\nAda Byron,Byron,sure\nAda Byron,Byron,given\n",
+        },
+        Row {
+            sheet: b"a,b,c\nu\nu\n",
+            words: &["s.csv", "--new", "d", "--from", "a", "--example", "2=v,w"],
+            failing: 0,
+            status: 0,
+            output: b"a,b,c,d\nu,,,\"v,w\"\nu,,,\"v,w\"\n",
+        },
+        Row {
+            sheet: b"Ada Byron\nAda Byron\n",
+            words: &[
+                "s.csv",
+                "--new",
+                "Last",
+                "--no-header",
+                "--example",
+                "1=Byron",
+            ],
+            failing: 0,
+            status: 0,
+            output: b"Ada Byron,Byron\nAda Byron,Byron\n",
+        },
+    ];
+    for row in &rows {
+        assert!(rt; ends(rt.alloc(), row)?, "{}", row.status);
+    }
+    Ok(())
+}
+
+/// A run that writes nothing to its output, and what it says.
+#[derive(Clone, Copy)]
+struct Stop<'a> {
+    words: &'a [&'a str],
+    status: u8,
+    line: &'a [u8],
+}
+
+fn stops(alloc: Global, stop: &Stop) -> Result<bool, Fail> {
+    let row = Row {
+        sheet: TWINS,
+        words: stop.words,
+        failing: 0,
+        status: stop.status,
+        output: b"",
+    };
+    let mut scene = empty_scene(alloc)?;
+    let ends = ends_in(alloc, &mut scene, &row)?;
+    Ok(ends && scene.err.written() == stop.line)
+}
+
+#[test]
+fn lines_say_why(rt: HostRuntime) -> Result<(), Fail> {
+    let table = [
+        Stop {
+            words: &["t.csv", "--to", "Last"],
+            status: 3,
+            line: b"fillcsv: t.csv: cannot be read\n",
+        },
+        Stop {
+            words: &["s.csv", "--to", "First", "--quiet"],
+            status: 5,
+            line: b"fillcsv: s.csv: no column \"First\"\n",
+        },
+        Stop {
+            words: &["s.csv", "--new", "Last"],
+            status: 5,
+            line: b"fillcsv: s.csv: column \"Last\" is there already\n",
+        },
+        Stop {
+            words: &[
+                "s.csv",
+                "--to",
+                "Last",
+                "--example",
+                "2=a",
+                "--example",
+                "9=b",
+            ],
+            status: 5,
+            line: b"fillcsv: s.csv: row 9: no such row, and --example names it\n",
+        },
+        Stop {
+            words: &["s.csv", "--to", "Last", "--example", "1=a"],
+            status: 5,
+            line: b"fillcsv: s.csv: row 1: no such row, and --example names it\n",
+        },
+        Stop {
+            words: &["s.csv", "--to", "2", "--no-header", "--example", "4=a"],
+            status: 5,
+            line: b"fillcsv: s.csv: row 4: no such row, and --example names it\n",
+        },
+    ];
+    for stop in &table {
+        assert!(rt; stops(rt.alloc(), stop)?, "{}", stop.status);
+    }
+    Ok(())
+}
+
+/// What a run says of a sheet that it writes.
+fn says(alloc: Global, row: &Row, said: &[u8]) -> Result<bool, Fail> {
+    let mut scene = empty_scene(alloc)?;
+    let ends = ends_in(alloc, &mut scene, row)?;
+    Ok(ends && scene.err.written() == said)
+}
+
+/// Sixty-five rows that are all given.
+const GIVEN: &[u8] =
+    b"u,x\nu,x\nu,x\nu,x\nu,x\nu,x\nu,x\nu,x\nu,x\nu,x\nu,x\nu,x\nu,x\nu,x\nu,x\nu,x\nu,x\nu,x\nu,x\nu,x\nu,x\nu,x\nu,x\nu,x\nu,x\nu,x\nu,x\nu,x\nu,x\nu,x\nu,x\nu,x\nu,x\nu,x\nu,x\nu,x\nu,x\nu,x\nu,x\nu,x\nu,x\nu,x\nu,x\nu,x\nu,x\nu,x\nu,x\nu,x\nu,x\nu,x\nu,x\nu,x\nu,x\nu,x\nu,x\nu,x\nu,x\nu,x\nu,x\nu,x\nu,x\nu,x\nu,x\nu,x\nu,x\n";
+
+#[test]
+fn sheets_are_told_of(rt: HostRuntime) -> Result<(), Fail> {
+    let many = Row {
+        sheet: GIVEN,
+        words: &["s.csv", "--to", "2", "--no-header", "--strict"],
+        failing: 0,
+        status: 0,
+        output: GIVEN,
+    };
+    assert!(rt;
+        says(
+            rt.alloc(),
+            &many,
+            b"fillcsv: only the first 64 filled cells are learned from\nfillcsv: 65 given, 0 sure, 0 doubt, 0 none, 0 none doubt\n"
+        )?
+    );
+    let none = Row {
+        sheet: b"A,B\nu,\n",
+        words: &["s.csv", "--to", "B"],
+        failing: 0,
+        status: 0,
+        output: b"A,B\nu,\n",
+    };
+    assert!(rt;
+        says(
+            rt.alloc(),
+            &none,
+            b"fillcsv: no cell of the column is filled: nothing to learn from\nfillcsv: 0 given, 0 sure, 0 doubt, 1 none, 0 none doubt\n"
+        )?
+    );
+    let quiet = Row {
+        sheet: b"a,x\na,y\n",
+        words: &["s.csv", "--to", "2", "--no-header", "--quiet"],
+        failing: 0,
+        status: 1,
+        output: b"a,x\na,y\n",
+    };
+    assert!(rt; says(rt.alloc(), &quiet, b"")?);
     Ok(())
 }

@@ -13,7 +13,7 @@ use fill_sheet::Sheet;
 use fill_sources::PlaceMemory;
 use fill_tables::Tables;
 use fill_text::{List, NoMemory, Text};
-use fill_tree::{Constants, Program, Settings};
+use fill_tree::{Constants, Prices, Profile, Program, Settings};
 use std::alloc::Global;
 use std::marker::Brand;
 use std::sync::ledger::Blank;
@@ -69,7 +69,7 @@ fn first_profile(depth: u8, constants: Constants) -> Settings
     Settings {
         depth,
         constants,
-        profile: 1,
+        profile: Profile::FIRST,
     }
 }
 
@@ -80,7 +80,7 @@ fn second_profile(depth: u8) -> Settings
     Settings {
         depth,
         constants: Constants::Any,
-        profile: 2,
+        profile: Profile::SECOND,
     }
 }
 
@@ -154,14 +154,14 @@ fn are_first(
     if k == 0 || k > 20 {
         return Ok(false);
     }
-    let programs = best(alloc, arena, graph, k)?;
+    let programs = best(alloc, &Prices::FIRST, arena, graph, k)?;
     are_lines(alloc, programs.as_slice(), expected)
 }
 
 fn is_least(alloc: Global, arena: &Arena, graph: GraphId, expected: &str) -> Result<bool, Fail>
     requires { IsGraph arena.now graph }
 {
-    let program = least(alloc, arena, graph)?;
+    let program = least(alloc, &Prices::FIRST, arena, graph)?;
     let spelled = print_program(alloc, &program)?;
     Ok(spelled.as_slice() == expected.as_bytes())
 }

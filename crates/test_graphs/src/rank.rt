@@ -7,7 +7,7 @@ use fill_edge::{Ledger, Steps};
 use fill_print::print_program;
 use fill_rank::least;
 use fill_text::{List, NoMemory, Text};
-use fill_tokens::Place;
+use fill_tokens::{Place, Prices};
 use std::alloc::Global;
 use std::marker::Brand;
 use std::sync::ledger::Blank;
@@ -92,7 +92,7 @@ fn finds_whole_in<L: Ledger>(
         return Ok(false);
     }
     let graph = fill(alloc, arena, text, steps)?;
-    let program = least(alloc, arena, graph)?;
+    let program = least(alloc, &Prices::FIRST, arena, graph)?;
     let spelled = print_program(alloc, &program)?;
     Ok(spelled.as_slice() == b"Concat(Whole(Col(1)))".as_slice())
 }

@@ -6,20 +6,20 @@ use Token::{Digits, Lower, NonAlpha, Start, Upper};
 use fill_guard::guard;
 use fill_sheet::Sheet;
 use fill_tokens::{Seq, Token};
-use fill_tree::{Constants, Guard, Literal, Settings};
+use fill_tree::{Constants, Guard, Literal, Profile, Settings};
 use std::alloc::Global;
 use std::test::Fail;
 
 const SETTINGS: Settings = Settings {
     depth: 2,
     constants: Constants::Any,
-    profile: 1,
+    profile: Profile::FIRST,
 };
 
 const SECOND: Settings = Settings {
     depth: 3,
     constants: Constants::Any,
-    profile: 2,
+    profile: Profile::SECOND,
 };
 
 /// Whether the column has the token at least once, or where negated has not.

@@ -1,15 +1,13 @@
-ghost use Rattle.fill_tokens.specs.Profile.{IsProfile};
-
 use Token::{Alpha, Digits, End, Hyphen, Lower, NonAlpha, NonDigit, NonSpace, Start, Upper, Word};
 use fill_places::*;
 use fill_text::Text;
-use fill_tokens::{Place, Seq, Token, is_place, place_value};
+use fill_tokens::{Place, Seq, Token, TokenSet, is_place, place_value};
 use std::alloc::Global;
 use std::test::Fail;
 
 /// Whether these places are listed for the empty text.
 fn empty_text_has(alloc: Global, expected: &[Place]) -> Result<bool, Fail> {
-    let places = places_of(alloc, &Text::new(alloc), 0, 1)?;
+    let places = places_of(alloc, &Text::new(alloc), 0, TokenSet::FIRST)?;
     Ok(places.as_slice() == expected)
 }
 
@@ -40,7 +38,7 @@ fn stands_at(places: &[Place], count: usize, at: usize, place: Place) -> bool {
 /// Whether of 28 places before the one letter of a text this one stands there.
 fn is_before_a_letter(alloc: Global, at: usize, place: Place) -> Result<bool, Fail> {
     let text = Text::from_utf8(alloc, b"a")?;
-    let places = places_of(alloc, &text, 0, 1)?;
+    let places = places_of(alloc, &text, 0, TokenSet::FIRST)?;
     Ok(stands_at(places.as_slice(), 28, at, place))
 }
 
@@ -60,19 +58,23 @@ fn places_before_one_letter(rt: HostRuntime) -> Result<(), Fail> {
 }
 
 /// Whether the place is listed for the position of the text.
-fn is_listed(alloc: Global, place: Place, text: &str, k: usize, profile: u8) -> Result<bool, Fail>
-    requires { IsProfile profile }
-{
+fn is_listed(
+    alloc: Global,
+    place: Place,
+    text: &str,
+    k: usize,
+    token_set: TokenSet,
+) -> Result<bool, Fail> {
     let text = Text::from_utf8(alloc, text.as_bytes())?;
     if k > text.len() {
         return Ok(false);
     }
-    let places = places_of(alloc, &text, k, profile)?;
+    let places = places_of(alloc, &text, k, token_set)?;
     Ok(places.as_slice().contains(&place))
 }
 
 #[test]
-fn negated_runs_are_listed_under_the_second_profile(rt: HostRuntime) -> Result<(), Fail> {
+fn negated_runs_are_listed_by_the_second_set(rt: HostRuntime) -> Result<(), Fail> {
     let none = Seq::empty();
     let digits = Seq::one(Digits);
     for (text, k, place) in [
@@ -81,8 +83,14 @@ fn negated_runs_are_listed_under_the_second_profile(rt: HostRuntime) -> Result<(
         ("ab1c", 2, Place::Pos(Seq::one(NonDigit), digits, 1)),
         ("a1-b", 3, Place::Pos(Seq::one(NonAlpha), none, -1)),
     ] {
-        assert!(rt; is_listed(rt.alloc(), place, text, k, 2)?, "{place:?}");
-        assert!(rt; !is_listed(rt.alloc(), place, text, k, 1)?, "{place:?}");
+        assert!(rt;
+            is_listed(rt.alloc(), place, text, k, TokenSet::SECOND)?,
+            "{place:?}"
+        );
+        assert!(rt;
+            !is_listed(rt.alloc(), place, text, k, TokenSet::FIRST)?,
+            "{place:?}"
+        );
     }
     Ok(())
 }
@@ -144,7 +152,7 @@ fn are_put(alloc: Global, seqs: &[Seq], t: &Text, k: usize, fast: &[Place]) -> R
 
 /// Whether those are the places of the text, of at most three characters, at each of its positions.
 fn are_all_put(alloc: Global, seqs: &[Seq], t: &Text) -> Result<bool, Fail> {
-    let index = PlaceIndex::new(alloc, t, 1)?;
+    let index = PlaceIndex::new(alloc, t, TokenSet::FIRST)?;
     for k in 0..4 {
         if k <= t.len() {
             let fast = index.places_at(alloc, k)?;

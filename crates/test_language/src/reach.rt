@@ -2,7 +2,7 @@
 use fill_reach::*;
 use fill_sheet::Sheet;
 use fill_tables::Tables;
-use fill_tree::{Constants, Settings};
+use fill_tree::{Constants, Profile, Settings};
 use std::alloc::Global;
 use std::test::Fail;
 
@@ -94,7 +94,11 @@ fn reaches_from(
     let settings = Settings {
         depth,
         constants: Constants::Any,
-        profile: if depth > 2 { 2 } else { 1 },
+        profile: if depth > 2 {
+            Profile::SECOND
+        } else {
+            Profile::FIRST
+        },
     };
     let reached = reach(alloc, 1, sheet, tables, &settings)?;
     Ok(are(reached.rows.as_slice(), expected))

@@ -1,8 +1,8 @@
 //! The pieces of small texts, worked by hand, and those that a look from each position finds.
 use Token::{Alpha, Digits, End, Hyphen, Lower, NonAlpha, NonSpace, Space, Start, Upper, Word};
-use fill_spans::{Spans, token_at};
+use fill_spans::Spans;
 use fill_text::Text;
-use fill_tokens::{Token, span};
+use fill_tokens::{TOKEN_COUNT, Token, TokenSet, span, token_at};
 use std::alloc::Global;
 use std::test::Fail;
 
@@ -14,7 +14,7 @@ fn gives(
     starts: &[usize],
     ends: &[usize],
 ) -> Result<bool, Fail> {
-    let spans = Spans::new(alloc, text, 2)?;
+    let spans = Spans::new(alloc, text, TokenSet::ALL)?;
     if !token.is_of(2) {
         return Ok(false);
     }
@@ -83,19 +83,19 @@ fn begin_somewhere(alloc: Global, text: &Text, token: Token) -> Result<bool, Fai
     are_put(alloc, &mut starts, &mut ends, text, token)
 }
 
-/// The number of the first token whose pieces in the text are others, or 29.
+/// The number of the first token whose pieces in the text are others, or how many tokens there are.
 fn first_other(alloc: Global, spelled: &str) -> Result<usize, Fail> {
     let text = Text::from_utf8(alloc, spelled.as_bytes())?;
     first_other_in(alloc, &text)
 }
 
 fn first_other_in(alloc: Global, text: &Text) -> Result<usize, Fail> {
-    for i in 0..29 {
+    for i in 0..TOKEN_COUNT {
         if !begin_somewhere(alloc, text, token_at(i))? {
             return Ok(i);
         }
     }
-    Ok(29)
+    Ok(TOKEN_COUNT)
 }
 
 #[test]

@@ -1,6 +1,6 @@
 use Token::{
-    Alpha, Digits, Dollar, End, Hyphen, Lower, NonAlpha, NonDigit, NonSpace, Space, Start, Upper,
-    Word,
+    Alpha, Digits, Dollar, End, Equals, Hyphen, Lower, Newline, NonAlpha, NonDigit, NonSpace,
+    Space, Start, Upper, Word,
 };
 use fill_text::{Text, TextError};
 use fill_tokens::*;
@@ -49,6 +49,15 @@ fn numbers_and_names_of_tokens(rt: HostRuntime) {
         (27, "NonSpace"),
         (28, "NonDigit"),
         (29, "NonAlpha"),
+        (30, "Equals"),
+        (31, "Less"),
+        (32, "Greater"),
+        (33, "LeftBracket"),
+        (34, "RightBracket"),
+        (35, "LeftBrace"),
+        (36, "RightBrace"),
+        (37, "Bar"),
+        (38, "Newline"),
     ] {
         assert!(rt; there_and_back(number, name), "{name}");
     }
@@ -56,7 +65,7 @@ fn numbers_and_names_of_tokens(rt: HostRuntime) {
 
 #[test]
 fn numbers_and_names_of_no_token(rt: HostRuntime) {
-    for number in [0, 30] {
+    for number in [0, 39] {
         assert_eq!(rt; Token::from_number(number), None);
     }
     for name in [b"digits".as_slice(), b""] {
@@ -105,26 +114,29 @@ fn values_of_places(rt: HostRuntime) -> Result<(), Fail> {
     Ok(())
 }
 
-/// Whether the token and a place of it are of the second profile, and of the first just if this says so.
-fn are_of_profiles(token: Token, first: bool) -> bool {
+/// Whether the token and a place of it are in the set just if this says so.
+fn are_of(token: Token, token_set: TokenSet, said: bool) -> bool {
     let place = Place::Pos(Seq::one(Lower), Seq::two(Space, token), 1);
-    token.is_of(1) == first && token.is_of(2) && place.is_of(1) == first && place.is_of(2)
+    token.is_of(token_set) == said && place.is_of(token_set) == said
 }
 
 #[test]
-fn tokens_of_profiles(rt: HostRuntime) {
-    assert_eq!(rt; token_count(1), 26);
-    assert_eq!(rt; token_count(2), 29);
-    for (token, first) in [
-        (Start, true),
-        (Dollar, true),
-        (NonSpace, false),
-        (NonAlpha, false),
+fn tokens_of_sets(rt: HostRuntime) {
+    for (token, first, second, third) in [
+        (Start, true, true, true),
+        (Dollar, true, true, true),
+        (NonSpace, false, true, true),
+        (NonDigit, false, true, false),
+        (NonAlpha, false, true, false),
+        (Equals, false, false, true),
+        (Newline, false, false, true),
     ] {
-        assert!(rt; are_of_profiles(token, first), "{token:?}");
+        assert!(rt; are_of(token, TokenSet::FIRST, first), "{token:?}");
+        assert!(rt; are_of(token, TokenSet::SECOND, second), "{token:?}");
+        assert!(rt; are_of(token, TokenSet::THIRD, third), "{token:?}");
     }
-    assert!(rt; Place::CPos(3).is_of(1));
-    assert!(rt; Seq::empty().is_of(1));
+    assert!(rt; Place::CPos(3).is_of(TokenSet::FIRST));
+    assert!(rt; Seq::empty().is_of(TokenSet::FIRST));
 }
 
 /// Whether the sequence matches so often in the text.
@@ -205,9 +217,11 @@ fn matches_at_positions(rt: HostRuntime) -> Result<(), Fail> {
     Ok(())
 }
 
-/// Whether the place has this cost, and is in the grammar just if this says so.
-fn costs(place: &Place, cost: u64, in_grammar: bool) -> bool {
-    place.cost() == cost && is_place(place) == in_grammar
+/// Whether the place has these costs by the first table and by the third, and is in the grammar just if this says so.
+fn costs(place: &Place, first: u64, third: u64, in_grammar: bool) -> bool {
+    place.cost(&Prices::FIRST) == first
+        && place.cost(&Prices::THIRD) == third
+        && is_place(place) == in_grammar
 }
 
 #[test]
@@ -215,17 +229,20 @@ fn costs_of_places(rt: HostRuntime) {
     let none = Seq::empty();
     let start = Seq::one(Start);
     let lower = Seq::one(Lower);
-    for (place, cost, in_grammar) in [
-        (Place::CPos(0), 1, true),
-        (Place::CPos(-1), 1, true),
-        (Place::CPos(1), 10, true),
-        (Place::Pos(lower, start, 1), 6, false),
-        (Place::Pos(start, lower, -3), 10, true),
-        (Place::Pos(lower, Seq::two(Digits, End), 1), 8, true),
-        (Place::Pos(none, none, 1), 2, false),
-        (Place::Pos(lower, none, 0), 4, false),
+    let hyphen = Seq::one(Hyphen);
+    for (place, first, third, in_grammar) in [
+        (Place::CPos(0), 1, 1, true),
+        (Place::CPos(-1), 1, 1, true),
+        (Place::CPos(1), 10, 10, true),
+        (Place::Pos(lower, start, 1), 6, 8, false),
+        (Place::Pos(start, lower, -3), 10, 14, true),
+        (Place::Pos(lower, Seq::two(Digits, End), 1), 8, 12, true),
+        (Place::Pos(hyphen, none, 2), 6, 5, true),
+        (Place::Pos(none, Seq::two(Space, NonSpace), -1), 6, 6, true),
+        (Place::Pos(none, none, 1), 2, 2, false),
+        (Place::Pos(lower, none, 0), 4, 6, false),
     ] {
-        assert!(rt; costs(&place, cost, in_grammar), "{cost}");
+        assert!(rt; costs(&place, first, third, in_grammar), "{place:?}");
     }
 }
 

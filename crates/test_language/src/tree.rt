@@ -37,8 +37,8 @@ fn put_programs(alloc: Global, programs: &mut List<(Switch, u64)>) -> Result<(),
 
 /// Whether both have costs, and the first is before the second.
 fn is_before(p: &Program, q: &Program) -> bool {
-    match (p.cost(), q.cost()) {
-        (Some(_), Some(_)) => p.before(q),
+    match (p.cost(&Prices::FIRST), q.cost(&Prices::FIRST)) {
+        (Some(_), Some(_)) => p.before(q, &Prices::FIRST),
         _ => false,
     }
 }
@@ -56,7 +56,7 @@ fn stands_at(programs: &[(Switch, u64)], place: usize, p: &Program) -> bool {
 /// The first place of a program that has another cost or does not belong there.
 fn wrong_place(programs: &[(Switch, u64)]) -> Option<usize> {
     for (i, (p, cost)) in programs.iter().enumerate() {
-        if p.last.cost() != Some(*cost) || !stands_at(programs, i, &p.last) {
+        if p.last.cost(&Prices::FIRST) != Some(*cost) || !stands_at(programs, i, &p.last) {
             return Some(i);
         }
     }
@@ -66,7 +66,7 @@ fn wrong_place(programs: &[(Switch, u64)]) -> Option<usize> {
 /// Whether a copy of the program equals it and has this cost.
 fn is_copied(alloc: Global, p: &Program, cost: u64) -> Result<bool, Fail> {
     let copied = p.copy(alloc)?;
-    Ok(copied.compare(p) == Ordering::Equal && copied.cost() == Some(cost))
+    Ok(copied.compare(p) == Ordering::Equal && copied.cost(&Prices::FIRST) == Some(cost))
 }
 
 /// The first place of a program that is not copied so.
@@ -107,10 +107,10 @@ fn column_is_copied(alloc: Global, column: u32) -> Result<bool, Fail> {
     let atom = Atom::Whole(source);
     let other = atom.copy(alloc)?;
     Ok(
-        copied.cost() == Some(0)
+        copied.cost(&Prices::FIRST) == Some(0)
             && Source::Col(7).compare(&copied) == Ordering::Greater
             && other.compare(&atom) == Ordering::Equal
-            && other.cost() == atom.cost(),
+            && other.cost(&Prices::FIRST) == atom.cost(&Prices::FIRST),
     )
 }
 
@@ -123,7 +123,7 @@ fn copies_of_parts_are_equal(rt: HostRuntime) -> Result<(), Fail> {
 /// Whether the only case is of a negated literal, and of a program of this cost.
 fn is_only_case(cases: &[Case], cost: u64) -> bool {
     for case in cases {
-        if !case.guard.first.negated || case.program.cost() != Some(cost) {
+        if !case.guard.first.negated || case.program.cost(&Prices::FIRST) != Some(cost) {
             return false;
         }
     }

@@ -11,7 +11,7 @@ use fill_print::print_program;
 use fill_sheet::Sheet;
 use fill_tables::Tables;
 use fill_text::{List, NoMemory, Text};
-use fill_tree::{Constants, Settings};
+use fill_tree::{Constants, Profile, Settings};
 use std::alloc::Global;
 use std::marker::Brand;
 use std::sync::ledger::Blank;
@@ -64,7 +64,16 @@ fn objects_in<L: Ledger>(
     let Some(graph) = meet(alloc, arena, one, other, steps)? else {
         return Ok(List::new(alloc));
     };
-    let found = object(alloc, arena, graph, row, said, sheet, tables)?;
+    let found = object(
+        alloc,
+        &settings.profile.prices,
+        arena,
+        graph,
+        row,
+        said,
+        sheet,
+        tables,
+    )?;
     printed(alloc, &found)
 }
 
@@ -145,7 +154,7 @@ fn is_answered(alloc: Global, sheet: &Sheet, case: &Case<'_>) -> Result<bool, Fa
     let settings = Settings {
         depth: 2,
         constants: Constants::Any,
-        profile: 1,
+        profile: Profile::FIRST,
     };
     let first = Text::from_utf8(alloc, b"Cd")?;
     let second = Text::from_utf8(alloc, b"Ijk")?;

@@ -8,7 +8,7 @@ use fill_session::{Answer, EditError, Session, Shapes, State};
 use fill_sheet::Sheet;
 use fill_tables::Tables;
 use fill_text::{NoMemory, Text};
-use fill_tree::{Constants, Edit, Settings};
+use fill_tree::{Constants, Edit, Profile, Settings};
 use std::alloc::Global;
 use std::marker::Brand;
 use std::sync::ledger::Blank;
@@ -43,7 +43,7 @@ pub(crate) fn goes<W: Work>(alloc: Global, lines: &str, work: &W) -> Result<bool
     let settings = Settings {
         depth: 1,
         constants: Constants::Any,
-        profile: 1,
+        profile: Profile::FIRST,
     };
     goes_under(alloc, lines, settings, work)
 }
@@ -302,7 +302,7 @@ fn the_profiles_place_examples_differently(rt: HostRuntime) -> Result<(), Fail> 
     let mut settings = Settings {
         depth: 1,
         constants: Constants::Any,
-        profile: 1,
+        profile: Profile::FIRST,
     };
     let mut edits = [
         accepted(Kind::Add, 1, "z"),
@@ -310,7 +310,7 @@ fn the_profiles_place_examples_differently(rt: HostRuntime) -> Result<(), Fail> 
         refused(Kind::Add, 3, "z", EditError::NoGuard { branch: 1 }),
     ];
     assert!(rt; goes_in(rt.alloc(), settings, &edits, 102)?);
-    settings.profile = 2;
+    settings.profile = Profile::SECOND;
     edits[2].reason = None;
     assert!(rt; goes_in(rt.alloc(), settings, &edits, 1023)?);
     Ok(())
@@ -367,7 +367,7 @@ fn many_corrections_leave_small_spaces(rt: HostRuntime) -> Result<(), Fail> {
     let settings = Settings {
         depth: 0,
         constants: Constants::Any,
-        profile: 1,
+        profile: Profile::FIRST,
     };
     assert!(rt; goes_under(rt.alloc(), "Ab\n", settings, &Corrections)?);
     Ok(())

@@ -11,7 +11,7 @@ use fill_split::Maker;
 use fill_tables::Tables;
 use fill_text::{List, NoMemory, Text};
 use fill_tokens::{Place, Seq, Token};
-use fill_tree::{Atom, Constants, Example, Program, Settings, Source};
+use fill_tree::{Atom, Constants, Example, Profile, Program, Settings, Source};
 use std::alloc::Global;
 use std::cmp::Ordering;
 use std::marker::Brand;
@@ -206,7 +206,7 @@ fn done(alloc: Global, lines: &str, task: Task) -> Result<bool, NoMemory> {
     let settings = Settings {
         depth: 1,
         constants: Constants::Any,
-        profile: 1,
+        profile: Profile::FIRST,
     };
     let mut spaces = Spaces::new(alloc, sheet, Tables::new(alloc), settings);
     counted::<Brand>(alloc, Blank::new(1), &mut spaces, task)

@@ -6,4 +6,4 @@ use Rattle.fill_tree.proofs.+cost.Given as goal
 
 abbrev pub invariant-cost::conditions_cost-loop-atom : goal.invariant-cost::conditions_cost-loop-atom
 invariant-cost::conditions_cost-loop-atom l =
-    l.total + conditions_cost (atoms_of (map atom_tree (drop l.atom-index l.atoms))) ≡ conditions_cost (atoms_of (map atom_tree l.atoms))
+    l.total + conditions_cost l.prices (atoms_of (map atom_tree (drop l.atom-index l.atoms))) ≡ conditions_cost l.prices (atoms_of (map atom_tree l.atoms))

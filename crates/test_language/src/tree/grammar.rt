@@ -31,7 +31,7 @@ fn is_in(p: &Program, depth: u8, constants: Constants, given: Given) -> bool
     let settings = Settings {
         depth,
         constants,
-        profile: 1,
+        profile: Profile::FIRST,
     };
     in_grammar(p, &settings, given.sheet, given.tables)
 }
@@ -49,7 +49,7 @@ fn least_depth(p: &Program, given: Given) -> u8 {
 const SECOND: Settings = Settings {
     depth: 3,
     constants: Constants::Any,
-    profile: 2,
+    profile: Profile::SECOND,
 };
 
 /// Whether the program is in the second profile's grammar, and not in the first one's.

@@ -2,16 +2,16 @@ use Rattle.fill_arena.proofs.Costs.{source_present, atom_present, row_present, r
 use Rattle.fill_arena.proofs.laws.costs_are_present.Goals as goal
 
 pub returns-clause-sources : goal.returns-clause-sources
-returns-clause-sources h = λ c made s x stands. source_present c made s x stands
+returns-clause-sources h = λ prices small c made s x stands. source_present prices small c made s x stands
 
 pub returns-clause-atoms : goal.returns-clause-atoms
-returns-clause-atoms h = λ c made s a stands. atom_present c made s a stands
+returns-clause-atoms h = λ prices small c made s a stands. atom_present prices small c made s a stands
 
 pub returns-clause-conditions : goal.returns-clause-conditions
-returns-clause-conditions h = λ c made n items row older short fits. row_present c made n items row older short fits
+returns-clause-conditions h = λ prices small c made n items row older short fits. row_present prices small c made n items row older short fits
 
 pub returns-clause-programs : goal.returns-clause-programs
-returns-clause-programs h = λ c made g p stands. program_present c made g p stands
+returns-clause-programs h = λ prices small c made g p stands. program_present prices small c made g p stands
 
 pub returns-clause-rests : goal.returns-clause-rests
-returns-clause-rests h = λ c made g edges last at p has walk. rest_present c made g has.0 edges last at p has.1 walk
+returns-clause-rests h = λ prices small c made g edges last at p has walk. rest_present prices small c made g has.0 edges last at p has.1 walk

@@ -27,10 +27,10 @@ loop-left-init c =
     let rests = c.in_ok-rests.rests.items in
     record {
       within = omega arith;
-      known = c.new-known.ensures arena c.args.k;
+      known = c.new-known.ensures c.args.prices.now arena c.args.k;
       nodes = refl;
-      first = subst (λ xs. AreFirstRests arena xs (length rests - 1) c.args.k rests) (sym (drop_whole c.edges-edges.result.now))
-          (subst (λ n. AreFirstRests arena [] (n - 1) c.args.k rests) (sym c.in_ok-rests.ensures.length) (c.in_ok-rests.ensures.first arena c.args.k c.requires.some));
+      first = subst (λ xs. AreFirstRests c.args.prices.now arena xs (length rests - 1) c.args.k rests) (sym (drop_whole c.edges-edges.result.now))
+          (subst (λ n. AreFirstRests c.args.prices.now arena [] (n - 1) c.args.k rests) (sym c.in_ok-rests.ensures.length) (c.in_ok-rests.ensures.first c.args.prices.now arena c.args.k c.requires.some));
     }
 
 pub take_edge-requires-clause-set : goal.take_edge-requires-clause-set
@@ -81,7 +81,7 @@ loop-left-preserved c =
       within = omega arith;
       known = c.in_ok-take_edge.ensures.known;
       nodes = c.take_edge.ensures.length ∙ c.loop-left.invariant.nodes;
-      first = subst (λ xs. AreFirstRests arena xs last c.args.k c.take_edge.new.rests.items) (sym cut) (c.in_ok-take_edge.ensures.first (drop left edges) last first c.loop-left.invariant.first);
+      first = subst (λ xs. AreFirstRests c.args.prices.now arena xs last c.args.k c.take_edge.new.rests.items) (sym cut) (c.in_ok-take_edge.ensures.first (drop left edges) last first c.loop-left.invariant.first);
     }
 
 pub index_mut-requires : goal.index_mut-requires
@@ -103,11 +103,11 @@ returns c =
     let there = here rests 0 first (omega (arith, made.some, c.loop-left.invariant.nodes, c.in_ok-rests.ensures.length)) c.index_mut.ensures.value in
     let none : c.loop-left.left ≡ 0 = omega (arith, c.loop-left-test.false) in
     let best = c.loop-left.invariant.first.each 0 first there in
-    let all = subst (λ n. AreCheapest program_cost atoms_cmp (λ p. Walks p arena (drop n edges) (length c.in_ok-rests.rests.items - 1) 0) k first.items) none best in
-    let whole = subst (λ n. AreCheapest program_cost atoms_cmp (λ p. Walks p arena edges (n - 1) 0) k first.items) c.in_ok-rests.ensures.length all in
-    let taken = subst (λ (v : Vec (Costed Atoms) Global). AreCheapest program_cost atoms_cmp (λ p. Walks p arena edges (nodes - 1) 0) k v.items) (sym c.replace.ensures.value) whole in
-    let stand = first_stand arena c.args.g nodes k edges c.replace.result.items is taken in
-    ok_on _ _ c.programs_of.result c.programs_of.ensures (λ programs same. subst (AreFirst program_cmp (ProgramStands arena c.args.g) k) (sym same) stand)
+    let all = subst (λ n. AreCheapest (program_cost c.args.prices.now) atoms_cmp (λ p. Walks p arena (drop n edges) (length c.in_ok-rests.rests.items - 1) 0) k first.items) none best in
+    let whole = subst (λ n. AreCheapest (program_cost c.args.prices.now) atoms_cmp (λ p. Walks p arena edges (n - 1) 0) k first.items) c.in_ok-rests.ensures.length all in
+    let taken = subst (λ (v : Vec (Costed Atoms) Global). AreCheapest (program_cost c.args.prices.now) atoms_cmp (λ p. Walks p arena edges (nodes - 1) 0) k v.items) (sym c.replace.ensures.value) whole in
+    let stand = first_stand c.args.prices.now arena c.args.g nodes k edges c.replace.result.items is taken in
+    ok_on _ _ c.programs_of.result c.programs_of.ensures (λ programs same. subst (AreFirst (program_cmp c.args.prices.now) (ProgramStands arena c.args.g) k) (sym same) stand)
 
 pub take_edge-requires-clause-cheap : goal.take_edge-requires-clause-cheap
 take_edge-requires-clause-cheap c =
@@ -127,7 +127,7 @@ take_edge-requires-clause-cheap c =
       drop left edges,
       last,
       c.loop-left.invariant.first,
-      walks_cheap arena (e ∷ drop left edges) edges last
+      walks_cheap c.args.prices.now arena (e ∷ drop left edges) edges last
           (λ k f h. (n + k, sym (get_dropped edges n k) ∙ subst (λ l. slice_get l k ≡ Some f) (sym cut) h))
-          (λ p from walk. rest_present arena c.keeps_made.ensures c.args.g nodes edges last from p is walk),
+          (λ p from walk. rest_present c.args.prices.now c.keep_small.ensures arena c.keeps_made.ensures c.args.g nodes edges last from p is walk),
     )

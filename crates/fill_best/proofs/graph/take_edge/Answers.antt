@@ -1,5 +1,6 @@
 use Rattle.std.proofs.Common.{◌≡◌, ◌≢◌, ℕ, ◌<◌, List, length, Some, slice_get, get_or, Vec, Global, sym, subst, ◌∙◌, arith}
 use Rattle.std.proofs.Math.ListN.{set, length-set}
+use Rattle.fill_tokens.specs.declared.prices.Prices.{Prices}
 use Rattle.fill_tree.specs.Cost.{atom_cost, program_cost}
 use Rattle.fill_tree.specs.Order.{atom_cmp, atoms_cmp}
 use Rattle.fill_tree.specs.Tree.{AtomTree, Atoms}
@@ -23,14 +24,14 @@ left_there old from to put read onward within at =
     let long : to < length (set old from put) = simp length-set within in
     sym (set_apart old from put to apart) ∙ here (set old from put) to read long at
 
-atoms_slice : (c : List Entry) (s k : ℕ) (list held : Vec (Costed AtomTree) Global) (slice : List (Costed AtomTree)) → slice ≡ held.items → held ≡ list →
-    AreCheapest atom_cost atom_cmp (AtomStands c s) k list.items → AreCheapest atom_cost atom_cmp (AtomStands c s) k slice
-atoms_slice c s k list held slice e f first =
-    subst (AreCheapest atom_cost atom_cmp (AtomStands c s) k) (sym e) (subst (λ (v : Vec (Costed AtomTree) Global). AreCheapest atom_cost atom_cmp (AtomStands c s) k v.items) (sym f) first)
+atoms_slice : (prices : Prices) (c : List Entry) (s k : ℕ) (list held : Vec (Costed AtomTree) Global) (slice : List (Costed AtomTree)) → slice ≡ held.items → held ≡ list →
+    AreCheapest (atom_cost prices) atom_cmp (AtomStands c s) k list.items → AreCheapest (atom_cost prices) atom_cmp (AtomStands c s) k slice
+atoms_slice prices c s k list held slice e f first =
+    subst (AreCheapest (atom_cost prices) atom_cmp (AtomStands c s) k) (sym e) (subst (λ (v : Vec (Costed AtomTree) Global). AreCheapest (atom_cost prices) atom_cmp (AtomStands c s) k v.items) (sym f) first)
 
-rests_slice : (c : List Entry) (edges : List Edge) (last n k : ℕ) (list slice : List (Costed Atoms)) → slice ≡ list →
-    AreCheapest program_cost atoms_cmp (λ p. Walks p c edges last n) k list → AreCheapest program_cost atoms_cmp (λ p. Walks p c edges last n) k slice
-rests_slice c edges last n k list slice e first = subst (AreCheapest program_cost atoms_cmp (λ p. Walks p c edges last n) k) (sym e) first
+rests_slice : (prices : Prices) (c : List Entry) (edges : List Edge) (last n k : ℕ) (list slice : List (Costed Atoms)) → slice ≡ list →
+    AreCheapest (program_cost prices) atoms_cmp (λ p. Walks p c edges last n) k list → AreCheapest (program_cost prices) atoms_cmp (λ p. Walks p c edges last n) k slice
+rests_slice prices c edges last n k list slice e first = subst (AreCheapest (program_cost prices) atoms_cmp (λ p. Walks p c edges last n) k) (sym e) first
 
 pub put_products-requires-clause-rising : goal.put_products-requires-clause-rising
 put_products-requires-clause-rising c =
@@ -59,7 +60,7 @@ put_products-requires-clause-seconds c =
     let h = c.requires.cheap in
     let next = c.index.result.now in
     let there = left_there old e.from e.to c.replace-kept.new.dest next c.requires.onward c.requires.within c.index.ensures in
-    (rests_slice c.args.arena.now h.0 h.1 e.to c.args.limit next.items c.as_slice-2.result.now c.as_slice-2.ensures.value (h.2.each e.to next there)).rising
+    (rests_slice c.args.prices.now c.args.arena.now h.0 h.1 e.to c.args.limit next.items c.as_slice-2.result.now c.as_slice-2.ensures.value (h.2.each e.to next there)).rising
 
 pub put_products-requires-clause-cheap : goal.put_products-requires-clause-cheap
 put_products-requires-clause-cheap c =
@@ -70,9 +71,9 @@ put_products-requires-clause-cheap c =
     let h = c.requires.cheap in
     let next = c.index.result.now in
     let there = left_there old e.from e.to c.replace-kept.new.dest next c.requires.onward c.requires.within c.index.ensures in
-    let seconds = rests_slice arena h.0 h.1 e.to k next.items c.as_slice-2.result.now c.as_slice-2.ensures.value (h.2.each e.to next there) in
-    let firsts = atoms_slice arena e.atoms k c.in_ok-atoms.atoms.value c.deref.result.now c.as_slice.result.now c.as_slice.ensures.value c.deref.ensures c.in_ok-atoms.ensures.first in
-    edge_cheap arena e h.0 h.1 k c.as_slice.result.now c.as_slice-2.result.now firsts seconds h.3
+    let seconds = rests_slice c.args.prices.now arena h.0 h.1 e.to k next.items c.as_slice-2.result.now c.as_slice-2.ensures.value (h.2.each e.to next there) in
+    let firsts = atoms_slice c.args.prices.now arena e.atoms k c.in_ok-atoms.atoms.value c.deref.result.now c.as_slice.result.now c.as_slice.ensures.value c.deref.ensures c.in_ok-atoms.ensures.first in
+    edge_cheap c.args.prices.now arena e h.0 h.1 k c.as_slice.result.now c.as_slice-2.result.now firsts seconds h.3
 
 pub returns-clause-first : goal.returns-clause-first
 returns-clause-first c others last first are =
@@ -89,8 +90,8 @@ returns-clause-first c others last first are =
     let lt : e.from < length old = omega arith in
     let long : e.from < length (set old e.from empty) = simp length-set lt in
     let there = left_there old e.from e.to empty next onward within c.index.ensures in
-    let seconds = rests_slice arena others last e.to k next.items c.as_slice-2.result.now c.as_slice-2.ensures.value (are.each e.to next there) in
-    let firsts = atoms_slice arena e.atoms k c.in_ok-atoms.atoms.value c.deref.result.now c.as_slice.result.now c.as_slice.ensures.value c.deref.ensures c.in_ok-atoms.ensures.first in
-    edge_step arena e others last k c.as_slice.result.now c.as_slice-2.result.now firsts seconds first old (set (set old e.from empty) e.from made) kept made are
+    let seconds = rests_slice c.args.prices.now arena others last e.to k next.items c.as_slice-2.result.now c.as_slice-2.ensures.value (are.each e.to next there) in
+    let firsts = atoms_slice c.args.prices.now arena e.atoms k c.in_ok-atoms.atoms.value c.deref.result.now c.as_slice.result.now c.as_slice.ensures.value c.deref.ensures c.in_ok-atoms.ensures.first in
+    edge_step c.args.prices.now arena e others last k c.as_slice.result.now c.as_slice-2.result.now firsts seconds first old (set (set old e.from empty) e.from made) kept made are
     (taken_out old e.from c.index_mut.result.now kept lt c.index_mut.ensures.value c.replace-kept.ensures.value) c.in_ok-put_products.ensures
     (set_here (set old e.from empty) e.from made long) (λ n apart. set_apart (set old e.from empty) e.from made n apart ∙ set_apart old e.from empty n apart)

@@ -12,10 +12,10 @@ use Rattle.fill_best.proofs.Takes.{cheapest_none, cheapest_one}
 use Rattle.fill_best.proofs.rows.no_conditions.Goals as goal
 
 pub returns : goal.returns
-returns c cs = record {
-  any = subst (AreCheapest conditions_cost atoms_cmp (λ p. ConditionsFit p cs []) c.args.limit)
+returns c prices cs = record {
+  any = subst (AreCheapest (conditions_cost prices) atoms_cmp (λ p. ConditionsFit p cs []) c.args.limit)
       (sym (c.in_ok-push.ensures.items ∙ ap (λ t. c.new-any.result.items ++ free t ∷ []) c.none.ensures ∙ ap (λ l. l ++ free end ∷ []) c.new-any.ensures.items))
-      (cheapest_one conditions_cost atoms_cmp atoms_total exact_atom_lists c.args.limit (λ p. ConditionsFit p cs []) end 0 c.requires refl tt (only_end cs));
-  mixed = subst (AreCheapest conditions_cost atoms_cmp (λ p. HasPart p × ConditionsFit p cs []) c.args.limit) (sym c.new.ensures.items)
-      (cheapest_none conditions_cost atoms_cmp atoms_total exact_atom_lists c.args.limit (λ p. HasPart p × ConditionsFit p cs []) (no_row_mixed cs));
+      (cheapest_one (conditions_cost prices) atoms_cmp atoms_total exact_atom_lists c.args.limit (λ p. ConditionsFit p cs []) end 0 c.requires refl tt (only_end cs));
+  mixed = subst (AreCheapest (conditions_cost prices) atoms_cmp (λ p. HasPart p × ConditionsFit p cs []) c.args.limit) (sym c.new.ensures.items)
+      (cheapest_none (conditions_cost prices) atoms_cmp atoms_total exact_atom_lists c.args.limit (λ p. HasPart p × ConditionsFit p cs []) (no_row_mixed cs));
 }

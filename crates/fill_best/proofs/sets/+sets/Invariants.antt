@@ -40,21 +40,21 @@ decreases-put_parts l = 16 * l.set + 3
 
 abbrev pub invariant-scan_sources-loop-item : goal.invariant-scan_sources-loop-item
 invariant-scan_sources-loop-item l = record {
-  known : AreKnown l.arena l.limit l.known;
-  first : TakesIn source_cost source_cmp (λ x. SomeBelow l.item-index l.items (λ y. SourceFits x l.arena y)) l.limit l.initial.kept.items l.kept.items;
+  known : AreKnown l.prices l.arena l.limit l.known;
+  first : TakesIn (source_cost l.prices) source_cmp (λ x. SomeBelow l.item-index l.items (λ y. SourceFits x l.arena y)) l.limit l.initial.kept.items l.kept.items;
 }
 
 abbrev pub invariant-scan_parts-loop-item : goal.invariant-scan_parts-loop-item
 invariant-scan_parts-loop-item l = record {
-  known : AreKnown l.arena l.limit l.known;
-  first : TakesIn atom_cost atom_cmp (λ a. SomeBelow l.item-index l.items (λ y. PartFits l.arena y a)) l.limit l.initial.kept.items l.kept.items;
+  known : AreKnown l.prices l.arena l.limit l.known;
+  first : TakesIn (atom_cost l.prices) atom_cmp (λ a. SomeBelow l.item-index l.items (λ y. PartFits l.arena y a)) l.limit l.initial.kept.items l.kept.items;
 }
 
 abbrev pub invariant-rows_of-loop-left : goal.invariant-rows_of-loop-left
 invariant-rows_of-loop-left l = record {
   within : l.left ≤ length l.items;
-  known : AreKnown l.arena l.limit l.known;
-  first : AreFirstRows l.arena (drop l.left l.items) l.limit l.rows;
+  known : AreKnown l.prices l.arena l.limit l.known;
+  first : AreFirstRows l.prices l.arena (drop l.left l.items) l.limit l.rows;
 }
 
 abbrev pub decreases-rows_of-loop-left : goal.decreases-rows_of-loop-left

@@ -6,5 +6,5 @@ use Rattle.fill_filled.proofs.learning.learn.Given as goal
 abbrev pub invariant-loop-above : goal.invariant-loop-above
 invariant-loop-above g l = record {
   ground : l.session.spaces.ground ≡ l.initial.session.spaces.ground;
-  learned : LearnsFirst l.initial.session.spaces.ground l.above l.session.examples l.refused;
+  learned : LearnsFirst l.typed l.initial.session.spaces.ground l.above l.session.examples l.refused;
 }

@@ -6,7 +6,7 @@ pub returns-in-Ok-clause-whole : goal.returns-in-Ok-clause-whole
 returns-in-Ok-clause-whole g c =
     let s = c.args.sheet.now in
     when_ok c.write_rows.result
-    (head_rows s.form s.session.now.spaces.ground s.session.now.examples s.records.now (g.O.Sink.written c.args.out.now) (g.O.Sink.written c.write_all.new.sink) (g.O.Sink.written c.write_rows.new.out) s.head.now
+    (head_rows s.form s.typed.now s.session.now.spaces.ground s.session.now.examples s.records.now (g.O.Sink.written c.args.out.now) (g.O.Sink.written c.write_all.new.sink) (g.O.Sink.written c.write_rows.new.out) s.head.now
     (length s.records.now) c.in-Ok.ensures.whole) c.write_rows.ensures.whole
 
 pub returns-in-Ok-clause-part : goal.returns-in-Ok-clause-part
@@ -15,7 +15,7 @@ returns-in-Ok-clause-part g c = λ e.
     let rows = c.write_rows.ensures.part e in (
       rows.0,
       rows.1,
-      head_rows_part s.form s.session.now.spaces.ground s.session.now.examples s.records.now (g.O.Sink.written c.args.out.now) (g.O.Sink.written c.write_all.new.sink) _ s.head.now rows.0
+      head_rows_part s.form s.typed.now s.session.now.spaces.ground s.session.now.examples s.records.now (g.O.Sink.written c.args.out.now) (g.O.Sink.written c.write_all.new.sink) _ s.head.now rows.0
           c.in-Ok.ensures.whole rows.2,
     )
 
@@ -25,11 +25,11 @@ returns-in-Ok-clause-memory g c = λ e.
     let rows = c.write_rows.ensures.memory e in (
       rows.0,
       rows.1,
-      head_rows s.form s.session.now.spaces.ground s.session.now.examples s.records.now (g.O.Sink.written c.args.out.now) (g.O.Sink.written c.write_all.new.sink) _ s.head.now rows.0
+      head_rows s.form s.typed.now s.session.now.spaces.ground s.session.now.examples s.records.now (g.O.Sink.written c.args.out.now) (g.O.Sink.written c.write_all.new.sink) _ s.head.now rows.0
           c.in-Ok.ensures.whole rows.2,
     )
 
 pub returns-in-Err-clause-part : goal.returns-in-Err-clause-part
 returns-in-Err-clause-part g c = λ e.
     let s = c.args.sheet.now in
-    (0, omega arith, head_part s.form s.session.now.spaces.ground s.session.now.examples s.records.now (g.O.Sink.written c.args.out.now) _ s.head.now c.in-Err.ensures.part)
+    (0, omega arith, head_part s.form s.typed.now s.session.now.spaces.ground s.session.now.examples s.records.now (g.O.Sink.written c.args.out.now) _ s.head.now c.in-Err.ensures.part)

@@ -11,7 +11,7 @@ pub returns-then-has_set : goal.returns-then-has_set
 returns-then-has_set c =
     let has = c.has_set.ensures.0 c.if-has_set.true in
     let k : Kept = has.0 in
-    keeps_done c.args.sheet.now c.args.inside.now c.args.outside.now (OfColumn c.args.profile c.args.column) k c.args.kept.now.items (subst (λ z. Contains z k) c.deref.ensures.value has.1) has.2
+    keeps_done c.args.sheet.now c.args.inside.now c.args.outside.now (OfColumn c.args.token_set c.args.column) k c.args.kept.now.items (subst (λ z. Contains z k) c.deref.ensures.value has.1) has.2
 
 pub keep_sequences-requires-clause-few : goal.keep_sequences-requires-clause-few
 keep_sequences-requires-clause-few c =

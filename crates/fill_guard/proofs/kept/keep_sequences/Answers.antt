@@ -14,11 +14,11 @@ keep_sequence-requires c =
 pub loop-i-preserved : goal.loop-i-preserved
 loop-i-preserved c = λ sheet inside outside in_cells out_cells.
     let seqs = c.args.seqs.now in
-    seqs_more sheet inside outside c.args.profile c.args.column seqs c.loop-i.i c.index-seqs-i.result c.args.kept.now.items c.loop-i.kept.items c.keep_sequence.new.kept.items c.requires.seqs
+    seqs_more sheet inside outside c.args.token_set c.args.column seqs c.loop-i.i c.index-seqs-i.result c.args.kept.now.items c.loop-i.kept.items c.keep_sequence.new.kept.items c.requires.seqs
     (slice_get_read seqs (length seqs) c.loop-i.i c.index-seqs-i.result refl (omega arith) c.index-seqs-i.is)
     (c.loop-i.invariant sheet inside outside in_cells out_cells) (c.in_ok-keep_sequence.ensures sheet inside outside in_cells out_cells)
 
 pub returns : goal.returns
 returns c = λ sheet inside outside in_cells out_cells.
-    seqs_all sheet inside outside c.args.profile c.args.column c.args.seqs.now c.loop-i.i c.args.kept.now.items c.loop-i.kept.items c.requires.seqs (omega arith)
+    seqs_all sheet inside outside c.args.token_set c.args.column c.args.seqs.now c.loop-i.i c.args.kept.now.items c.loop-i.kept.items c.requires.seqs (omega arith)
     (c.loop-i.invariant sheet inside outside in_cells out_cells)

@@ -9,7 +9,7 @@ loop-i-preserved c =
     let column : ℕ = get_or c.inputs-inputs.result.now c.loop-i.i 0 in
     let lt : c.loop-i.i < length c.inputs-inputs.result.now = omega arith in
     let at : slice_get c.args.sheet.now.inputs c.loop-i.i ≡ Some column = subst (λ (xs : List ℕ). slice_get xs c.loop-i.i ≡ Some column) c.inputs-inputs.ensures (slice_get-get_or inputs c.loop-i.i 0 lt) in
-    columns_more c.args.sheet.now c.args.inside.now c.args.outside.now c.args.settings.now.profile c.args.sheet.now.inputs c.loop-i.i column c.new-kept.result.items c.loop-i.kept.items c.keep_column.new.kept.items
+    columns_more c.args.sheet.now c.args.inside.now c.args.outside.now c.args.settings.now.profile.tokens c.args.sheet.now.inputs c.loop-i.i column c.new-kept.result.items c.loop-i.kept.items c.keep_column.new.kept.items
     c.rows-rows.ensures.shape.rises at c.loop-i.invariant c.in_ok-keep_column.ensures
 
 pub returns : goal.returns

@@ -5,4 +5,4 @@ use Rattle.fill_guard.specs.Listed.{OfOne}
 use Rattle.fill_guard.proofs.sequences.push_ones.Given as goal
 
 abbrev pub invariant-loop-i : goal.invariant-loop-i
-invariant-loop-i l = Adds seq_cmp l.initial.out.items l.out.items (OfOne (l.i + 1))
+invariant-loop-i l = Adds seq_cmp l.initial.out.items l.out.items (OfOne l.token_set (l.i + 1))

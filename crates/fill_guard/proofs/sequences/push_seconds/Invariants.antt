@@ -5,4 +5,4 @@ use Rattle.fill_guard.specs.Listed.{OfSecond}
 use Rattle.fill_guard.proofs.sequences.push_seconds.Given as goal
 
 abbrev pub invariant-loop-i : goal.invariant-loop-i
-invariant-loop-i l = Adds seq_cmp l.initial.out.items l.out.items (OfSecond l.profile l.first (l.i + 1))
+invariant-loop-i l = Adds seq_cmp l.initial.out.items l.out.items (OfSecond l.token_set l.first (l.i + 1))

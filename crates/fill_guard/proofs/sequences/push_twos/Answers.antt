@@ -3,9 +3,9 @@ use Rattle.fill_guard.proofs.SeqLaws.{twos_none, twos_more}
 use Rattle.fill_guard.proofs.sequences.push_twos.Goals as goal
 
 pub loop-i-init : goal.loop-i-init
-loop-i-init c = twos_none c.args.profile c.args.out.now.items
+loop-i-init c = twos_none c.args.token_set c.args.out.now.items
 
 pub loop-i-preserved : goal.loop-i-preserved
 loop-i-preserved c =
-    twos_more c.args.profile c.args.out.now.items c.loop-i.out.items c.push_seconds.new.out.items (c.loop-i.i + 1) c.token_at.result c.token_at.ensures c.loop-i.invariant
+    twos_more c.args.token_set c.args.out.now.items c.loop-i.out.items c.push_seconds.new.out.items (c.loop-i.i + 1) c.token_at.result c.token_at.ensures c.loop-i.invariant
     c.in_ok-push_seconds.ensures

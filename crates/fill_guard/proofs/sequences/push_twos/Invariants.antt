@@ -5,4 +5,4 @@ use Rattle.fill_guard.specs.Listed.{OfTwo}
 use Rattle.fill_guard.proofs.sequences.push_twos.Given as goal
 
 abbrev pub invariant-loop-i : goal.invariant-loop-i
-invariant-loop-i l = Adds seq_cmp l.initial.out.items l.out.items (OfTwo l.profile (l.i + 1))
+invariant-loop-i l = Adds seq_cmp l.initial.out.items l.out.items (OfTwo l.token_set (l.i + 1))

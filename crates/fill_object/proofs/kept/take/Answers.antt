@@ -12,8 +12,8 @@ returns-then-serves g c =
     let x = c.index.result.now in
     let end : length c.as_slice-i-end.result.now ≡ length c.loop-i.kept.items = ap length (c.as_slice-i-end.ensures.value ∙ sym c.loop-i.invariant) in
     let lt : c.loop-i.i < length c.loop-i.kept.items = subst (λ m. c.loop-i.i < m) end c.loop-i-test.true in
-    subst (λ xs. Takes g.T.Rival.serving xs c.args.next kept) c.loop-i.invariant
-    (not_taken g.T.Rival.serving kept c.args.next i x (here kept i x lt c.index.ensures) (c.if-serves.ensures refl))
+    subst (λ xs. Takes (g.T.Rival.serving c.args.prices.now) xs c.args.next kept) c.loop-i.invariant
+    (not_taken (g.T.Rival.serving c.args.prices.now) kept c.args.next i x (here kept i x lt c.index.ensures) (c.if-serves.ensures refl))
 
 pub returns-then-serves-2 : goal.returns-then-serves-2
 returns-then-serves-2 g c =
@@ -22,11 +22,11 @@ returns-then-serves-2 g c =
     let x = c.index-in-loop-i.result.now in
     let end : length c.as_slice-i-end.result.now ≡ length c.loop-i.kept.items = ap length (c.as_slice-i-end.ensures.value ∙ sym c.loop-i.invariant) in
     let lt : c.loop-i.i < length c.loop-i.kept.items = subst (λ m. c.loop-i.i < m) end c.loop-i-test.true in
-    subst (λ xs. Takes g.T.Rival.serving xs c.args.next (set kept i c.args.next)) c.loop-i.invariant
-    (replaced g.T.Rival.serving kept c.args.next i x (here kept i x lt c.index-in-loop-i.ensures) (c.if-serves-2.ensures refl))
+    subst (λ xs. Takes (g.T.Rival.serving c.args.prices.now) xs c.args.next (set kept i c.args.next)) c.loop-i.invariant
+    (replaced (g.T.Rival.serving c.args.prices.now) kept c.args.next i x (here kept i x lt c.index-in-loop-i.ensures) (c.if-serves-2.ensures refl))
 
 pub returns : goal.returns
 returns g c =
     let kept = c.loop-i.kept.items in
-    subst (λ xs. Takes g.T.Rival.serving xs c.args.next c.push.new.self.items) c.loop-i.invariant
-    (subst (Takes g.T.Rival.serving kept c.args.next) (sym c.in-Ok.ensures.items) (pushed g.T.Rival.serving kept c.args.next))
+    subst (λ xs. Takes (g.T.Rival.serving c.args.prices.now) xs c.args.next c.push.new.self.items) c.loop-i.invariant
+    (subst (Takes (g.T.Rival.serving c.args.prices.now) kept c.args.next) (sym c.in-Ok.ensures.items) (pushed (g.T.Rival.serving c.args.prices.now) kept c.args.next))

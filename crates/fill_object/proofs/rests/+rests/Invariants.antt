@@ -20,11 +20,11 @@ decreases-with_atom l = 4 * (l.search.now.last - l.to) + 4
 abbrev pub invariant-along_edges-loop-i : goal.invariant-along_edges-loop-i
 invariant-along_edges-loop-i l = record {
   known : AreRests l.search l.rests.items;
-  least : IsLeastOther (Upto (λ e p. IsAlong l.search l.node e p) (RestAgrees l.search.on l.search.said.now l.wanted) (IsEnd l.search l.node) l.search.edges.now l.i) (RestAgrees l.search.on l.search.said.now l.wanted) l.best;
+  least : IsLeastOther l.search.on.prices.now (Upto l.search.on.prices.now (λ e p. IsAlong l.search l.node e p) (RestAgrees l.search.on l.search.said.now l.wanted) (IsEnd l.search l.node) l.search.edges.now l.i) (RestAgrees l.search.on l.search.said.now l.wanted) l.best;
 }
 
 abbrev pub invariant-along_edge-loop-atom : goal.invariant-along_edge-loop-atom
 invariant-along_edge-loop-atom l = record {
   known : AreRests l.search l.rests.items;
-  least : IsLeastOther (Upto (λ x p. IsThen (λ a. a ≡ atom_tree x.atom) (RestStands l.search l.edge.to) p) (RestAgrees l.search.on l.search.said.now l.wanted) (λ p. ⊥) l.atom-items l.atom-index) (RestAgrees l.search.on l.search.said.now l.wanted) l.best;
+  least : IsLeastOther l.search.on.prices.now (Upto l.search.on.prices.now (λ x p. IsThen (λ a. a ≡ atom_tree x.atom) (RestStands l.search l.edge.to) p) (RestAgrees l.search.on l.search.said.now l.wanted) (λ p. ⊥) l.atom-items l.atom-index) (RestAgrees l.search.on l.search.said.now l.wanted) l.best;
 }

@@ -7,4 +7,4 @@ use Rattle.fill_places.specs.Wanted.{IsWanted}
 use Rattle.fill_places.proofs.index.places_of.Goals as goal
 
 pub returns : goal.returns
-returns c = subst (λ (v : IndexView). IfOk c.places_at.result (Lists place_cmp (IsWanted v.profile v.text c.args.k))) c.in_ok-index.ensures c.places_at.ensures
+returns c = subst (λ (v : IndexView). IfOk c.places_at.result (Lists place_cmp (IsWanted v.token_set v.text c.args.k))) c.in_ok-index.ensures c.places_at.ensures

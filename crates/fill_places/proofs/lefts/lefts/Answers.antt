@@ -8,6 +8,6 @@ pub returns : goal.returns
 returns c =
     let t = c.args.t.now in
     let items = c.in_ok-join-3.ensures ∙ ap (λ z. z ++ c.in_ok-three.three.items) (c.in_ok-join-2.ensures ∙ ap (λ z. z ++ c.in_ok-two.two.items) c.in_ok-join.ensures) in
-    subst (Entries (LeftAt c.args.profile t) (length t) (HasAtMost 3)) (sym items)
-    (all_layers (LeftAt c.args.profile t) (length t) c.in_ok-all.all.items c.in_ok-one.one.items c.in_ok-two.two.items c.in_ok-three.three.items
+    subst (Entries (LeftAt c.args.token_set t) (length t) (HasAtMost 3)) (sym items)
+    (all_layers (LeftAt c.args.token_set t) (length t) c.in_ok-all.all.items c.in_ok-one.one.items c.in_ok-two.two.items c.in_ok-three.three.items
     c.in_ok-all.ensures c.in_ok-one.ensures c.in_ok-two.ensures c.in_ok-three.ensures)

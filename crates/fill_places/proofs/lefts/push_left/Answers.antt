@@ -10,13 +10,18 @@ use Rattle.fill_places.specs.Entries.{AddsEntries, IsOnly}
 use Rattle.fill_text.proofs.ListReads.{on_ok}
 use Rattle.fill_places.proofs.EntryLaws.{grows_not, grows_one}
 use Rattle.fill_places.proofs.HopLaws.{hops_forth, starts_within, ends_within}
-use Rattle.fill_places.proofs.MarkLaws.{left_barred, left_never, left_marks}
+use Rattle.fill_places.proofs.MarkLaws.{left_barred, left_unknown, left_never, left_marks}
 use Rattle.fill_places.proofs.lefts.push_left.Goals as goal
+
+pub returns-then-not-is_of : goal.returns-then-not-is_of
+returns-then-not-is_of c =
+    grows_not (LeftAt c.args.token_set c.args.t.now) (length c.args.t.now) (c.args.e.now.seq ++ c.args.token ∷ []) c.args.out.now.items
+    (left_unknown c.args.token_set c.args.t.now c.args.e.now.seq c.args.token (iff_false c.is_of.ensures c.if-not-is_of.true))
 
 pub returns-then-not-may_end : goal.returns-then-not-may_end
 returns-then-not-may_end c =
-    grows_not (LeftAt c.args.profile c.args.t.now) (length c.args.t.now) (c.args.e.now.seq ++ c.args.token ∷ []) c.args.out.now.items
-    (left_barred c.args.profile c.args.t.now c.args.e.now.seq c.args.token (iff_false c.may_end.ensures c.if-not-may_end.true))
+    grows_not (LeftAt c.args.token_set c.args.t.now) (length c.args.t.now) (c.args.e.now.seq ++ c.args.token ∷ []) c.args.out.now.items
+    (left_barred c.args.token_set c.args.t.now c.args.e.now.seq c.args.token (iff_false c.may_end.ensures c.if-not-may_end.true))
 
 pub reaches-requires-clause-within : goal.reaches-requires-clause-within
 reaches-requires-clause-within c =
@@ -40,8 +45,8 @@ returns-then-not-reaches c =
     let are : AreExactly (Spans c.args.token t) starts ends =
     subst (λ z. AreExactly (Spans c.args.token t) z ends) (sym c.as_slice-starts.ensures.value)
     (subst (λ z. AreExactly (Spans c.args.token t) p.starts.items z) (sym c.as_slice-ends.ensures.value) given) in
-    grows_not (LeftAt c.args.profile t) (length t) (c.args.e.now.seq ++ c.args.token ∷ []) c.args.out.now.items
-    (left_never c.args.profile t c.args.e.now.seq c.args.token c.args.e.now.at starts ends c.requires.entry (hops_forth c.args.token t starts ends are) (iff_false c.reaches.ensures c.if-not-reaches.true))
+    grows_not (LeftAt c.args.token_set t) (length t) (c.args.e.now.seq ++ c.args.token ∷ []) c.args.out.now.items
+    (left_never c.args.token_set t c.args.e.now.seq c.args.token c.args.e.now.at starts ends c.requires.entry (hops_forth c.args.token t starts ends are) (iff_false c.reaches.ensures c.if-not-reaches.true))
 
 pub reached-requires-clause-paired : goal.reached-requires-clause-paired
 reached-requires-clause-paired c =
@@ -92,7 +97,7 @@ returns c =
     let e : Entry = record { seq = c.followed-seq.result; at = c.in_ok-at.at } in
     let may = c.may_end.ensures.0 c.if-not-may_end.false in
     let there = subst (λ (m : ℕ). AreMarks (Reached c.args.e.now.at starts ends) m c.in_ok-at.at) c.len-n.ensures.value c.in_ok-at.ensures in
-    let marks = left_marks c.args.profile t c.args.e.now.seq c.args.token c.args.e.now.at starts ends c.requires.entry (hops_forth c.args.token t starts ends are) may c.requires.token c.in_ok-at.at there in
-    on_ok c.push_entry.result (c.push_entry.new.out.items ≡ c.args.out.now.items ++ e ∷ []) (AddsEntries (LeftAt c.args.profile t) (length t) c.args.out.now.items c.push_entry.new.out.items (IsOnly (c.args.e.now.seq ++ c.args.token ∷ [])))
-    (λ h. grows_one (LeftAt c.args.profile t) (length t) (c.args.e.now.seq ++ c.args.token ∷ []) e c.args.out.now.items c.push_entry.new.out.items h c.followed-seq.ensures marks)
+    let marks = left_marks c.args.token_set t c.args.e.now.seq c.args.token c.args.e.now.at starts ends c.requires.entry (hops_forth c.args.token t starts ends are) may (c.is_of.ensures.0 c.if-not-is_of.false) c.in_ok-at.at there in
+    on_ok c.push_entry.result (c.push_entry.new.out.items ≡ c.args.out.now.items ++ e ∷ []) (AddsEntries (LeftAt c.args.token_set t) (length t) c.args.out.now.items c.push_entry.new.out.items (IsOnly (c.args.e.now.seq ++ c.args.token ∷ [])))
+    (λ h. grows_one (LeftAt c.args.token_set t) (length t) (c.args.e.now.seq ++ c.args.token ∷ []) e c.args.out.now.items c.push_entry.new.out.items h c.followed-seq.ensures marks)
     c.push_entry.ensures

@@ -13,4 +13,4 @@ returns c = λ r at.
     let e : Entry = c.index-rights-number.result in
     let there : slice_get es c.args.number ≡ Some e = slice_get_read es (length es) c.args.number e refl (slice_get_within es c.args.number r at) c.index-rights-number.is in
     let same : e ≡ r = same_Some e r (sym there ∙ at) in
-    subst (λ (z : Entry). OnOk c.push_pair.result (Adds place_cmp c.args.out.now c.push_pair.new.out (PairOf c.args.profile c.args.t.now c.args.k c.args.l.now.seq z.seq))) same c.push_pair.ensures
+    subst (λ (z : Entry). OnOk c.push_pair.result (Adds place_cmp c.args.out.now c.push_pair.new.out (PairOf c.args.token_set c.args.t.now c.args.k c.args.l.now.seq z.seq))) same c.push_pair.ensures

@@ -16,11 +16,11 @@ loop-j-preserved c =
     let i : ℕ = get_or numbers c.loop-j.j 0 in
     let at : slice_get numbers c.loop-j.j ≡ Some i = slice_get-get_or numbers c.loop-j.j 0 (omega arith) in
     let e = number_is c.args.rights.now c.args.k numbers c.loop-j.j i c.requires.numbers at in
-    row_more c.args.profile c.args.t.now c.args.k c.args.l.now.seq c.args.rights.now numbers c.requires.rights.rising c.requires.numbers c.loop-j.j i e.0 at e.1
+    row_more c.args.token_set c.args.t.now c.args.k c.args.l.now.seq c.args.rights.now numbers c.requires.rights.rising c.requires.numbers c.loop-j.j i e.0 at e.1
     c.args.out.now c.loop-j.out c.push_numbered.new.out c.loop-j.invariant (c.in_ok-push_numbered.ensures e.0 e.1)
 
 pub returns : goal.returns
 returns c =
     let e : c.loop-j.j ≡ length c.args.numbers.now = omega arith in
-    row_all c.args.profile c.args.t.now c.args.k c.args.l.now.seq c.args.rights.now c.args.numbers.now c.args.out.now c.loop-j.out c.requires.rights c.requires.numbers
-    (subst (λ (m : ℕ). Adds place_cmp c.args.out.now c.loop-j.out (RowOf c.args.profile c.args.t.now c.args.k c.args.l.now.seq c.args.rights.now c.args.numbers.now m)) e c.loop-j.invariant)
+    row_all c.args.token_set c.args.t.now c.args.k c.args.l.now.seq c.args.rights.now c.args.numbers.now c.args.out.now c.loop-j.out c.requires.rights c.requires.numbers
+    (subst (λ (m : ℕ). Adds place_cmp c.args.out.now c.loop-j.out (RowOf c.args.token_set c.args.t.now c.args.k c.args.l.now.seq c.args.rights.now c.args.numbers.now m)) e c.loop-j.invariant)

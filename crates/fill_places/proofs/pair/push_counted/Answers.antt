@@ -15,8 +15,8 @@ returns-in_ok-push_from_left c =
     let old = c.args.out.now in
     let mid = c.push_from_left.new.out in
     let new = c.push_from_right.new.out in
-    on_ok c.push_from_right.result (Adds place_cmp mid new (FittingPair l r (negsuc (c.args.b - 1)))) (Adds place_cmp old new (PairOf c.args.profile t k l r))
-    (λ x. pair_two c.args.profile t k l r c.args.a c.args.b c.requires.counts c.requires.around c.requires.tokens (omega arith) old mid new c.in_ok-push_from_left.ensures x)
+    on_ok c.push_from_right.result (Adds place_cmp mid new (FittingPair l r (negsuc (c.args.b - 1)))) (Adds place_cmp old new (PairOf c.args.token_set t k l r))
+    (λ x. pair_two c.args.token_set t k l r c.args.a c.args.b c.requires.counts c.requires.around c.requires.tokens (omega arith) old mid new c.in_ok-push_from_left.ensures x)
     c.push_from_right.ensures
 
 pub returns-in_ok-push_from_right : goal.returns-in_ok-push_from_right
@@ -28,6 +28,6 @@ returns-in_ok-push_from_right c =
     let old = c.args.out.now in
     let mid = c.push_from_right-else-a-b.new.out in
     let new = c.push_from_left-else-a-b.new.out in
-    on_ok c.push_from_left-else-a-b.result (Adds place_cmp mid new (FittingPair l r (pos c.args.a))) (Adds place_cmp old new (PairOf c.args.profile t k l r))
-    (λ x. pair_two_back c.args.profile t k l r c.args.a c.args.b c.requires.counts c.requires.around c.requires.tokens (omega arith) old mid new c.in_ok-push_from_right.ensures x)
+    on_ok c.push_from_left-else-a-b.result (Adds place_cmp mid new (FittingPair l r (pos c.args.a))) (Adds place_cmp old new (PairOf c.args.token_set t k l r))
+    (λ x. pair_two_back c.args.token_set t k l r c.args.a c.args.b c.requires.counts c.requires.around c.requires.tokens (omega arith) old mid new c.in_ok-push_from_right.ensures x)
     c.push_from_left-else-a-b.ensures

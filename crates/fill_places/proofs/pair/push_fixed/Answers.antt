@@ -16,8 +16,8 @@ returns-in_ok-push_fixed_left c =
     let old = c.args.out.now in
     let mid = c.push_fixed_left.new.out in
     let new = c.push_fixed_right.new.out in
-    on_ok c.push_fixed_right.result (Adds place_cmp mid new (FittingFixed (negsuc (c.len.result - k + 1 - 1)))) (Adds place_cmp old new (FixedOf c.args.profile t k))
-    (λ a. fixed_two c.args.profile t k b back (omega arith) old mid new c.in_ok-push_fixed_left.ensures (subst (λ (m : ℕ). Adds place_cmp mid new (FittingFixed (negsuc m))) e a))
+    on_ok c.push_fixed_right.result (Adds place_cmp mid new (FittingFixed (negsuc (c.len.result - k + 1 - 1)))) (Adds place_cmp old new (FixedOf c.args.token_set t k))
+    (λ a. fixed_two c.args.token_set t k b back (omega arith) old mid new c.in_ok-push_fixed_left.ensures (subst (λ (m : ℕ). Adds place_cmp mid new (FittingFixed (negsuc m))) e a))
     c.push_fixed_right.ensures
 
 pub returns-in_ok-push_fixed_right : goal.returns-in_ok-push_fixed_right
@@ -30,6 +30,6 @@ returns-in_ok-push_fixed_right c =
     let old = c.args.out.now in
     let mid = c.push_fixed_right-else-k-back.new.out in
     let new = c.push_fixed_left-else-k-back.new.out in
-    on_ok c.push_fixed_left-else-k-back.result (Adds place_cmp mid new (FittingFixed (pos k))) (Adds place_cmp old new (FixedOf c.args.profile t k))
-    (λ a. fixed_two_back c.args.profile t k b back (omega arith) old mid new (subst (λ (m : ℕ). Adds place_cmp old mid (FittingFixed (negsuc m))) e c.in_ok-push_fixed_right.ensures) a)
+    on_ok c.push_fixed_left-else-k-back.result (Adds place_cmp mid new (FittingFixed (pos k))) (Adds place_cmp old new (FixedOf c.args.token_set t k))
+    (λ a. fixed_two_back c.args.token_set t k b back (omega arith) old mid new (subst (λ (m : ℕ). Adds place_cmp old mid (FittingFixed (negsuc m))) e c.in_ok-push_fixed_right.ensures) a)
     c.push_fixed_left-else-k-back.ensures

@@ -15,8 +15,8 @@ use Rattle.fill_places.proofs.rights.push_right.Goals as goal
 
 pub returns-then-not-may_begin : goal.returns-then-not-may_begin
 returns-then-not-may_begin c =
-    grows_not (RightAt c.args.profile c.args.t.now) (length c.args.t.now) (c.args.token ∷ c.args.e.now.seq) c.args.out.now.items
-    (right_barred c.args.profile c.args.t.now c.args.token c.args.e.now.seq (iff_false c.may_begin.ensures c.if-not-may_begin.true))
+    grows_not (RightAt c.args.token_set c.args.t.now) (length c.args.t.now) (c.args.token ∷ c.args.e.now.seq) c.args.out.now.items
+    (right_barred c.args.token_set c.args.t.now c.args.token c.args.e.now.seq (iff_false c.may_begin.ensures c.if-not-may_begin.true))
 
 pub reaches-requires-clause-within : goal.reaches-requires-clause-within
 reaches-requires-clause-within c =
@@ -40,8 +40,8 @@ returns-then-not-reaches c =
     let are : AreExactly (Spans c.args.token t) starts ends =
     subst (λ z. AreExactly (Spans c.args.token t) z ends) (sym c.as_slice-starts.ensures.value)
     (subst (λ z. AreExactly (Spans c.args.token t) p.starts.items z) (sym c.as_slice-ends.ensures.value) given) in
-    grows_not (RightAt c.args.profile t) (length t) (c.args.token ∷ c.args.e.now.seq) c.args.out.now.items
-    (right_never c.args.profile t c.args.token c.args.e.now.seq c.args.e.now.at ends starts c.requires.entry (hops_back c.args.token t starts ends are) (iff_false c.reaches.ensures c.if-not-reaches.true))
+    grows_not (RightAt c.args.token_set t) (length t) (c.args.token ∷ c.args.e.now.seq) c.args.out.now.items
+    (right_never c.args.token_set t c.args.token c.args.e.now.seq c.args.e.now.at ends starts c.requires.entry (hops_back c.args.token t starts ends are) (iff_false c.reaches.ensures c.if-not-reaches.true))
 
 pub reached-requires-clause-paired : goal.reached-requires-clause-paired
 reached-requires-clause-paired c =
@@ -92,7 +92,7 @@ returns c =
     let e : Entry = record { seq = c.preceded-seq.result; at = c.in_ok-at.at } in
     let may = c.may_begin.ensures.0 c.if-not-may_begin.false in
     let there = subst (λ (m : ℕ). AreMarks (Reached c.args.e.now.at ends starts) m c.in_ok-at.at) c.len-n.ensures.value c.in_ok-at.ensures in
-    let marks = right_marks c.args.profile t c.args.token c.args.e.now.seq c.args.e.now.at ends starts c.requires.entry (hops_back c.args.token t starts ends are) may c.requires.token c.in_ok-at.at there in
-    on_ok c.push_entry.result (c.push_entry.new.out.items ≡ c.args.out.now.items ++ e ∷ []) (AddsEntries (RightAt c.args.profile t) (length t) c.args.out.now.items c.push_entry.new.out.items (IsOnly (c.args.token ∷ c.args.e.now.seq)))
-    (λ h. grows_one (RightAt c.args.profile t) (length t) (c.args.token ∷ c.args.e.now.seq) e c.args.out.now.items c.push_entry.new.out.items h c.preceded-seq.ensures marks)
+    let marks = right_marks c.args.token_set t c.args.token c.args.e.now.seq c.args.e.now.at ends starts c.requires.entry (hops_back c.args.token t starts ends are) may c.requires.token c.in_ok-at.at there in
+    on_ok c.push_entry.result (c.push_entry.new.out.items ≡ c.args.out.now.items ++ e ∷ []) (AddsEntries (RightAt c.args.token_set t) (length t) c.args.out.now.items c.push_entry.new.out.items (IsOnly (c.args.token ∷ c.args.e.now.seq)))
+    (λ h. grows_one (RightAt c.args.token_set t) (length t) (c.args.token ∷ c.args.e.now.seq) e c.args.out.now.items c.push_entry.new.out.items h c.preceded-seq.ensures marks)
     c.push_entry.ensures

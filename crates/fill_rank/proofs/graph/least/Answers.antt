@@ -22,10 +22,10 @@ loop-left-init c =
     let rests = c.in_ok-rests.rests.items in
     record {
       within = omega arith;
-      known = c.new-known.ensures arena;
+      known = c.new-known.ensures c.args.prices.now arena;
       nodes = refl;
-      best = subst (λ xs. AreBestRests arena xs (length rests - 1) rests) (sym (drop_whole c.edges-edges.result.now))
-          (subst (λ n. AreBestRests arena [] (n - 1) rests) (sym c.in_ok-rests.ensures.length) (c.in_ok-rests.ensures.best arena));
+      best = subst (λ xs. AreBestRests c.args.prices.now arena xs (length rests - 1) rests) (sym (drop_whole c.edges-edges.result.now))
+          (subst (λ n. AreBestRests c.args.prices.now arena [] (n - 1) rests) (sym c.in_ok-rests.ensures.length) (c.in_ok-rests.ensures.best c.args.prices.now arena));
     }
 
 pub take_edge-requires-clause-set : goal.take_edge-requires-clause-set
@@ -76,7 +76,7 @@ loop-left-preserved c =
       within = omega arith;
       known = c.in_ok-take_edge.ensures.known;
       nodes = c.take_edge.ensures.length ∙ c.loop-left.invariant.nodes;
-      best = subst (λ xs. AreBestRests arena xs last c.take_edge.new.rests.items) (sym cut) (c.in_ok-take_edge.ensures.best last (drop left edges) first c.loop-left.invariant.best);
+      best = subst (λ xs. AreBestRests c.args.prices.now arena xs last c.take_edge.new.rests.items) (sym cut) (c.in_ok-take_edge.ensures.best last (drop left edges) first c.loop-left.invariant.best);
     }
 
 pub index_mut-requires : goal.index_mut-requires
@@ -97,9 +97,9 @@ unreachable-requires c =
     let there = here rests 0 first (omega (arith, made.some, c.loop-left.invariant.nodes, c.in_ok-rests.ensures.length)) c.index_mut.ensures.value in
     let none : c.loop-left.left ≡ 0 = omega (arith, c.loop-left-test.false) in
     let best = c.loop-left.invariant.best.each 0 first there in
-    let all = subst (λ n. IsBestChain program_cost (λ p. Walks p arena (drop n edges) (length c.in_ok-rests.rests.items - 1) 0) first) none best in
-    let whole = subst (λ n. IsBestChain program_cost (λ p. Walks p arena edges (n - 1) 0) first) c.in_ok-rests.ensures.length all in
-    let empty = subst (IsBestChain program_cost (λ p. Walks p arena edges (nodes - 1) 0)) (sym c.take.ensures.value ∙ c.in_default.is) whole in
+    let all = subst (λ n. IsBestChain (program_cost c.args.prices.now) (λ p. Walks p arena (drop n edges) (length c.in_ok-rests.rests.items - 1) 0) first) none best in
+    let whole = subst (λ n. IsBestChain (program_cost c.args.prices.now) (λ p. Walks p arena edges (n - 1) 0) first) c.in_ok-rests.ensures.length all in
+    let empty = subst (IsBestChain (program_cost c.args.prices.now) (λ p. Walks p arena edges (nodes - 1) 0)) (sym c.take.ensures.value ∙ c.in_default.is) whole in
     let some = graph_filled arena c.keeps_made.ensures c.args.g nodes edges is in
     empty some.0 some.1
 
@@ -115,10 +115,10 @@ returns c =
     let there = here rests 0 first (omega (arith, made.some, c.loop-left.invariant.nodes, c.in_ok-rests.ensures.length)) c.index_mut.ensures.value in
     let none : c.loop-left.left ≡ 0 = omega (arith, c.loop-left-test.false) in
     let best = c.loop-left.invariant.best.each 0 first there in
-    let all = subst (λ n. IsBestChain program_cost (λ p. Walks p arena (drop n edges) (length c.in_ok-rests.rests.items - 1) 0) first) none best in
-    let whole = subst (λ n. IsBestChain program_cost (λ p. Walks p arena edges (n - 1) 0) first) c.in_ok-rests.ensures.length all in
-    let some = subst (IsBestChain program_cost (λ p. Walks p arena edges (nodes - 1) 0)) (sym c.take.ensures.value ∙ c.in-Some.is) whole in
-    least_stands arena c.args.g nodes edges c.in-Some.first is some
+    let all = subst (λ n. IsBestChain (program_cost c.args.prices.now) (λ p. Walks p arena (drop n edges) (length c.in_ok-rests.rests.items - 1) 0) first) none best in
+    let whole = subst (λ n. IsBestChain (program_cost c.args.prices.now) (λ p. Walks p arena edges (n - 1) 0) first) c.in_ok-rests.ensures.length all in
+    let some = subst (IsBestChain (program_cost c.args.prices.now) (λ p. Walks p arena edges (nodes - 1) 0)) (sym c.take.ensures.value ∙ c.in-Some.is) whole in
+    least_stands c.args.prices.now arena c.args.g nodes edges c.in-Some.first is some
 
 pub take_edge-requires-clause-cheap : goal.take_edge-requires-clause-cheap
 take_edge-requires-clause-cheap c =
@@ -138,7 +138,7 @@ take_edge-requires-clause-cheap c =
       drop left edges,
       last,
       c.loop-left.invariant.best,
-      walks_cheap arena (e ∷ drop left edges) edges last
+      walks_cheap c.args.prices.now arena (e ∷ drop left edges) edges last
           (λ k f h. (n + k, sym (get_dropped edges n k) ∙ subst (λ l. slice_get l k ≡ Some f) (sym cut) h))
-          (λ p from walk. rest_present arena c.keeps_made.ensures c.args.g nodes edges last from p is walk),
+          (λ p from walk. rest_present c.args.prices.now c.keep_small.ensures arena c.keeps_made.ensures c.args.g nodes edges last from p is walk),
     )

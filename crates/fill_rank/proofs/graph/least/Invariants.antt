@@ -6,9 +6,9 @@ use Rattle.fill_rank.proofs.graph.least.Given as goal
 abbrev pub invariant-loop-left : goal.invariant-loop-left
 invariant-loop-left l = record {
   within : l.left ≤ length l.edges;
-  known : AreKnown l.arena l.known;
+  known : AreKnown l.prices l.arena l.known;
   nodes : length l.rests.items ≡ length l.initial.rests.items;
-  best : AreBestRests l.arena (drop l.left l.edges) (length l.initial.rests.items - 1) l.rests.items;
+  best : AreBestRests l.prices l.arena (drop l.left l.edges) (length l.initial.rests.items - 1) l.rests.items;
 }
 
 abbrev pub decreases-loop-left : goal.decreases-loop-left

@@ -13,9 +13,9 @@ returns-clause-length c =
     omega (arith, simp length-append at (ap length e), c.loop-node.auto._node-end, c.requires)
 
 pub returns-clause-best : goal.returns-clause-best
-returns-clause-best c cs =
+returns-clause-best c prices cs =
     let xs = c.loop-node.rests.items in
     let counted = c.loop-node.invariant.counted in
     let n : length xs ≡ c.args.nodes - 1 = omega (arith, c.loop-node.auto._node-end, c.requires) in
-    let start = rests_start cs xs (record { cost = 0; atoms = record { atoms = c.new.result } }) c.loop-node.invariant.none refl (ap (λ l. atoms_of (map atom_tree l)) c.new.ensures) in
-    subst (λ m. AreBestRests cs [] m c.push-2.new.self.items) n (subst (AreBestRests cs [] (length xs)) (sym c.in_ok-push-2.ensures.items) start)
+    let start = rests_start prices cs xs (record { cost = 0; atoms = record { atoms = c.new.result } }) c.loop-node.invariant.none refl (ap (λ l. atoms_of (map atom_tree l)) c.new.ensures) in
+    subst (λ m. AreBestRests prices cs [] m c.push-2.new.self.items) n (subst (AreBestRests prices cs [] (length xs)) (sym c.in_ok-push-2.ensures.items) start)

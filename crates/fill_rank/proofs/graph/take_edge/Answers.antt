@@ -14,7 +14,7 @@ returns-clause-best c last others first are =
     let emptied = set old e.from c.take-before.new.self in
     let made = c.lesser.result in
     let lt : e.from < length emptied = simp length-set c.requires.from in
-    edge_step c.args.arena.now e others last first old (set emptied e.from made) c.index_mut.result.now c.index-3.result.now c.in_ok-along.along made c.in_ok-atom_of.field-0 are
+    edge_step c.args.prices.now c.args.arena.now e others last first old (set emptied e.from made) c.index_mut.result.now c.index-3.result.now c.in_ok-along.along made c.in_ok-atom_of.field-0 are
     (here old e.from c.index_mut.result.now c.requires.from c.index_mut.ensures.value) (here old e.to c.index-3.result.now c.requires.to c.index-3.ensures)
     c.in_ok-atom_of.ensures.best c.in_ok-along.ensures (subst (λ o. IsLesser chain_rank o c.in_ok-along.along made) c.take-before.ensures.value c.lesser.ensures)
     (set_here emptied e.from made lt) (λ n apart. set_apart emptied e.from made n apart ∙ set_apart old e.from c.take-before.new.self n apart)
@@ -25,7 +25,7 @@ put_atom-requires c =
     let e = c.args.edge in
     let h = c.requires.cheap in
     let next = c.index-3.result.now in
-    link_cheap c.args.arena.now e h.0 h.1 h.3 c.in_ok-atom_of.field-0 c.in_ok-atom_of.ensures.best.has next (h.2.each e.to next (here old e.to next c.requires.to c.index-3.ensures))
+    link_cheap c.args.prices.now c.args.arena.now e h.0 h.1 h.3 c.in_ok-atom_of.field-0 c.in_ok-atom_of.ensures.best.has next (h.2.each e.to next (here old e.to next c.requires.to c.index-3.ensures))
 
 pub is_dearer-requires : goal.is_dearer-requires
 is_dearer-requires c =
@@ -33,11 +33,11 @@ is_dearer-requires c =
     let e = c.args.edge in
     let h = c.requires.cheap in
     let next = c.index-2.result.now in
-    link_cheap c.args.arena.now e h.0 h.1 h.3 c.in_ok-atom_of.field-0 c.in_ok-atom_of.ensures.best.has next (h.2.each e.to next (here old e.to next c.requires.to c.index-2.ensures))
+    link_cheap c.args.prices.now c.args.arena.now e h.0 h.1 h.3 c.in_ok-atom_of.field-0 c.in_ok-atom_of.ensures.best.has next (h.2.each e.to next (here old e.to next c.requires.to c.index-2.ensures))
 
 pub returns-then-is_dearer-clause-best : goal.returns-then-is_dearer-clause-best
 returns-then-is_dearer-clause-best c last others first are =
     let old = c.args.rests.now.items in
     let e = c.args.edge in
-    edge_dear c.args.arena.now e others last first old c.index.result.now c.index-2.result.now c.in_ok-atom_of.field-0 are (here old e.from c.index.result.now c.requires.from c.index.ensures)
+    edge_dear c.args.prices.now c.args.arena.now e others last first old c.index.result.now c.index-2.result.now c.in_ok-atom_of.field-0 are (here old e.from c.index.result.now c.requires.from c.index.ensures)
     (here old e.to c.index-2.result.now c.requires.to c.index-2.ensures) c.in_ok-atom_of.ensures.best (c.if-is_dearer.ensures refl)

@@ -5,5 +5,5 @@ use Rattle.fill_rank.proofs.Put.{no_row_mixed, best_end}
 use Rattle.fill_rank.proofs.rows.no_conditions.Goals as goal
 
 pub returns : goal.returns
-returns c cs = subst (λ (atoms : List Atom). AreBestRows cs [] (record { any = Some (record { cost = 0; atoms = record { atoms = atoms } }); mixed = None })) (sym c.new.ensures)
-    (record { any = (refl, best_end cs); mixed = no_row_mixed cs })
+returns c prices cs = subst (λ (atoms : List Atom). AreBestRows prices cs [] (record { any = Some (record { cost = 0; atoms = record { atoms = atoms } }); mixed = None })) (sym c.new.ensures)
+    (record { any = (refl, best_end prices cs); mixed = no_row_mixed cs })

@@ -34,10 +34,10 @@ longer_rows-returns-clause-best t c =
       | longer_rows-in-Some+in_ok-copy-in-Some w ↦ subst (IsConstantOf i) (sym w.constant-is) (constant_kept i w.in-Some.text w.in_ok-copy-in-Some.field-0 w.in-Some.is w.in_ok-copy-in-Some.ensures)
       | longer_rows-in-None w ↦ subst (IsConstantOf i) (sym w.constant-is) w.in-None.is
     ] in
-    let b : IsBestPart arena i c.match-item-2.part = elim c.match-item-2.branch [
+    let b : IsBestPart c.args.prices.now arena i c.match-item-2.part = elim c.match-item-2.branch [
       | longer_rows-in-Some-atoms+in_ok-part-in-Some-atoms w ↦
-          subst (IsBestPart arena i) (sym w.part-is) (part_kept arena i w.in-Some-atoms.atoms w.in-Some-atoms.is w.in_ok-part-in-Some-atoms.part w.in_ok-part-in-Some-atoms.ensures.best)
-      | longer_rows-in-None-atoms w ↦ subst (IsBestPart arena i) (sym w.part-is) (no_part_kept arena i w.in-None-atoms.is)
+          subst (IsBestPart c.args.prices.now arena i) (sym w.part-is) (part_kept c.args.prices.now arena i w.in-Some-atoms.atoms w.in-Some-atoms.is w.in_ok-part-in-Some-atoms.part w.in_ok-part-in-Some-atoms.ensures.best)
+      | longer_rows-in-None-atoms w ↦ subst (IsBestPart c.args.prices.now arena i) (sym w.part-is) (no_part_kept c.args.prices.now arena i w.in-None-atoms.is)
     ] in
     ok_on _ _ c.put_in_front.result c.put_in_front.ensures (λ made h is are. h arena i is k b are)
 
@@ -49,34 +49,34 @@ longer_rows-put_in_front-requires t c =
       | longer_rows-in-Some+in_ok-copy-in-Some w ↦ subst (IsConstantOf i) (sym w.constant-is) (constant_kept i w.in-Some.text w.in_ok-copy-in-Some.field-0 w.in-Some.is w.in_ok-copy-in-Some.ensures)
       | longer_rows-in-None w ↦ subst (IsConstantOf i) (sym w.constant-is) w.in-None.is
     ] in
-    let b : IsBestPart arena i c.match-item-2.part = elim c.match-item-2.branch [
+    let b : IsBestPart c.args.prices.now arena i c.match-item-2.part = elim c.match-item-2.branch [
       | longer_rows-in-Some-atoms+in_ok-part-in-Some-atoms w ↦
-          subst (IsBestPart arena i) (sym w.part-is) (part_kept arena i w.in-Some-atoms.atoms w.in-Some-atoms.is w.in_ok-part-in-Some-atoms.part w.in_ok-part-in-Some-atoms.ensures.best)
-      | longer_rows-in-None-atoms w ↦ subst (IsBestPart arena i) (sym w.part-is) (no_part_kept arena i w.in-None-atoms.is)
+          subst (IsBestPart c.args.prices.now arena i) (sym w.part-is) (part_kept c.args.prices.now arena i w.in-Some-atoms.atoms w.in-Some-atoms.is w.in_ok-part-in-Some-atoms.part w.in_ok-part-in-Some-atoms.ensures.best)
+      | longer_rows-in-None-atoms w ↦ subst (IsBestPart c.args.prices.now arena i) (sym w.part-is) (no_part_kept c.args.prices.now arena i w.in-None-atoms.is)
     ] in
     let h = c.requires.rows in
-    let cheap = rows_cheap arena c.keeps_made.ensures c.args.set i h.0 h.1 h.2 c.match-item.constant c.match-item-2.part c.args.rows k b h.3 in
+    let cheap = rows_cheap c.args.prices.now c.keep_small.ensures arena c.keeps_made.ensures c.args.set i h.0 h.1 h.2 c.match-item.constant c.match-item-2.part c.args.rows k b h.3 in
     record { fixed = cheap.0; part = cheap.1; later = cheap.2 }
 
 pub lookup_in-unreachable-requires : goal.lookup_in-unreachable-requires
 lookup_in-unreachable-requires t c =
     let arena = c.args.arena.now in
     let i = c.args.item.now in
-    let best = subst (λ xs. IsBestChain conditions_cost (λ p. HasPart p × ConditionsFit p arena xs) c.in_ok-rows.rows.mixed) c.as_slice.ensures c.in_ok-rows.ensures.best.mixed in
-    let none = subst (IsBestChain conditions_cost (λ p. HasPart p × ConditionsFit p arena i.conditions)) c.in_default.is best in
+    let best = subst (λ xs. IsBestChain (conditions_cost c.args.prices.now) (λ p. HasPart p × ConditionsFit p arena xs) c.in_ok-rows.rows.mixed) c.as_slice.ensures c.in_ok-rows.ensures.best.mixed in
+    let none = subst (IsBestChain (conditions_cost c.args.prices.now) (λ p. HasPart p × ConditionsFit p arena i.conditions)) c.in_default.is best in
     no_lookup arena i none c.requires.item.filled
 
 pub lookup_in-returns-clause-best : goal.lookup_in-returns-clause-best
 lookup_in-returns-clause-best t c =
     let arena = c.args.arena.now in
     let i = c.args.item.now in
-    let best = subst (λ xs. IsBestChain conditions_cost (λ p. HasPart p × ConditionsFit p arena xs) c.in_ok-rows.rows.mixed) c.as_slice.ensures c.in_ok-rows.ensures.best.mixed in
-    let some = subst (IsBestChain conditions_cost (λ p. HasPart p × ConditionsFit p arena i.conditions)) c.in-Some.is best in
+    let best = subst (λ xs. IsBestChain (conditions_cost c.args.prices.now) (λ p. HasPart p × ConditionsFit p arena xs) c.in_ok-rows.rows.mixed) c.as_slice.ensures c.in_ok-rows.ensures.best.mixed in
+    let some = subst (IsBestChain (conditions_cost c.args.prices.now) (λ p. HasPart p × ConditionsFit p arena i.conditions)) c.in-Some.is best in
     let boxed = c.in_ok-new.ensures.ok in
     let one : source_tree (source.Select c.in_ok-new.field-0) ≡ select_tree c.in_ok-new.field-0.value = search (rules, the_lemmas) in
     let two : select_tree c.in_ok-new.field-0.value ≡ select i.column i.table i.key (program_tree c.in-Some.row.atoms) = rw boxed (search (rules, the_lemmas)) in
     let tree : source_tree (source.Select c.in_ok-new.field-0) ≡ select i.column i.table i.key (program_tree c.in-Some.row.atoms) = one ∙ two in
-    subst (IsBest source_rank _) (sym tree) (best_select arena i (program_tree c.in-Some.row.atoms) some.1)
+    subst (IsBest (source_rank c.args.prices.now) _) (sym tree) (best_select c.args.prices.now arena i (program_tree c.in-Some.row.atoms) some.1)
 
 pub part_in-returns-in_ok-right-in-Sub-clause-best : goal.part_in-returns-in_ok-right-in-Sub-clause-best
 part_in-returns-in_ok-right-in-Sub-clause-best t c =
@@ -84,20 +84,20 @@ part_in-returns-in_ok-right-in-Sub-clause-best t c =
     let x = c.in_ok-source-in-Sub.source in
     let p = c.in_ok-left-in-Sub.left in
     let q = c.in_ok-right-in-Sub.right in
-    let best = best_sub arena c.in-Sub.sources c.in-Sub.lefts c.in-Sub.rights (source_tree x) p q c.in_ok-source-in-Sub.ensures.best c.in_ok-left-in-Sub.ensures.best c.in_ok-right-in-Sub.ensures.best in
-    subst (λ i. IsBest atom_rank (λ a. PartFits arena i a) (atom_tree (Sub x p q))) (sym c.in-Sub.is)
-    (subst (IsBest atom_rank (λ a. PartFits arena (item.Sub c.in-Sub.sources c.in-Sub.lefts c.in-Sub.rights) a)) (sym (sub_tree x p q)) best)
+    let best = best_sub c.args.prices.now arena c.in-Sub.sources c.in-Sub.lefts c.in-Sub.rights (source_tree x) p q c.in_ok-source-in-Sub.ensures.best c.in_ok-left-in-Sub.ensures.best c.in_ok-right-in-Sub.ensures.best in
+    subst (λ i. IsBest (atom_rank c.args.prices.now) (λ a. PartFits arena i a) (atom_tree (Sub x p q))) (sym c.in-Sub.is)
+    (subst (IsBest (atom_rank c.args.prices.now) (λ a. PartFits arena (item.Sub c.in-Sub.sources c.in-Sub.lefts c.in-Sub.rights) a)) (sym (sub_tree x p q)) best)
 
 pub part_of-returns-clause-known : goal.part_of-returns-clause-known
 part_of-returns-clause-known t c =
     let arena = c.args.arena.now in
-    c.in_ok-keep_part.ensures.kept arena c.in_ok-best.ensures.known (copied_best (PartStands arena c.args.s) c.in_ok-best.best c.in_ok-copy_of.field-0 c.in_ok-copy_of.ensures c.in_ok-best.ensures.best)
+    c.in_ok-keep_part.ensures.kept c.args.prices.now arena c.in_ok-best.ensures.known (copied_best c.args.prices.now (PartStands arena c.args.s) c.in_ok-best.best c.in_ok-copy_of.field-0 c.in_ok-copy_of.ensures c.in_ok-best.ensures.best)
 
 pub rows_of-loop-left-init : goal.rows_of-loop-left-init
 rows_of-loop-left-init t c = record {
   within = omega arith;
   known = c.requires.known;
-  best = subst (λ xs. AreBestRows c.args.arena.now xs c.no_conditions-rows.result) (sym (drop_whole c.args.items.now)) (c.no_conditions-rows.ensures c.args.arena.now);
+  best = subst (λ xs. AreBestRows c.args.prices.now c.args.arena.now xs c.no_conditions-rows.result) (sym (drop_whole c.args.items.now)) (c.no_conditions-rows.ensures c.args.prices.now c.args.arena.now);
 }
 
 pub rows_of-longer_rows-requires : goal.rows_of-longer_rows-requires
@@ -114,7 +114,7 @@ rows_of-longer_rows-requires t c =
     let few = c.requires.few in
     let short : length (drop n items) ≤ 3 = omega (arith, length-drop n items) in
     let few_here : length (x ∷ drop c.loop-left.left items) ≤ 3 = subst (λ (l : List ConditionItem). length l ≤ 3) cut short in
-    let rows : (is : List ConditionItem) × EachIn P (x ∷ is) × (length (x ∷ is) ≤ 3) × AreBestRows c.args.arena.now is c.loop-left.rows =
+    let rows : (is : List ConditionItem) × EachIn P (x ∷ is) × (length (x ∷ is) ≤ 3) × AreBestRows c.args.prices.now c.args.arena.now is c.loop-left.rows =
     (drop c.loop-left.left items, older, few_here, c.loop-left.invariant.best) in
     (search rules, (c.requires.items n x at, (rows, c.loop-left.invariant.known)))
 
@@ -131,13 +131,13 @@ rows_of-loop-left-preserved t c =
     record {
       within = omega arith;
       known = c.in_ok-rows.ensures.known;
-      best = subst (λ xs. AreBestRows arena xs c.in_ok-rows.rows) (sym cut) (c.in_ok-rows.ensures.best (drop c.loop-left.left items) c.loop-left.invariant.best);
+      best = subst (λ xs. AreBestRows c.args.prices.now arena xs c.in_ok-rows.rows) (sym cut) (c.in_ok-rows.ensures.best (drop c.loop-left.left items) c.loop-left.invariant.best);
     }
 
 pub rows_of-returns-clause-best : goal.rows_of-returns-clause-best
 rows_of-returns-clause-best t c =
     let none : c.loop-left.left ≡ 0 = omega (arith, c.loop-left-test.false) in
-    subst (λ n. AreBestRows c.args.arena.now (drop n c.args.items.now) c.loop-left.rows) none c.loop-left.invariant.best
+    subst (λ n. AreBestRows c.args.prices.now c.args.arena.now (drop n c.args.items.now) c.loop-left.rows) none c.loop-left.invariant.best
 
 pub scan_parts-part_in-requires : goal.scan_parts-part_in-requires
 scan_parts-part_in-requires t c =
@@ -153,7 +153,7 @@ scan_parts-loop-item-preserved t c =
     let x = c.item-item.result in
     record {
       known = c.in_ok-next.ensures.known;
-      best = scan_step (λ x a. PartFits c.args.arena.now x a) items atom_tree atom_rank atom_rank-total atom_rank-exact i x (here items i x c.loop-item-test.true c.item-item.is)
+      best = scan_step (λ x a. PartFits c.args.arena.now x a) items atom_tree (atom_rank c.args.prices.now) (atom_rank-total c.args.prices.now) (atom_rank-exact c.args.prices.now) i x (here items i x c.loop-item-test.true c.item-item.is)
           c.loop-item.best c.in_ok-next.next c.lesser_atom-best.result c.lesser_atom-best.ensures c.loop-item.invariant.best c.in_ok-next.ensures.best;
     }
 
@@ -161,7 +161,7 @@ pub scan_parts-returns-clause-best : goal.scan_parts-returns-clause-best
 scan_parts-returns-clause-best t c =
     let arena = c.args.arena.now in
     let items = c.atoms-items.result.now in
-    scan_done (λ x a. PartFits arena x a) items atom_tree atom_rank (PartStands arena c.args.s)
+    scan_done (λ x a. PartFits arena x a) items atom_tree (atom_rank c.args.prices.now) (PartStands arena c.args.s)
     (atom_items arena c.args.s items c.atoms-items.ensures IsPart) (items_atom arena c.args.s items c.atoms-items.ensures IsPart)
     c.loop-item.item-index c.loop-item-test.false c.loop-item.best c.loop-item.invariant.best
 
@@ -179,7 +179,7 @@ scan_sources-loop-item-preserved t c =
     let x = c.item-item.result in
     record {
       known = c.in_ok-next.ensures.known;
-      best = scan_step (λ y s. SourceFits s c.args.arena.now y) items source_tree source_rank source_rank-total source_rank-exact i x (here items i x c.loop-item-test.true c.item-item.is)
+      best = scan_step (λ y s. SourceFits s c.args.arena.now y) items source_tree (source_rank c.args.prices.now) (source_rank-total c.args.prices.now) (source_rank-exact c.args.prices.now) i x (here items i x c.loop-item-test.true c.item-item.is)
           c.loop-item.best (Some c.in_ok-next.next) c.lesser_source-best.result c.lesser_source-best.ensures c.loop-item.invariant.best c.in_ok-next.ensures.best;
     }
 
@@ -187,10 +187,10 @@ pub scan_sources-unreachable-requires : goal.scan_sources-unreachable-requires
 scan_sources-unreachable-requires t c =
     let arena = c.args.arena.now in
     let items = c.sources-items.result.now in
-    let done = scan_done (λ y s. SourceFits s arena y) items source_tree source_rank (SourceStands arena c.args.s)
+    let done = scan_done (λ y s. SourceFits s arena y) items source_tree (source_rank c.args.prices.now) (SourceStands arena c.args.s)
     (source_items arena c.args.s items c.sources-items.ensures) (items_source arena c.args.s items c.sources-items.ensures)
     c.loop-item.item-index c.loop-item-test.false c.loop-item.best c.loop-item.invariant.best in
-    let none = subst (IsBestOf source_tree source_rank (SourceStands arena c.args.s)) c.in_default.is done in
+    let none = subst (IsBestOf source_tree (source_rank c.args.prices.now) (SourceStands arena c.args.s)) c.in_default.is done in
     let x = source_filled arena c.keeps_made.ensures c.args.s (items, c.sources-items.ensures) in
     none x.0 x.1
 
@@ -198,10 +198,10 @@ pub scan_sources-returns-clause-best : goal.scan_sources-returns-clause-best
 scan_sources-returns-clause-best t c =
     let arena = c.args.arena.now in
     let items = c.sources-items.result.now in
-    let done = scan_done (λ y s. SourceFits s arena y) items source_tree source_rank (SourceStands arena c.args.s)
+    let done = scan_done (λ y s. SourceFits s arena y) items source_tree (source_rank c.args.prices.now) (SourceStands arena c.args.s)
     (source_items arena c.args.s items c.sources-items.ensures) (items_source arena c.args.s items c.sources-items.ensures)
     c.loop-item.item-index c.loop-item-test.false c.loop-item.best c.loop-item.invariant.best in
-    subst (IsBestOf source_tree source_rank (SourceStands arena c.args.s)) c.in-Some.is done
+    subst (IsBestOf source_tree (source_rank c.args.prices.now) (SourceStands arena c.args.s)) c.in-Some.is done
 
 pub scan_sources-lesser_source-best-requires : goal.scan_sources-lesser_source-best-requires
 scan_sources-lesser_source-best-requires t c =
@@ -211,8 +211,8 @@ scan_sources-lesser_source-best-requires t c =
     let x = c.item-item.result in
     let each = (c.keeps_made.ensures c.args.s (Sources items) c.sources-items.ensures).each in
     record {
-      best = sources_cheap arena c.keeps_made.ensures c.args.s items each i c.loop-item.best c.loop-item.invariant.best;
-      next = source_cheap arena c.keeps_made.ensures c.args.s x (each i x (here items i x c.loop-item-test.true c.item-item.is)) c.in_ok-next.next c.in_ok-next.ensures.best;
+      best = sources_cheap c.args.prices.now c.keep_small.ensures arena c.keeps_made.ensures c.args.s items each i c.loop-item.best c.loop-item.invariant.best;
+      next = source_cheap c.args.prices.now c.keep_small.ensures arena c.keeps_made.ensures c.args.s x (each i x (here items i x c.loop-item-test.true c.item-item.is)) c.in_ok-next.next c.in_ok-next.ensures.best;
     }
 
 pub scan_parts-lesser_atom-best-requires : goal.scan_parts-lesser_atom-best-requires
@@ -223,6 +223,6 @@ scan_parts-lesser_atom-best-requires t c =
     let x = c.item-item.result in
     let each = (c.keeps_made.ensures c.args.s (Atoms items) c.atoms-items.ensures).each in
     record {
-      best = atoms_cheap arena c.keeps_made.ensures c.args.s (PartFits arena) (part_fits arena) items each i c.loop-item.best c.loop-item.invariant.best;
-      next = atom_cheap arena c.keeps_made.ensures c.args.s (PartFits arena) (part_fits arena) x (each i x (here items i x c.loop-item-test.true c.item-item.is)) c.in_ok-next.next c.in_ok-next.ensures.best;
+      best = atoms_cheap c.args.prices.now c.keep_small.ensures arena c.keeps_made.ensures c.args.s (PartFits arena) (part_fits arena) items each i c.loop-item.best c.loop-item.invariant.best;
+      next = atom_cheap c.args.prices.now c.keep_small.ensures arena c.keeps_made.ensures c.args.s (PartFits arena) (part_fits arena) x (each i x (here items i x c.loop-item-test.true c.item-item.is)) c.in_ok-next.next c.in_ok-next.ensures.best;
     }

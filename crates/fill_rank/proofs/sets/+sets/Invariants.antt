@@ -35,21 +35,21 @@ decreases-part_in l = 8 * l.set
 
 abbrev pub invariant-scan_sources-loop-item : goal.invariant-scan_sources-loop-item
 invariant-scan_sources-loop-item l = record {
-  known : AreKnown l.arena l.known;
-  best : IsBestOf source_tree source_rank (λ x. SomeBelow l.item-index l.items (λ y. SourceFits x l.arena y)) l.best;
+  known : AreKnown l.prices l.arena l.known;
+  best : IsBestOf source_tree (source_rank l.prices) (λ x. SomeBelow l.item-index l.items (λ y. SourceFits x l.arena y)) l.best;
 }
 
 abbrev pub invariant-scan_parts-loop-item : goal.invariant-scan_parts-loop-item
 invariant-scan_parts-loop-item l = record {
-  known : AreKnown l.arena l.known;
-  best : IsBestOf atom_tree atom_rank (λ a. SomeBelow l.item-index l.items (λ y. PartFits l.arena y a)) l.best;
+  known : AreKnown l.prices l.arena l.known;
+  best : IsBestOf atom_tree (atom_rank l.prices) (λ a. SomeBelow l.item-index l.items (λ y. PartFits l.arena y a)) l.best;
 }
 
 abbrev pub invariant-rows_of-loop-left : goal.invariant-rows_of-loop-left
 invariant-rows_of-loop-left l = record {
   within : l.left ≤ length l.items;
-  known : AreKnown l.arena l.known;
-  best : AreBestRows l.arena (drop l.left l.items) l.rows;
+  known : AreKnown l.prices l.arena l.known;
+  best : AreBestRows l.prices l.arena (drop l.left l.items) l.rows;
 }
 
 abbrev pub decreases-rows_of-loop-left : goal.decreases-rows_of-loop-left

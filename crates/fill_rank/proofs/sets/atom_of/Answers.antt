@@ -11,8 +11,8 @@ pub unreachable-requires : goal.unreachable-requires
 unreachable-requires c =
     let arena = c.args.arena.now in
     let s = c.args.s in
-    let best = atom_best arena s c.in_ok-constant.constant c.in_ok-part.part c.lesser_atom.result c.lesser_atom.ensures c.in_ok-constant.ensures c.in_ok-part.ensures.best in
-    let none = subst (IsBestOf atom_tree atom_rank (AtomStands arena s)) c.in_default.is best in
+    let best = atom_best c.args.prices.now arena s c.in_ok-constant.constant c.in_ok-part.part c.lesser_atom.result c.lesser_atom.ensures c.in_ok-constant.ensures c.in_ok-part.ensures.best in
+    let none = subst (IsBestOf atom_tree (atom_rank c.args.prices.now) (AtomStands arena s)) c.in_default.is best in
     let a = atom_filled arena c.keeps_made.ensures s c.requires.set in
     none a.0 a.1
 
@@ -20,13 +20,13 @@ pub returns-clause-best : goal.returns-clause-best
 returns-clause-best c =
     let arena = c.args.arena.now in
     let s = c.args.s in
-    let best = atom_best arena s c.in_ok-constant.constant c.in_ok-part.part c.lesser_atom.result c.lesser_atom.ensures c.in_ok-constant.ensures c.in_ok-part.ensures.best in
-    subst (IsBestOf atom_tree atom_rank (AtomStands arena s)) c.in-Some.is best
+    let best = atom_best c.args.prices.now arena s c.in_ok-constant.constant c.in_ok-part.part c.lesser_atom.result c.lesser_atom.ensures c.in_ok-constant.ensures c.in_ok-part.ensures.best in
+    subst (IsBestOf atom_tree (atom_rank c.args.prices.now) (AtomStands arena s)) c.in-Some.is best
 
 pub lesser_atom-requires : goal.lesser_atom-requires
 lesser_atom-requires c =
     let arena = c.args.arena.now in
     record {
-      best = constant_cheap arena c.keeps_made.ensures c.args.s c.in_ok-constant.constant c.in_ok-constant.ensures;
-      next = part_cheap arena c.keeps_made.ensures c.args.s c.in_ok-part.part c.in_ok-part.ensures.best;
+      best = constant_cheap c.args.prices.now c.keep_small.ensures arena c.keeps_made.ensures c.args.s c.in_ok-constant.constant c.in_ok-constant.ensures;
+      next = part_cheap c.args.prices.now c.keep_small.ensures arena c.keeps_made.ensures c.args.s c.in_ok-part.part c.in_ok-part.ensures.best;
     }

@@ -10,9 +10,9 @@ use Rattle.fill_rank.proofs.Trees.{constant_tree}
 use Rattle.fill_rank.proofs.sets.constant_in.Goals as goal
 
 pub returns-in_ok-copy-in-Const : goal.returns-in_ok-copy-in-Const
-returns-in_ok-copy-in-Const c cs =
+returns-in_ok-copy-in-Const c prices cs =
     let text = c.in-Const.text in
     let is = constant_tree c.in_ok-copy-in-Const.field-0 ∙ ap constant c.in_ok-copy-in-Const.ensures in
     let kept = c.in_ok-copy-in-Const.field-0 in
-    subst (λ i. IsBest atom_rank (λ a. ConstantFits cs i a) (atom_tree (Const kept))) (sym c.in-Const.is)
-    (subst (IsBest atom_rank (λ a. ConstantFits cs (item.Const text) a)) (sym is) (best_constant cs text))
+    subst (λ i. IsBest (atom_rank prices) (λ a. ConstantFits cs i a) (atom_tree (Const kept))) (sym c.in-Const.is)
+    (subst (IsBest (atom_rank prices) (λ a. ConstantFits cs (item.Const text) a)) (sym is) (best_constant prices cs text))

@@ -15,14 +15,14 @@ loop-item-preserved c =
     let items = c.atoms-item-items.result.now in
     let i = c.loop-item.item-index in
     let x = c.item-item.result in
-    scan_step (λ x a. ConstantFits c.args.arena.now x a) items atom_tree atom_rank atom_rank-total atom_rank-exact i x (here items i x c.loop-item-test.true c.item-item.is)
-    c.loop-item.best c.in_ok-constant_in.field-0 c.lesser_atom-best.result c.lesser_atom-best.ensures c.loop-item.invariant (c.in_ok-constant_in.ensures c.args.arena.now)
+    scan_step (λ x a. ConstantFits c.args.arena.now x a) items atom_tree (atom_rank c.args.prices.now) (atom_rank-total c.args.prices.now) (atom_rank-exact c.args.prices.now) i x (here items i x c.loop-item-test.true c.item-item.is)
+    c.loop-item.best c.in_ok-constant_in.field-0 c.lesser_atom-best.result c.lesser_atom-best.ensures c.loop-item.invariant (c.in_ok-constant_in.ensures c.args.prices.now c.args.arena.now)
 
 pub returns : goal.returns
 returns c =
     let arena = c.args.arena.now in
     let items = c.atoms-item-items.result.now in
-    scan_done (λ x a. ConstantFits arena x a) items atom_tree atom_rank (ConstantStands arena c.args.s)
+    scan_done (λ x a. ConstantFits arena x a) items atom_tree (atom_rank c.args.prices.now) (ConstantStands arena c.args.s)
     (atom_items arena c.args.s items c.atoms-item-items.ensures (λ a. ¬ (IsPart a))) (items_atom arena c.args.s items c.atoms-item-items.ensures (λ a. ¬ (IsPart a)))
     c.loop-item.item-index c.loop-item-test.false c.loop-item.best c.loop-item.invariant
 
@@ -34,7 +34,7 @@ lesser_atom-best-requires c =
     let x = c.item-item.result in
     let each = (c.keeps_made.ensures c.args.s (Atoms items) c.atoms-item-items.ensures).each in
     record {
-      best = atoms_cheap arena c.keeps_made.ensures c.args.s (ConstantFits arena) (constant_fits arena) items each i c.loop-item.best c.loop-item.invariant;
-      next = atom_cheap arena c.keeps_made.ensures c.args.s (ConstantFits arena) (constant_fits arena) x (each i x (here items i x c.loop-item-test.true c.item-item.is)) c.in_ok-constant_in.field-0
-          (c.in_ok-constant_in.ensures arena);
+      best = atoms_cheap c.args.prices.now c.keep_small.ensures arena c.keeps_made.ensures c.args.s (ConstantFits arena) (constant_fits arena) items each i c.loop-item.best c.loop-item.invariant;
+      next = atom_cheap c.args.prices.now c.keep_small.ensures arena c.keeps_made.ensures c.args.s (ConstantFits arena) (constant_fits arena) x (each i x (here items i x c.loop-item-test.true c.item-item.is)) c.in_ok-constant_in.field-0
+          (c.in_ok-constant_in.ensures c.args.prices.now arena);
     }

@@ -4,4 +4,4 @@ use Rattle.fill_rank.specs.Sets.{ConstantFits, SomeBelow}
 use Rattle.fill_rank.proofs.sets.constant_of.Given as goal
 
 abbrev pub invariant-loop-item : goal.invariant-loop-item
-invariant-loop-item l = IsBestOf atom_tree atom_rank (λ a. SomeBelow l.item-index l.item-items (λ x. ConstantFits l.arena x a)) l.best
+invariant-loop-item l = IsBestOf atom_tree (atom_rank l.prices) (λ a. SomeBelow l.item-index l.item-items (λ x. ConstantFits l.arena x a)) l.best

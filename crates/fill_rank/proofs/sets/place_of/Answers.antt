@@ -6,8 +6,8 @@ pub least_place-best-requires : goal.least_place-best-requires
 least_place-best-requires c = (c.keeps_made.ensures c.args.s (Places c.places.result.now) c.places.ensures).some
 
 pub returns-clause-known : goal.returns-clause-known
-returns-clause-known c = c.in_ok-keep_place.ensures.kept c.args.arena.now c.requires.known
-    (place_best c.args.arena.now c.args.s c.places.result.now c.least_place-best.result c.places.ensures c.least_place-best.ensures)
+returns-clause-known c = c.in_ok-keep_place.ensures.kept c.args.prices.now c.args.arena.now c.requires.known
+    (place_best c.args.prices.now c.args.arena.now c.args.s c.places.result.now c.least_place-best.result c.places.ensures c.least_place-best.ensures)
 
 pub returns-clause-best : goal.returns-clause-best
-returns-clause-best c = place_best c.args.arena.now c.args.s c.places.result.now c.least_place-best.result c.places.ensures c.least_place-best.ensures
+returns-clause-best c = place_best c.args.prices.now c.args.arena.now c.args.s c.places.result.now c.least_place-best.result c.places.ensures c.least_place-best.ensures

@@ -8,5 +8,5 @@ abbrev pub invariant-loop-k : goal.invariant-loop-k
 invariant-loop-k l =
     record {
       long : length l.places.items ≡ l.k;
-      recalled : (c : List Entry) → PlacesStand c l.memory → AreRecalled l.profile c (texts_in l.texts) l.places.items;
+      recalled : (c : List Entry) → PlacesStand c l.memory → AreRecalled l.token_set c (texts_in l.texts) l.places.items;
     }

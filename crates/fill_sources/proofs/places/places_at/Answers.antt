@@ -1,7 +1,7 @@
 use Rattle.std.proofs.Common.{List, subst, sym}
 use Rattle.fill_text.specs.Lists.{Lists}
 use Rattle.fill_tokens.specs.Place.{place_cmp}
-use Rattle.fill_tokens.specs.Profile.{IsPlaceOf}
+use Rattle.fill_tokens.specs.TokenSet.{IsPlaceOf}
 use Rattle.fill_tokens.specs.Value.{HasValue}
 use Rattle.fill_tokens.specs.declared.place.Place.{Place}
 use Rattle.fill_sources.specs.Origins.{texts_in}
@@ -13,7 +13,7 @@ made : (c : goal.After-drop-places-inside-2) → IsPlaceMade c.args.look.now.on.
 made c v at =
     let on = c.args.look.now.on.now in
     c.in_ok-made.ensures.made on v c.args.h.at
-    (subst (λ (l : List Place). Lists place_cmp (λ p. IsPlaceOf on.settings.profile p × HasValue p v c.args.h.at) l) (sym c.as_slice.ensures) (c.in_ok-places.ensures.places v at))
+    (subst (λ (l : List Place). Lists place_cmp (λ p. IsPlaceOf on.settings.profile.tokens p × HasValue p v c.args.h.at) l) (sym c.as_slice.ensures) (c.in_ok-places.ensures.places v at))
 
 pub returns-clause-made : goal.returns-clause-made
 returns-clause-made c = made c

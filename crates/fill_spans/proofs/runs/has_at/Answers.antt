@@ -9,4 +9,4 @@ returns c =
     let ks = c.args.classes.now in
     let k : Class = get_or ks c.args.i none in
     let at : slice_get ks c.args.i ≡ Some k = slice_get-get_or ks c.args.i none (omega (arith, c.requires.classes.long, c.requires.place)) in
-    c.has.ensures (slice_index c.args.t.now c.args.i) (c.requires.classes.each c.args.i k at)
+    c.is_among.ensures (slice_index c.args.t.now c.args.i) (c.requires.classes.each c.args.i k at)

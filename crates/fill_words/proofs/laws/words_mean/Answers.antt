@@ -6,4 +6,4 @@ use Rattle.fill_words.proofs.laws.words_mean.Goals as goal
 
 pub returns : goal.returns
 unfolding clap_on_literals asked_in app
-returns c = record { fewest = refl; most = refl; help = refl; none = refl; only = refl }
+returns c = record { fewest = refl; most = refl; added = refl; help = refl; none = refl; both = refl; neither = refl; unsplit = refl; only = refl }

@@ -6,4 +6,4 @@ use Rattle.fill_rank.proofs.Maps.{found_right}
 use Rattle.fill_best.proofs.known.Known.atoms.Goals as goal
 
 pub returns : goal.returns
-returns c cs k known = found_right (λ o. AreCheapest atom_cost atom_cmp (AtomStands cs c.args.s) k o.value.items) _ _ c.get.ensures.value (known.atoms c.args.s)
+returns c prices cs k known = found_right (λ o. AreCheapest (atom_cost prices) atom_cmp (AtomStands cs c.args.s) k o.value.items) _ _ c.get.ensures.value (known.atoms c.args.s)

@@ -1,16 +1,17 @@
 use Rattle.std.proofs.Common.{nat_eq}
 use Rattle.std.specs.HashMap.{get}
-use Rattle.fill_tokens.specs.Place.{place_cost, place_cmp}
+use Rattle.fill_tokens.specs.Place.{place_cmp}
+use Rattle.fill_tokens.specs.Prices.{place_cost}
 use Rattle.fill_arena.specs.Stands.{PlaceStands}
 use Rattle.fill_best.specs.Cheapest.{AreCheapest}
 use Rattle.fill_rank.proofs.Maps.{put_right}
 use Rattle.fill_best.proofs.known.Known.keep_places.Goals as goal
 
 pub returns-in-Ok : goal.returns-in-Ok
-returns-in-Ok c cs k known first =
+returns-in-Ok c prices cs k known first =
     let u = c.in-Ok.ensures.updates in
     record {
-      places = put_right (λ q. get nat_eq c.args.self.now.places q) (λ q. get nat_eq c.insert.new.self q) (λ q o. AreCheapest place_cost place_cmp (PlaceStands cs q) k o.value.items) c.args.s c.args.found u.1 u.2 known.places first;
+      places = put_right (λ q. get nat_eq c.args.self.now.places q) (λ q. get nat_eq c.insert.new.self q) (λ q o. AreCheapest (place_cost prices) place_cmp (PlaceStands cs q) k o.value.items) c.args.s c.args.found u.1 u.2 known.places first;
       sources = known.sources;
       parts = known.parts;
       atoms = known.atoms;

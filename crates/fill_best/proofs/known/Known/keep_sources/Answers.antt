@@ -8,11 +8,11 @@ use Rattle.fill_rank.proofs.Maps.{put_right}
 use Rattle.fill_best.proofs.known.Known.keep_sources.Goals as goal
 
 pub returns-in-Ok : goal.returns-in-Ok
-returns-in-Ok c cs k known first =
+returns-in-Ok c prices cs k known first =
     let u = c.in-Ok.ensures.updates in
     record {
       places = known.places;
-      sources = put_right (λ q. get nat_eq c.args.self.now.sources q) (λ q. get nat_eq c.insert.new.self q) (λ q o. AreCheapest source_cost source_cmp (SourceStands cs q) k o.value.items) c.args.s c.args.found u.1 u.2 known.sources first;
+      sources = put_right (λ q. get nat_eq c.args.self.now.sources q) (λ q. get nat_eq c.insert.new.self q) (λ q o. AreCheapest (source_cost prices) source_cmp (SourceStands cs q) k o.value.items) c.args.s c.args.found u.1 u.2 known.sources first;
       parts = known.parts;
       atoms = known.atoms;
     }

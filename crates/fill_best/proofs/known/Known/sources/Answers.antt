@@ -6,4 +6,4 @@ use Rattle.fill_rank.proofs.Maps.{found_right}
 use Rattle.fill_best.proofs.known.Known.sources.Goals as goal
 
 pub returns : goal.returns
-returns c cs k known = found_right (λ o. AreCheapest source_cost source_cmp (SourceStands cs c.args.s) k o.value.items) _ _ c.get.ensures.value (known.sources c.args.s)
+returns c prices cs k known = found_right (λ o. AreCheapest (source_cost prices) source_cmp (SourceStands cs c.args.s) k o.value.items) _ _ c.get.ensures.value (known.sources c.args.s)

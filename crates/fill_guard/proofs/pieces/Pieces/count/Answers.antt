@@ -1,9 +1,18 @@
 use Rattle.std.proofs.Common.{◌≡◌, ◌∷◌, [], ◌+◌, ℕ, List, length, arith, subst, sym, ap, ◌∙◌, min}
+use Rattle.fill_tokens.specs.TokenSet.{IsTokenOf}
 use Rattle.fill_tokens.specs.declared.token.Token.{Token}
+use Rattle.fill_tokens.specs.declared.token_set.TokenSet.{TokenSet}
 use Rattle.fill_tokens.proofs.SeqOrder.{one_is, two_is}
+use Rattle.fill_tokens.proofs.TokenLaws.{in_all}
 use Rattle.fill_guard.specs.Matches.{IsMatchCount, IsFew, IsJoined, AreBelow}
 use Rattle.fill_guard.proofs.MatchLaws.{count_of_one, count_of_two, starts_below}
 use Rattle.fill_guard.proofs.pieces.Pieces.count.Goals as goal
+
+pub pieces-first-requires : goal.pieces-first-requires
+pieces-first-requires c = subst (λ (s : TokenSet). IsTokenOf s c.token.result) (sym c.self.invariant) (in_all c.token.result)
+
+pub pieces-second-requires : goal.pieces-second-requires
+pieces-second-requires c = subst (λ (s : TokenSet). IsTokenOf s c.token-2.result) (sym c.self.invariant) (in_all c.token-2.result)
 
 pub returns-then-len-eq1 : goal.returns-then-len-eq1
 returns-then-len-eq1 c =

@@ -7,4 +7,4 @@ use Rattle.fill_places.specs.Wanted.{IsWanted}
 use Rattle.fill_places.proofs.index.PlaceIndex.places_at.Goals as goal
 
 pub returns : goal.returns
-returns c = subst (λ (v : IndexView). IfOk c.list_places.result (Lists place_cmp (IsWanted v.profile v.text c.args.k))) c.self.view_is c.list_places.ensures
+returns c = subst (λ (v : IndexView). IfOk c.list_places.result (Lists place_cmp (IsWanted v.token_set v.text c.args.k))) c.self.view_is c.list_places.ensures

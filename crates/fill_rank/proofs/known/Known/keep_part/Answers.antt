@@ -7,10 +7,10 @@ use Rattle.fill_rank.proofs.Maps.{put_right}
 use Rattle.fill_rank.proofs.known.Known.keep_part.Goals as goal
 
 pub returns-in-Ok-clause-kept : goal.returns-in-Ok-clause-kept
-returns-in-Ok-clause-kept c cs known best =
+returns-in-Ok-clause-kept c prices cs known best =
     let u = c.in-Ok.ensures.updates in
     record {
       places = known.places;
       sources = known.sources;
-      parts = put_right (λ q. get nat_eq c.args.self.now.parts q) (λ q. get nat_eq c.insert.new.self q) (λ q o. IsBestOf atom_tree atom_rank (PartStands cs q) o) c.args.s c.args.o u.1 u.2 known.parts best;
+      parts = put_right (λ q. get nat_eq c.args.self.now.parts q) (λ q. get nat_eq c.insert.new.self q) (λ q o. IsBestOf atom_tree (atom_rank prices) (PartStands cs q) o) c.args.s c.args.o u.1 u.2 known.parts best;
     }

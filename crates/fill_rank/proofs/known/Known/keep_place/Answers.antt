@@ -6,10 +6,10 @@ use Rattle.fill_rank.proofs.Maps.{put_right}
 use Rattle.fill_rank.proofs.known.Known.keep_place.Goals as goal
 
 pub returns-in-Ok-clause-kept : goal.returns-in-Ok-clause-kept
-returns-in-Ok-clause-kept c cs known best =
+returns-in-Ok-clause-kept c prices cs known best =
     let u = c.in-Ok.ensures.updates in
     record {
-      places = put_right (λ q. get nat_eq c.args.self.now.places q) (λ q. get nat_eq c.insert.new.self q) (λ q p. IsBest place_rank (PlaceStands cs q) p) c.args.s c.args.p.now u.1 u.2 known.places best;
+      places = put_right (λ q. get nat_eq c.args.self.now.places q) (λ q. get nat_eq c.insert.new.self q) (λ q p. IsBest (place_rank prices) (PlaceStands cs q) p) c.args.s c.args.p.now u.1 u.2 known.places best;
       sources = known.sources;
       parts = known.parts;
     }

@@ -7,4 +7,4 @@ use Rattle.fill_rank.proofs.Maps.{found_right}
 use Rattle.fill_rank.proofs.known.Known.part.Goals as goal
 
 pub returns-clause-right : goal.returns-clause-right
-returns-clause-right c cs known = found_right (λ (o : Option Atom). IsBestOf atom_tree atom_rank (PartStands cs c.args.s) o) _ _ c.get.ensures.value (known.parts c.args.s)
+returns-clause-right c prices cs known = found_right (λ (o : Option Atom). IsBestOf atom_tree (atom_rank prices) (PartStands cs c.args.s) o) _ _ c.get.ensures.value (known.parts c.args.s)

@@ -5,4 +5,4 @@ use Rattle.fill_rank.proofs.Maps.{copied_right}
 use Rattle.fill_rank.proofs.known.Known.place.Goals as goal
 
 pub returns-clause-right : goal.returns-clause-right
-returns-clause-right c cs known = copied_right (λ p. IsBest place_rank (PlaceStands cs c.args.s) p) _ _ (c.copied.ensures ∙ c.get.ensures.value) (known.places c.args.s)
+returns-clause-right c prices cs known = copied_right (λ p. IsBest (place_rank prices) (PlaceStands cs c.args.s) p) _ _ (c.copied.ensures ∙ c.get.ensures.value) (known.places c.args.s)

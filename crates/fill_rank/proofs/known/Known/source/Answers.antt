@@ -6,4 +6,4 @@ use Rattle.fill_rank.proofs.Maps.{found_right}
 use Rattle.fill_rank.proofs.known.Known.source.Goals as goal
 
 pub returns-clause-right : goal.returns-clause-right
-returns-clause-right c cs known = found_right (λ (x : Source). IsBest source_rank (SourceStands cs c.args.s) (source_tree x)) _ _ c.get.ensures.value (known.sources c.args.s)
+returns-clause-right c prices cs known = found_right (λ (x : Source). IsBest (source_rank prices) (SourceStands cs c.args.s) (source_tree x)) _ _ c.get.ensures.value (known.sources c.args.s)

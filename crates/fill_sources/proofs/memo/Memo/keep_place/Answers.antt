@@ -10,8 +10,8 @@ returns c =
     on_ok_weaker c.put.result (λ more on texts d right made.
     record {
       indexes = right.indexes;
-      places = recalled_put on.settings.profile d texts c.args.self.now.places.items right.places c.args.k c.index_mut.result.now c.put.new.self (omega arith) c.index_mut.ensures.value
-          (λ v there is. more on.settings.profile d v is (c.found_of.ensures on.settings.profile d v c.args.at (made v there)));
+      places = recalled_put on.settings.profile.tokens d texts c.args.self.now.places.items right.places c.args.k c.index_mut.result.now c.put.new.self (omega arith) c.index_mut.ensures.value
+          (λ v there is. more on.settings.profile.tokens d v is (c.found_of.ensures on.settings.profile.tokens d v c.args.at (made v there)));
       sources = right.sources;
       parts = right.parts;
     })

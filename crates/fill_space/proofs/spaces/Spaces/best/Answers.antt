@@ -16,4 +16,4 @@ returns c =
     let k = c.args.k in
     subst (λ (v : SpacesData). IfOk c.best.result (λ made. (l : List Example) → SpaceStands v c.args.s l → AreBestOn v.ground l k (map program_tree made))) c.self.view_is
     (best_told (spaces_over c.self.inside.ground arena) c.args.s k c.best.result
-    (subst (λ (g : ℕ). IfOk c.best.result (λ made. AreFirst program_cmp (ProgramStands arena g) k (map program_tree made))) c.graph.ensures c.best.ensures))
+    (subst (λ (g : ℕ). IfOk c.best.result (λ made. AreFirst (program_cmp c.self.inside.ground.settings.profile.prices) (ProgramStands arena g) k (map program_tree made))) c.graph.ensures c.best.ensures))

@@ -14,4 +14,4 @@ returns c =
     let arena = c.self.inside.arena in
     subst (λ (v : SpacesData). IfOk c.least.result (λ p. (l : List Example) → SpaceStands v c.args.s l → ChosenOn v.ground l (program_tree p))) c.self.view_is
     (least_told (spaces_over c.self.inside.ground arena) c.args.s c.least.result
-    (subst (λ (k : ℕ). IfOk c.least.result (λ p. IsLeast (ProgramStands arena k) (program_tree p))) c.graph.ensures c.least.ensures))
+    (subst (λ (k : ℕ). IfOk c.least.result (λ p. IsLeast c.self.inside.ground.settings.profile.prices (ProgramStands arena k) (program_tree p))) c.graph.ensures c.least.ensures))

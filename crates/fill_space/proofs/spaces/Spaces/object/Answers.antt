@@ -17,5 +17,5 @@ returns c =
     let told = option_copied c.args.said in
     subst (λ (v : SpacesData). IfOk c.object.result (λ found. (l : List Example) → SpaceStands v c.args.s l → ObjectionIs v.ground l row told (option_map objection_tree found))) c.self.view_is
     (object_told (spaces_over over arena) c.args.s row told c.object.result
-    (subst (λ (k : ℕ). IfOk c.object.result (λ found. MatchOption found ((p : Atoms) → ProgramStands arena k p → Answers over.sheet over.tables row told p) (IsObjection arena k over.sheet over.tables row told)))
+    (subst (λ (k : ℕ). IfOk c.object.result (λ found. MatchOption found ((p : Atoms) → ProgramStands arena k p → Answers over.sheet over.tables row told p) (IsObjection over.settings.profile.prices arena k over.sheet over.tables row told)))
     c.graph.ensures c.object.ensures))

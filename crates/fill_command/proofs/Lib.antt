@@ -1,0 +1,6 @@
+pub mod Applications
+pub mod Endings
+pub mod KeyEndings
+pub mod KeyRows
+pub mod Rows
+pub mod Sessions

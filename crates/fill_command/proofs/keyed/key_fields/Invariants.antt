@@ -1,0 +1,7 @@
+use Rattle.std.proofs.Common.{◌≡◌, take}
+use Rattle.fill_command.specs.Keys.{key_record}
+use Rattle.fill_command.proofs.keyed.key_fields.Given as goal
+
+-- the columns so far
+abbrev pub invariant-loop-column : goal.invariant-loop-column
+invariant-loop-column l = l.fields ≡ key_record (take l.column-index l.key)

@@ -1,0 +1,4 @@
+pub mod Answer
+pub mod Applied
+pub mod Keys
+pub mod Sessions

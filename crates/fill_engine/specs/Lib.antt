@@ -1,0 +1,3 @@
+pub mod Answer
+pub mod Programs
+pub mod Request

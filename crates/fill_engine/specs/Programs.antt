@@ -1,0 +1,79 @@
+-- What answers a request.
+use Rattle.std.specs.Prelude.{◌≡◌, ◌≢◌, ◌⊎◌, ◌≤◌, ℕ, List, [], Option, None, Some}
+use Rattle.fill_edge.specs.Memory.{held}
+use Rattle.fill_edge.specs.Outside.{Files}
+use Rattle.fill_open.specs.Apply.{Names}
+use Rattle.fill_open.specs.Asked.{application_in, keys_file_in}
+use Rattle.fill_open.specs.Command.{command_in, made}
+use Rattle.fill_open.specs.Lines.{memory_line}
+use Rattle.fill_open.specs.Stops.{Counts}
+use Rattle.fill_words.specs.Words.{AskedData, Asks, Shows, Wrong, asked_in}
+use Rattle.fill_command.specs.Answer.{IsOfSession, Says, usage_line}
+use Rattle.fill_command.specs.Applied.{EndsApplied}
+use Rattle.fill_command.specs.Keys.{EndsKeys}
+use Rattle.fill_command.specs.Sessions.{EndsSession}
+use Rattle.fill_csv.specs.Ends.{EndsFilled}
+use Rattle.fill_csv.specs.Lines.{memory_line as filled_memory_line}
+use Rattle.fill_csv.specs.Said.{Says as SaysFilled}
+use Rattle.fill_engine.specs.declared.request.Program.{Program}
+use Rattle.fill_engine.specs.declared.request.Program.TheVariants.{Flashfill, Fillcsv}
+use Rattle.fill_engine.specs.Answer.{AnswerData, malformed, no_memory}
+use Rattle.fill_engine.specs.Request.{CallData, request_in}
+
+-- files that are told, each its name and its bytes, those that come last first
+abbrev pub files_of : List (List ℕ × List ℕ) → Files
+files_of files = Some (λ name. held files name)
+
+-- no read of a file fails
+abbrev pub no_faults : Counts
+no_faults = λ name. 0
+
+-- the errors are this line, since no write fails
+abbrev pub IsSaid : AnswerData → List ℕ → Type 0
+IsSaid a line = Says (Some []) (Some a.err) 0 0 line
+
+-- the words are none of `flashfill`
+abbrev pub IsNoCommand : List (List ℕ) → Type 0
+IsNoCommand words = (command_in words ≡ None) × (application_in words ≡ None) × (keys_file_in words ≡ None)
+
+-- what `flashfill` answers to these words over these files
+pub record EndsFlashfill (words : List (List ℕ)) (files : Files) (a : AnswerData) : Type 0 where
+  -- words that ask for a session end as it does, those that apply a saved program or list keys likewise
+  pub session : IsOfSession words → (first : ℕ) × (last : ℕ) × EndsSession words files a.status no_faults no_faults (Some []) (Some a.out) first last (IsSaid a)
+  pub application : (names : Names) → application_in words ≡ Some names → EndsApplied names files a.status no_faults no_faults (Some []) (Some a.out) (IsSaid a)
+  pub keys : (file : List ℕ) → keys_file_in words ≡ Some file → EndsKeys file files a.status no_faults no_faults (Some []) (Some a.out) (IsSaid a)
+  -- 2 exactly where they are none of these
+  pub usage : IsNoCommand words → (a.status ≡ 2) × (a.out ≡ [])
+  pub no_command : a.status ≡ 2 → IsNoCommand words × IsSaid a usage_line
+  -- a generated session always opens
+  pub generated : (n : ℕ) → command_in words ≡ Some (made n) → (a.status ≤ 1) ⊎ (a.status ≡ 6)
+  pub silent : a.status ≤ 1 → a.err ≡ []
+  pub memory : a.status ≡ 6 → IsSaid a memory_line
+  -- no write fails
+  pub written : a.status ≢ 4
+  pub statuses : a.status ≤ 6
+
+-- what `fillcsv` answers to these words over these files
+pub record EndsFillcsv (words : List (List ℕ)) (files : Files) (a : AnswerData) : Type 0 where
+  -- words that ask for a sheet end as its filling does
+  pub filled : (asked : AskedData) → asked_in words ≡ Asks asked → EndsFilled asked files a.status no_faults no_faults (Some []) (Some a.out) (SaysFilled (Some []) (Some a.err) 0 0)
+  pub wrong : asked_in words ≡ Wrong → ((a.status ≡ 2) ⊎ (a.status ≡ 6)) × (a.out ≡ [])
+  pub shown : asked_in words ≡ Shows → (a.status ≡ 0) ⊎ (a.status ≡ 6)
+  pub memory : a.status ≡ 6 → SaysFilled (Some []) (Some a.err) 0 0 filled_memory_line
+  -- no write fails
+  pub written : a.status ≢ 4
+  pub statuses : a.status ≤ 6
+
+-- what a program answers
+abbrev pub Ends : Program → List (List ℕ) → List (List ℕ × List ℕ) → AnswerData → Type 0
+Ends Flashfill words files a = EndsFlashfill words (files_of files) a
+Ends Fillcsv words files a = EndsFillcsv words (files_of files) a
+
+-- the answer of what is asked, or that nothing is
+abbrev pub AnswersCall : Option CallData → AnswerData → Type 0
+AnswersCall None a = a ≡ malformed
+AnswersCall (Some call) a = Ends call.program call.words call.files a
+
+-- the answer of a request, or want of memory
+abbrev pub Answers : List ℕ → AnswerData → Type 0
+Answers request a = AnswersCall (request_in request) a ⊎ (a ≡ no_memory)

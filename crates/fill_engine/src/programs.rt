@@ -1,0 +1,84 @@
+//! The runs of the two programs over the files of a request.
+ghost use Rattle.std.specs.Prelude.{◌≡◌, IfOk, map, string_bytes};
+ghost use Rattle.fill_engine.specs.Answer.{IsWhole, answer_data};
+ghost use Rattle.fill_engine.specs.Programs.{Ends, EndsFillcsv, EndsFlashfill, files_of};
+
+use crate::answer::Answer;
+use crate::files::NamedFiles;
+use crate::page::Page;
+use crate::request::Program;
+use fill_edge::{Ledger, Steps};
+use fill_text::NoMemory;
+use std::alloc::Global;
+use std::marker::Brand;
+use std::sync::ledger::Blank;
+
+/// What a program answers to these words over these files.
+pub fn run_program(
+    alloc: Global,
+    program: Program,
+    words: &[String],
+    files: &mut NamedFiles,
+) -> Result<Answer, NoMemory>
+    ensures { IfOk result (λ answer. Ends program (map string_bytes words.now) files.old.files (answer_data answer)) }
+{
+    match program {
+        Program::Flashfill => run_flashfill::<Brand>(alloc, words, files, Blank::new(1)),
+        Program::Fillcsv => run_fillcsv::<Brand>(alloc, words, files, Blank::new(1)),
+    }
+}
+
+fn run_flashfill<L: Ledger>(
+    alloc: Global,
+    words: &[String],
+    files: &mut NamedFiles,
+    blank: Blank,
+) -> Result<Answer, NoMemory>
+    requires name { blank.name ≡ L.name }
+    requires parts { blank.parts ≡ L.parts }
+    requires one { blank.parts ≡ 1 }
+    ensures { IfOk result (λ answer. EndsFlashfill (map string_bytes words.now) (files_of files.old.files) (answer_data answer)) }
+{
+    let (book, share) = blank.open::<L>();
+    let mut steps = Steps::new(book, share);
+    let mut out = Page::new(alloc);
+    let mut err = Page::new(alloc);
+    let status = fill_command::run(alloc, words, files, &mut out, &mut err, &mut steps);
+    whole(status, out, err)
+}
+
+fn run_fillcsv<L: Ledger>(
+    alloc: Global,
+    words: &[String],
+    files: &mut NamedFiles,
+    blank: Blank,
+) -> Result<Answer, NoMemory>
+    requires name { blank.name ≡ L.name }
+    requires parts { blank.parts ≡ L.parts }
+    requires one { blank.parts ≡ 1 }
+    ensures { IfOk result (λ answer. EndsFillcsv (map string_bytes words.now) (files_of files.old.files) (answer_data answer)) }
+{
+    let (book, share) = blank.open::<L>();
+    let mut steps = Steps::new(book, share);
+    let mut out = Page::new(alloc);
+    let mut err = Page::new(alloc);
+    let status = fill_csv::run(alloc, words, files, &mut out, &mut err, &mut steps);
+    whole(status, out, err)
+}
+
+/// The answer of a status and of what was written, where no write failed.
+fn whole(status: u8, out: Page, err: Page) -> Result<Answer, NoMemory>
+    ensures { IfOk result (IsWhole status out err) }
+{
+    if out.faults > 0 {
+        return Err(NoMemory);
+    }
+    if err.faults > 0 {
+        return Err(NoMemory);
+    }
+    Ok(Answer {
+        status,
+        out: out.bytes,
+        err: err.bytes,
+    })
+}
