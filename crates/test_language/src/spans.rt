@@ -15,7 +15,7 @@ fn gives(
     ends: &[usize],
 ) -> Result<bool, Fail> {
     let spans = Spans::new(alloc, text, TokenSet::ALL)?;
-    if !token.is_of(2) {
+    if !token.is_of(TokenSet::ALL) {
         return Ok(false);
     }
     let pieces = spans.pieces(token);
@@ -101,7 +101,7 @@ fn first_other_in(alloc: Global, text: &Text) -> Result<usize, Fail> {
 #[test]
 fn pieces_are_those_that_begin_somewhere(rt: HostRuntime) -> Result<(), Fail> {
     for spelled in ["", "a", "1-", " aB  1", "--b-", "\u{661}\u{e9}\u{c9}."] {
-        assert_eq!(rt; first_other(rt.alloc(), spelled)?, 29, "{spelled}");
+        assert_eq!(rt; first_other(rt.alloc(), spelled)?, TOKEN_COUNT, "{spelled}");
     }
     Ok(())
 }
