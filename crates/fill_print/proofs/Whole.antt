@@ -57,7 +57,7 @@ module _ (token_set : TokenSet) where
       let whole = h.spelled [] in
       let f = fault h.front rest (t, [], whole.0, sym (append-nil (switch_text t)) ∙ sym whole.1)
       (λ u r is same text.
-      let one = switch_one token_set.law t u (h.front ++ r) r [] (h.spelled r) (is, sym text ∙ sym (append-nil (switch_text u))) in
+      let one = (switch_one token_set).law t u (h.front ++ r) r [] (h.spelled r) (is, sym text ∙ sym (append-nil (switch_text u))) in
       let bad : SameHead (b ∷ after) [] = subst (λ x. SameHead (b ∷ after) x) one.1 (subst (λ x. SameHead x r) e same) in
       bad) in
       let at : length h.front ≡ length bytes - length rest = omega (arith, length-append h.front rest, ap length h.is) in
@@ -74,7 +74,7 @@ module _ (token_set : TokenSet) where
 
   -- different conditional programs have different spellings
   pub one_text : (s t : SwitchTree) → IsSwitch token_set s → IsSwitch token_set t → switch_text s ≡ switch_text t → s ≡ t
-  one_text s t p q e = (switch_one token_set.law s t (switch_text s) [] [] (p, sym (append-nil (switch_text s))) (q, e ∙ sym (append-nil (switch_text t)))).0
+  one_text s t p q e = ((switch_one token_set).law s t (switch_text s) [] [] (p, sym (append-nil (switch_text s))) (q, e ∙ sym (append-nil (switch_text t)))).0
 
   pub same_text : (bytes : List ℕ) (s t : SwitchTree) → IsTextOf token_set bytes s → IsTextOf token_set bytes t → s ≡ t
   same_text bytes s t p q = one_text s t p.0 q.0 (sym p.1 ∙ q.1)
