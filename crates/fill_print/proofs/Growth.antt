@@ -1,5 +1,5 @@
 -- What keeps the rules by tokens of a set keeps them by tokens of a larger one.
-use Rattle.std.proofs.Common.{ℕ, List, [], ◌∷◌, Option, None, Some, get_or}
+use Rattle.std.proofs.Common.{List, [], ◌∷◌, Option, None, Some, get_or}
 use Rattle.std.specs.Prelude.{IfSome}
 use Rattle.fill_tokens.specs.TokenSet.{AreTokensOf, IsPlaceOf, IsTokenOf}
 use Rattle.fill_tokens.specs.declared.token.Token.{Token}

@@ -1,6 +1,6 @@
 -- Literals and second literals, as they are read and as they are printed.
-use Rattle.std.proofs.Common.{◌≡◌, ◌≢◌, ℕ, ◌<◌, ◌≤◌, Bool, true, false, List, [], ◌∷◌, ◌++◌, length, Option, None, Some, refl, sym, ap, subst, ◌∙◌, arith, codes}
-use Rattle.std.specs.Prelude.{if◌then◌else◌, IfSome}
+use Rattle.std.proofs.Common.{◌≡◌, ℕ, ◌<◌, ◌≤◌, Bool, true, false, List, [], ◌∷◌, ◌++◌, length, Option, None, Some, refl, sym, ap, subst, ◌∙◌, arith, codes}
+use Rattle.std.specs.Prelude.{if◌then◌else◌}
 use Rattle.std.specs.Fmt.{decimal}
 use Rattle.std.proofs.lemmas.List.{append_assoc}
 use Rattle.fill_tokens.specs.TokenSet.{IsTokenOf}
@@ -10,7 +10,7 @@ use Rattle.fill_tokens.specs.declared.token_set.TokenSet.{TokenSet}
 use Rattle.fill_tree.specs.declared.guard.Literal.{Literal}
 use Rattle.fill_print.specs.Grammar.{greatest, Matched, SecondLiteral, NoSecond}
 use Rattle.fill_print.specs.Notation.{names, literal_text, second_text}
-use Rattle.fill_print.specs.Reading.{IsNotNext, Then, Plain, Gives}
+use Rattle.fill_print.specs.Reading.{IsNotNext, Then, Plain}
 use Rattle.fill_print.specs.Rules.{IsLiteral}
 use Rattle.fill_print.specs.Seqs.{AtStart}
 use Rattle.fill_print.specs.Switches.{LiteralFront, SecondFront}

@@ -1,21 +1,20 @@
 -- Lookups, as they are read and as they are printed; and that each source has one form.
-use Rattle.std.proofs.Common.{◌≡◌, ◌≢◌, ℕ, zero, suc, ◌+◌, ◌-◌, ◌<◌, ◌≤◌, ◌⊎◌, inl, inr, Bool, true, false, ◌||◌, List, [], ◌∷◌, ◌++◌, length, Option, None, Some, refl, sym, ap, subst, ◌∙◌, arith, codes}
-use Rattle.std.specs.Prelude.{if◌then◌else◌, ◌==◌, max}
+use Rattle.std.proofs.Common.{◌≡◌, ◌≢◌, ℕ, zero, suc, ◌-◌, ◌<◌, ◌≤◌, inl, inr, Bool, true, false, ◌||◌, List, [], ◌∷◌, ◌++◌, refl, sym, ap, subst, ◌∙◌, arith, codes}
+use Rattle.std.specs.Prelude.{if◌then◌else◌, ◌==◌}
 use Rattle.std.specs.Fmt.{decimal}
 use Rattle.std.proofs.lemmas.Bool.{cases_eq, ne_eqb}
 use Rattle.std.proofs.lemmas.List.{append_assoc}
 use Rattle.fill_tokens.specs.declared.token_set.TokenSet.{TokenSet}
-use Rattle.fill_tree.specs.Grammar.{number_of_atoms, source_depth, atom_depth, greatest_depth, HasPart, is_part, has_part}
+use Rattle.fill_tree.specs.Grammar.{number_of_atoms, greatest_depth, HasPart, is_part, has_part}
 use Rattle.fill_tree.specs.Tree.{SourceTree, AtomTree, Atoms, col, select, constant, whole, sub, end, more, atoms_of}
-use Rattle.fill_print.specs.Conditions.{SourceFront, AtomFront, Room, at_start, after_one, comma, ConditionStep, Conditions}
+use Rattle.fill_print.specs.Conditions.{SourceFront, Room, at_start, after_one, comma, ConditionStep, Conditions}
 use Rattle.fill_print.specs.Grammar.{greatest, Lookup}
 use Rattle.fill_print.specs.Notation.{source_text, atom_text, after_commas}
-use Rattle.fill_print.specs.Reading.{Then, Plain, Gives}
 use Rattle.fill_print.specs.Rules.{AreConditions}
 use Rattle.fill_print.proofs.Chains.{OneForm, IsAt, link, many_one, both_one, plain_one, gives_one}
 use Rattle.fill_print.proofs.Decimals.{number_one}
 use Rattle.fill_print.proofs.Dispatch.{split_one, same_one}
-use Rattle.fill_print.proofs.SourceRules.{source_column, source_flat, column_one, condition_step_one, atom_one_from, part_one_from, comma_later}
+use Rattle.fill_print.proofs.SourceRules.{source_column, source_flat, column_one, condition_step_one, atom_one_from, part_one_from}
 use Rattle.fill_print.specs.Conditions.{PartFront}
 
 -- lists that stand for atoms

@@ -1,23 +1,23 @@
 -- Places and constants, as they are read and as they are printed.
-use Rattle.std.proofs.Common.{◌≡◌, ◌≢◌, ℕ, ◌+◌, ◌<◌, ◌≤◌, Bool, true, false, List, [], ◌∷◌, ◌++◌, length, Option, None, Some, refl, sym, ap, subst, ◌∙◌, arith, codes}
-use Rattle.std.specs.Prelude.{ℤ, pos, All}
+use Rattle.std.proofs.Common.{◌≡◌, ℕ, ◌+◌, ◌<◌, Bool, true, false, List, [], ◌∷◌, ◌++◌, length, refl, sym, ap, subst, ◌∙◌, arith, codes}
+use Rattle.std.specs.Prelude.{ℤ, All}
 use Rattle.std.specs.Char.{IsScalar}
-use Rattle.std.specs.Fmt.{decimal, signed_decimal}
+use Rattle.std.specs.Fmt.{signed_decimal}
 use Rattle.std.proofs.lemmas.List.{append_assoc}
 use Rattle.fill_tokens.specs.PlaceGrammar.{AreAround}
 use Rattle.fill_tokens.specs.declared.token.Token.{Token}
 use Rattle.fill_tokens.specs.declared.place.Place.{Place}
 use Rattle.fill_tokens.specs.declared.place.Place.TheVariants.{CPos, Pos}
 use Rattle.fill_tokens.specs.declared.token_set.TokenSet.{TokenSet}
-use Rattle.fill_tree.specs.Tree.{AtomTree, constant, whole, sub}
+use Rattle.fill_tree.specs.Tree.{AtomTree, constant}
 use Rattle.fill_print.specs.Conditions.{PlaceFront}
 use Rattle.fill_print.specs.Grammar.{AtCount, Between, not_empty, Constant}
 use Rattle.fill_print.specs.Notation.{names, place_text, chars_text, atom_text}
-use Rattle.fill_print.specs.Reading.{IsNotNext, Then, Plain, Gives}
+use Rattle.fill_print.specs.Reading.{IsNotNext}
 use Rattle.fill_print.specs.Seqs.{AtStart}
 use Rattle.fill_print.proofs.Chains.{OneForm, IsSpelled, IsAt, link, both_one, both_spelled, plain_one, plain_spelled, gives_one, gives_spelled}
 use Rattle.fill_print.proofs.Dispatch.{IsElse, not_at, split_one, at_spelled}
-use Rattle.fill_print.proofs.Quotes.{quoted_one, quoted_spelled, quoted_forth, quoted_back}
+use Rattle.fill_print.proofs.Quotes.{quoted_one, quoted_forth, quoted_back}
 use Rattle.fill_print.proofs.Sequences.{token_seq_one}
 use Rattle.fill_print.proofs.Sides.{IsSpelledSeq, seq_forth, seq_back, side_start, side_end, side_from}
 use Rattle.fill_print.proofs.Signs.{int_one, int_spelled}

@@ -1,5 +1,5 @@
 -- Programs, as they are read and as they are printed.
-use Rattle.std.proofs.Common.{◌≡◌, ◌≢◌, ℕ, Bool, true, false, List, [], ◌∷◌, ◌++◌, length, Option, None, Some, refl, sym, ap, subst, ◌∙◌, arith, codes}
+use Rattle.std.proofs.Common.{◌≡◌, ℕ, Bool, true, false, List, [], ◌∷◌, ◌++◌, Option, None, Some, refl, sym, ap, subst, ◌∙◌, arith, codes}
 use Rattle.std.proofs.lemmas.List.{append_assoc}
 use Rattle.fill_tokens.specs.declared.token_set.TokenSet.{TokenSet}
 use Rattle.fill_tree.specs.Tree.{AtomTree, Atoms, constant, whole, sub, end, more, atoms_of}
@@ -7,8 +7,8 @@ use Rattle.fill_print.specs.Conditions.{PartFront}
 use Rattle.fill_print.specs.Grammar.{Constant, NoAtom, SomeAtom, WholeProgram}
 use Rattle.fill_print.specs.Notation.{atom_text, after_commas, atoms_text, program_text}
 use Rattle.fill_print.specs.Programs.{ProgramAtom, between, AtomStep, then_later, ProgramAtoms, ProgramFront}
-use Rattle.fill_print.specs.Reading.{IsNotNext, Spells, Then, Plain, Gives}
-use Rattle.fill_print.specs.Rules.{IsAtom, IsProgram}
+use Rattle.fill_print.specs.Reading.{IsNotNext, Then, Plain}
+use Rattle.fill_print.specs.Rules.{IsProgram}
 use Rattle.fill_print.proofs.Chains.{OneForm, IsSpelled, IsAt, IsSame, Completes, link, many_one, both_one, both_spelled, plain_one, plain_spelled, gives_one, gives_spelled}
 use Rattle.fill_print.proofs.Dispatch.{IsElse, not_at, split_one, same_one, same_spelled, else_spelled}
 use Rattle.fill_print.proofs.LookupRules.{list_of, listed, part_one}

@@ -1,9 +1,8 @@
 -- Names of which none begins another.
-use Rattle.std.proofs.Common.{◌≡◌, ◌≢◌, ℕ, ◌<◌, ◌-◌, ◌⊎◌, inl, inr, Bool, true, false, ◌&&◌, eqb, not, List, [], ◌∷◌, ◌++◌, Option, None, Some, length, refl, sym, ap, subst, ◌∙◌, arith, codes}
+use Rattle.std.proofs.Common.{◌≡◌, ◌≢◌, ℕ, ◌<◌, inl, inr, Bool, true, false, ◌&&◌, not, List, [], ◌∷◌, ◌++◌, Option, None, Some, length, refl, sym, ap, subst, ◌∙◌, arith, codes}
 use Rattle.std.specs.Prelude.{◌==◌, nat_lt}
 use Rattle.std.proofs.lemmas.Bool.{and_parts, and_from, eq-eqb, eqb-true, ltb-true}
-use Rattle.std.proofs.lemmas.List.{append_assoc, append-nil}
-use Rattle.fill_print.specs.Reading.{Spells, Takes, Halts, Then, Plain, Gives, ManyFrom}
+use Rattle.fill_print.specs.Reading.{Takes, Halts, Then, Plain, Gives}
 use Rattle.fill_tokens.specs.Token.{token_name}
 use Rattle.fill_tokens.specs.TokenSet.{IsTokenOf}
 use Rattle.fill_tokens.specs.declared.token.Token.{Token}
@@ -11,7 +10,7 @@ use Rattle.fill_tokens.specs.declared.token.Token.TheVariants.{Start, Digits}
 use Rattle.fill_tokens.specs.declared.token.TheConstants.Token.{ALL}
 use Rattle.fill_tokens.specs.declared.token_set.TokenSet.{TokenSet}
 use Rattle.fill_print.specs.Tokens.{TokenFront, IsIn}
-use Rattle.fill_print.specs.Seqs.{Spot, room_after, after_token, gap, TokenStep, AtStart, Later, TokenSeq}
+use Rattle.fill_print.specs.Seqs.{Spot, after_token, gap, TokenStep, AtStart, Later, TokenSeq}
 use Rattle.fill_print.proofs.Chains.{OneForm, IsSpelled, many_one, IsAt, HasText, Completes, link, halts_first, halts_empty}
 use Rattle.fill_print.proofs.TokenNames.{digits_come, is_one}
 

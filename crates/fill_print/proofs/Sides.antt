@@ -1,5 +1,5 @@
 -- Which tokens stand in a sequence, token by token and by their places.
-use Rattle.std.proofs.Common.{◌≡◌, ◌≢◌, ℕ, zero, suc, ◌+◌, ◌-◌, ◌<◌, ◌≤◌, Bool, true, false, ◌&&◌, List, [], ◌∷◌, ◌++◌, length, Option, None, Some, slice_get, refl, sym, ap, subst, ◌∙◌, arith, codes}
+use Rattle.std.proofs.Common.{◌≡◌, ◌≢◌, ℕ, zero, suc, ◌+◌, ◌<◌, ◌≤◌, Bool, true, false, ◌&&◌, List, [], ◌∷◌, ◌++◌, length, Option, Some, slice_get, refl, sym, ap, ◌∙◌, arith}
 use Rattle.std.proofs.lemmas.List.{append_assoc}
 use Rattle.std.proofs.lemmas.Bool.{and_from, and_parts}
 use Rattle.std.proofs.lemmas.List.Elements.{All-nil, All-cons, All-head, All-tail}
@@ -11,8 +11,8 @@ use Rattle.fill_tokens.specs.declared.token.Token.{Token}
 use Rattle.fill_tokens.specs.declared.token.Token.TheVariants.{Start, End}
 use Rattle.fill_tokens.specs.declared.token_set.TokenSet.{TokenSet}
 use Rattle.fill_print.specs.Notation.{names, more_names}
-use Rattle.fill_print.specs.Seqs.{Spot, room_after, after_token, gap, TokenStep, TokenSeq}
-use Rattle.fill_print.specs.Tokens.{may_stand, TokenFront}
+use Rattle.fill_print.specs.Seqs.{Spot, room_after, after_token, gap, TokenSeq}
+use Rattle.fill_print.specs.Tokens.{may_stand}
 
 -- each token may stand where it does
 abbrev pub IsSide : Bool → Bool → Bool → List Token → Type 0

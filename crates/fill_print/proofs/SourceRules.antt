@@ -1,22 +1,21 @@
 -- Sources, parts and conditions, as they are read and as they are printed.
-use Rattle.std.proofs.Common.{◌≡◌, ◌≢◌, ℕ, zero, suc, ◌+◌, ◌-◌, ◌<◌, ◌≤◌, ◌⊎◌, inl, inr, Bool, true, false, ◌||◌, List, [], ◌∷◌, ◌++◌, length, Option, None, Some, refl, sym, ap, subst, ◌∙◌, arith, codes}
-use Rattle.std.specs.Prelude.{if◌then◌else◌, ◌==◌, max}
+use Rattle.std.proofs.Common.{◌≡◌, ◌≢◌, ℕ, ◌-◌, ◌<◌, inl, inr, Bool, true, false, ◌||◌, List, [], ◌∷◌, ◌++◌, Option, None, Some, refl, sym, ap, subst, ◌∙◌, arith, codes}
+use Rattle.std.specs.Prelude.{◌==◌}
 use Rattle.std.specs.Fmt.{decimal}
 use Rattle.std.proofs.lemmas.Bool.{cases_eq, ne_eqb, eqb-true, eq-eqb}
 use Rattle.std.proofs.lemmas.List.{append_assoc}
 use Rattle.fill_tokens.specs.declared.token_set.TokenSet.{TokenSet}
 use Rattle.fill_tokens.specs.declared.place.Place.{Place}
-use Rattle.fill_tree.specs.Grammar.{number_of_atoms, source_depth, atom_depth, greatest_depth, HasPart, is_part}
-use Rattle.fill_tree.specs.Tree.{SourceTree, AtomTree, Atoms, col, select, constant, whole, sub, end, more, atoms_of}
-use Rattle.fill_print.specs.Conditions.{PlaceFront, SourceFront, AtomFront, PartFront, Room, at_start, after_one, comma, ConditionStep, Conditions, IsRoom, ConditionFront}
-use Rattle.fill_print.specs.Grammar.{greatest, Column, Lookup, Constant, WholePart, SubPart, FirstCondition, LaterCondition, NoAtom}
-use Rattle.fill_print.specs.Notation.{source_text, atom_text, place_text, after_commas}
-use Rattle.fill_print.specs.Reading.{IsNotNext, Spells, Takes, Halts, Then, Plain, Gives}
-use Rattle.fill_print.specs.Rules.{AreConditions}
-use Rattle.fill_print.proofs.Chains.{OneForm, IsSpelled, IsAt, IsSame, Completes, link, many_one, both_one, both_spelled, plain_one, plain_spelled, gives_one, gives_spelled}
+use Rattle.fill_tree.specs.Grammar.{is_part}
+use Rattle.fill_tree.specs.Tree.{SourceTree, AtomTree, col, select, constant, whole, sub}
+use Rattle.fill_print.specs.Conditions.{SourceFront, AtomFront, PartFront, Room, at_start, after_one, comma, ConditionStep, Conditions, IsRoom, ConditionFront}
+use Rattle.fill_print.specs.Grammar.{greatest, Column, Constant, WholePart, SubPart, FirstCondition, LaterCondition, NoAtom}
+use Rattle.fill_print.specs.Notation.{source_text, atom_text, place_text}
+use Rattle.fill_print.specs.Reading.{IsNotNext}
+use Rattle.fill_print.proofs.Chains.{OneForm, IsSpelled, IsAt, IsSame, Completes, link, both_one, both_spelled, plain_one, plain_spelled, gives_one, gives_spelled}
 use Rattle.fill_print.proofs.Decimals.{number_one, number_spelled}
-use Rattle.fill_print.proofs.Dispatch.{IsElse, not_at, split_one, same_one, same_spelled, else_spelled}
-use Rattle.fill_print.proofs.PlaceRules.{place_one, place_spelled, constant_forth, constant_back, constant_one}
+use Rattle.fill_print.proofs.Dispatch.{IsElse, not_at, split_one, else_spelled}
+use Rattle.fill_print.proofs.PlaceRules.{place_one, constant_forth, constant_back, constant_one}
 
 -- a column
 column_text : (n : ℕ) (k : List ℕ) → codes "Col(" ++ (decimal n ++ 41 ∷ k) ≡ source_text (col n) ++ k

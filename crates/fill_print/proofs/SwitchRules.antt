@@ -1,6 +1,6 @@
 -- Cases and conditional programs, as they are read and as they are printed.
-use Rattle.std.proofs.Common.{◌≡◌, ◌≢◌, ℕ, ◌-◌, ◌<◌, ◌≤◌, Bool, true, false, List, [], ◌∷◌, ◌++◌, length, Option, None, Some, refl, sym, ap, subst, ◌∙◌, arith, codes}
-use Rattle.std.proofs.Common.{◌⊎◌, inl, inr}
+use Rattle.std.proofs.Common.{◌≡◌, ◌≢◌, ℕ, ◌-◌, ◌≤◌, List, [], ◌∷◌, ◌++◌, length, Option, None, Some, refl, sym, ap, subst, ◌∙◌, arith, codes}
+use Rattle.std.proofs.Common.{inl, inr}
 use Rattle.std.proofs.lemmas.Bool.{cases_eq}
 use Rattle.std.proofs.lemmas.List.{append_assoc}
 use Rattle.fill_tokens.specs.declared.token_set.TokenSet.{TokenSet}
@@ -9,8 +9,8 @@ use Rattle.fill_tree.specs.Tree.{Atoms}
 use Rattle.fill_tree.specs.declared.guard.Guard.{Guard}
 use Rattle.fill_print.specs.Grammar.{NoCase, SomeCase, WholeCase, WholeSwitch}
 use Rattle.fill_print.specs.Notation.{literal_text, second_text, program_text, case_text, cases_text, switch_text}
-use Rattle.fill_print.specs.Reading.{IsNotNext, Spells, Then, Plain, Gives}
-use Rattle.fill_print.specs.Rules.{IsCase, AreCases, IsSwitch}
+use Rattle.fill_print.specs.Reading.{IsNotNext}
+use Rattle.fill_print.specs.Rules.{AreCases}
 use Rattle.fill_print.specs.Switches.{CaseFront, CaseStep, one_less, Cases, SwitchFront}
 use Rattle.fill_print.proofs.Chains.{OneForm, IsSpelled, IsAt, IsSame, Completes, link, many_one, both_one, plain_one, gives_one}
 use Rattle.fill_print.proofs.Dispatch.{IsElse, not_at, split_one, same_one}

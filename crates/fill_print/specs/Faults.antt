@@ -1,5 +1,5 @@
 -- Texts of conditional programs by tokens of a set, and how far bytes are the front of one.
-use Rattle.std.specs.Prelude.{◌≡◌, ℕ, ◌+◌, ◌<◌, ◌≤◌, List, ◌++◌, length, take, Result, Ok, Err}
+use Rattle.std.specs.Prelude.{◌≡◌, ℕ, ◌≤◌, List, ◌++◌, length, take, Result, Ok, Err}
 use Rattle.fill_tokens.specs.declared.token_set.TokenSet.{TokenSet}
 use Rattle.fill_tree.specs.Switch.{SwitchTree, switch_tree}
 use Rattle.fill_tree.specs.declared.guard.Switch.{Switch}

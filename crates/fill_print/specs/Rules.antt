@@ -3,7 +3,6 @@ use Rattle.std.specs.Prelude.{◌≢◌, ℕ, ◌<◌, ◌≤◌, ◌^◌, List,
 use Rattle.std.specs.Char.{IsScalar}
 use Rattle.fill_tokens.specs.PlaceGrammar.{OnlyFirst, OnlyLast}
 use Rattle.fill_tokens.specs.TokenSet.{AreTokensOf, IsPlaceOf}
-use Rattle.fill_tokens.specs.declared.token.Token.{Token}
 use Rattle.fill_tokens.specs.declared.token.Token.TheVariants.{Start, End}
 use Rattle.fill_tokens.specs.declared.token_set.TokenSet.{TokenSet}
 use Rattle.fill_tree.specs.Tree.{SourceTree, AtomTree, Atoms, col, select, constant, whole, sub, end, more}

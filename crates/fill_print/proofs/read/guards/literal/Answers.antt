@@ -1,5 +1,5 @@
 use Rattle.fill_print.proofs.Dispatch.{reads_else, reads_behind}
-use Rattle.fill_print.proofs.GuardRules.{literal_negated, literal_plain, second_some, second_none}
+use Rattle.fill_print.proofs.GuardRules.{literal_negated, literal_plain}
 use Rattle.fill_print.specs.Tokens.{tokens_of}
 use Rattle.fill_print.proofs.read.guards.literal.Goals as goal
 

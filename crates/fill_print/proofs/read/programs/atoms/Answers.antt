@@ -1,13 +1,10 @@
-use Rattle.std.proofs.Common.{◌≡◌, ◌∷◌, ◌++◌, [], true, false, Some, map, ap, sym, subst, ◌∙◌, arith, option_map, length}
+use Rattle.std.proofs.Common.{◌≡◌, ◌∷◌, ◌++◌, [], true, false, Some, map, ap, sym, subst, ◌∙◌, arith, option_map}
 use Rattle.std.proofs.lemmas.Grind.{common_steps}
 use Rattle.std.proofs.lemmas.List.{map_push}
-use Rattle.fill_tree.specs.Tree.{AtomTree}
 use Rattle.fill_tree.specs.Meaning.{atom_tree}
-use Rattle.fill_tree.specs.Switch.{CaseTree, case_tree}
 use Rattle.fill_print.specs.Programs.{AtomStep, then_later, ProgramAtoms}
 use Rattle.fill_print.specs.Reading.{Takes}
-use Rattle.fill_print.specs.Switches.{CaseStep, one_less, Cases}
-use Rattle.fill_print.proofs.Chains.{Leads, exit, leads_start, leads_more, leads_end, leads_halts}
+use Rattle.fill_print.proofs.Chains.{Leads, exit, leads_more, leads_end, leads_halts}
 use Rattle.fill_print.proofs.ProgramRules.{atom_step_one, atoms_complete}
 use Rattle.fill_print.specs.Tokens.{tokens_of}
 use Rattle.fill_print.proofs.read.programs.atoms.Goals as goal

@@ -1,10 +1,7 @@
-use Rattle.std.proofs.Common.{◌≡◌, true, false, option_map, sym, subst}
 use Rattle.fill_tree.specs.Meaning.{atom_tree}
-use Rattle.fill_print.specs.Programs.{AtomStep}
-use Rattle.fill_print.specs.Reading.{Reads}
 use Rattle.fill_print.proofs.Chains.{reads_via}
-use Rattle.fill_print.proofs.Dispatch.{reads_else, reads_behind}
-use Rattle.fill_print.proofs.ProgramRules.{program_constant, program_part, first_none, first_some, later_some, later_none}
+use Rattle.fill_print.proofs.Dispatch.{reads_else}
+use Rattle.fill_print.proofs.ProgramRules.{program_constant, program_part}
 use Rattle.fill_print.specs.Tokens.{tokens_of}
 use Rattle.fill_print.proofs.read.programs.program_atom.Goals as goal
 

@@ -1,4 +1,4 @@
-use Rattle.std.proofs.Common.{◌≡◌, ◌∷◌, Some, not, ap, ◌∙◌, arith}
+use Rattle.std.proofs.Common.{◌∷◌, ap, ◌∙◌}
 use Rattle.fill_print.specs.Tokens.{TokenFront, tokens_of}
 use Rattle.fill_print.proofs.Chains.{exit, in_first, gives_spelled, via_halts}
 use Rattle.fill_print.specs.Seqs.{AtStart}

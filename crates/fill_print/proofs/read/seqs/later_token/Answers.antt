@@ -1,4 +1,4 @@
-use Rattle.std.proofs.Common.{◌≡◌, ◌∷◌, Some, not, false, refl, ap, ◌∙◌, arith, codes}
+use Rattle.std.proofs.Common.{◌∷◌, false, refl, ap, ◌∙◌, arith, codes}
 use Rattle.fill_print.specs.Seqs.{Later}
 use Rattle.fill_print.specs.Tokens.{TokenFront, tokens_of}
 use Rattle.fill_print.proofs.Chains.{exit, both, done, in_first, in_rest, gives_spelled, plain_one, plain_takes, via, via_halts}

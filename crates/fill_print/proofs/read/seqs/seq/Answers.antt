@@ -1,5 +1,4 @@
-use Rattle.std.proofs.Common.{◌≡◌, ◌<◌, ◌≤◌, ◌+◌, ◌∷◌, [], ◌++◌, length, length-append, true, false, Option, Some, None, List, refl, sym, subst, ap, ◌∙◌, arith}
-use Rattle.fill_tokens.specs.declared.token.Token.{Token}
+use Rattle.std.proofs.Common.{◌≡◌, ◌<◌, ◌+◌, ◌∷◌, [], ◌++◌, length, length-append, Some, sym, subst, ap, ◌∙◌, arith}
 use Rattle.fill_print.specs.Reading.{Takes}
 use Rattle.fill_print.specs.Seqs.{AtStart, Later, Spot, TokenStep, TokenSeq, after_token, room_after}
 use Rattle.fill_print.proofs.Chains.{Leads, exit, leads_start, leads_more, leads_end, leads_halts}

@@ -1,4 +1,4 @@
-use Rattle.std.proofs.Common.{◌+◌, ◌≤◌, length, true, false}
+use Rattle.std.proofs.Common.{◌+◌, ◌≤◌, length}
 use Rattle.fill_print.specs.Seqs.{AtStart, Later, TokenSeq}
 use Rattle.fill_print.proofs.Chains.{Leads}
 use Rattle.fill_print.specs.Tokens.{tokens_of}

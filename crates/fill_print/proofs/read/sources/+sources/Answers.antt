@@ -1,5 +1,5 @@
 use Rattle.fill_print.specs.Grammar.{SubPart}
-use Rattle.std.proofs.Common.{◌≡◌, ◌∷◌, ◌++◌, [], ◌-◌, ◌||◌, Bool, true, false, Some, map, ap, sym, subst, ◌∙◌, arith, codes, option_map}
+use Rattle.std.proofs.Common.{◌≡◌, ◌∷◌, ◌++◌, [], ◌-◌, ◌||◌, Bool, false, Some, map, ap, sym, subst, ◌∙◌, arith, codes, option_map}
 use Rattle.std.proofs.lemmas.Grind.{common_steps}
 use Rattle.std.proofs.lemmas.List.{map_push}
 use Rattle.fill_tree.specs.Tree.{AtomTree}
@@ -9,7 +9,7 @@ use Rattle.fill_print.specs.Conditions.{PlaceFront, SourceFront, Room, at_start,
 use Rattle.fill_print.specs.Grammar.{greatest}
 use Rattle.fill_print.specs.Numbers.{Number}
 use Rattle.fill_print.specs.Reading.{Plain, Takes, Reads}
-use Rattle.fill_print.proofs.Chains.{Leads, exit, fails_in, both, in_first, in_rest, both_spelled, plain_one, plain_spelled, gives_spelled, done, many_one, reads_via, leads_start, leads_more, leads_end, leads_halts}
+use Rattle.fill_print.proofs.Chains.{Leads, exit, fails_in, both, in_first, in_rest, both_spelled, plain_one, plain_spelled, gives_spelled, done, reads_via, leads_more, leads_end, leads_halts}
 use Rattle.fill_print.proofs.Decimals.{number_one, number_spelled}
 use Rattle.fill_print.proofs.Dispatch.{reads_else, reads_same}
 use Rattle.fill_print.proofs.Folds.{whole_tree, sub_tree, lookup_tree}
