@@ -1,6 +1,6 @@
 -- The tables and keys that words ask for are proper.
 use Rattle.std.proofs.Common.{◌≡◌, ℕ, Bool, List, [], ◌∷◌, ◌++◌, map, Option, None, Some, Result, Ok, Err, All, ap, refl, sym, subst}
-use Rattle.std.specs.Prelude.{IfOk, length, nat_lt}
+use Rattle.std.specs.Prelude.{IfOk, codes, length, nat_lt, ◌==◌}
 use Rattle.std.specs.List.{after_first, before_first, position_or_len}
 use Rattle.std.proofs.lemmas.List.Elements.{All-push, All-nil}
 use Rattle.clap.specs.Words.{Row, Text}
@@ -9,7 +9,7 @@ use Rattle.fill_script.specs.Line.{columns_in as numbers_of_columns}
 use Rattle.fill_script.proofs.Lines.{columns-within, if_some, map_some, then_some}
 use Rattle.fill_words.specs.declared.asked.Asked.{Asked}
 use Rattle.fill_words.specs.declared.refusal.Refusal.{Refusal}
-use Rattle.fill_words.specs.Words.{Answers, AskedData, Asks, ChosenData, IsLookup, Key, LookupData, Meaning, Table, TargetData, TypedData, added, chosen, chosen_in, columns_in, data_in, key_in, lookup_data, lookups_in, meaning_by, meaning_of_rows, table_in}
+use Rattle.fill_words.specs.Words.{Answers, AskedData, Asks, ChosenData, IsLookup, Key, LookupData, Meaning, Table, TargetData, TypedData, added, chosen, chosen_in, columns_in, data_in, key_in, lookup_data, lookups_in, meaning_by, meaning_of_rows, table_in, texts_of}
 
 -- what each word gives is proper, and so is all that words give
 added_all : {D : Type 0} (P : D → Type 0) (one : Text → Option D) → ((w : Text) (x : D) → one w ≡ Some x → P x)
@@ -59,7 +59,7 @@ by_choice : (rows : List Row) (o : Option ChosenData) (a : AskedData) → chosen
 by_choice rows None a is means = cc
 by_choice rows (Some c) a is means =
     let same : data_in rows c ≡ a = cc in
-    subst (λ (x : AskedData). All IsLookup x.lookups) same (lookups_proper _ _ c.lookups (chosen_lookups _ _ _ _ _ _ c is))
+    subst (λ (x : AskedData). All IsLookup x.lookups) same (lookups_proper (texts_of (codes "table") rows) (texts_of (codes "key") rows) c.lookups (chosen_lookups _ _ _ _ _ _ c is))
 
 -- the tables and keys of words that `clap` takes
 pub rows_proper : (rows : List Row) (result : Result Asked Refusal) → Answers (meaning_of_rows rows) result
