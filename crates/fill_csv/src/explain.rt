@@ -90,10 +90,11 @@ fn put_answer(to: &mut String, answer: &Option<Text>) -> Result<(), NoMemory> {
 
 /// The names of the tables, by their order.
 fn tables_of(alloc: Global, lookups: &[Lookup]) -> Result<Vec<Named>, NoMemory> {
-    let mut tables: Vec<Named> = Vec::new(alloc);
+    let mut tables = Vec::new(alloc);
+    let mut number: u32 = 0;
     for lookup in lookups {
         if let Lookup::Table { name, .. } = lookup {
-            let number = tables.len() as u32 + 1;
+            number = number.saturating_add(1);
             let name = String::from_str(alloc, name.as_str())?;
             tables.push(Named { number, name })?;
         }

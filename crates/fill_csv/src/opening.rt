@@ -67,7 +67,7 @@ pub(crate) fn open_sheet<C: Cabinet>(
         Ok(read) => read,
         Err(stop) => return Err(stop),
     };
-    match open_tables(alloc, cabinet, &asked.lookups) {
+    match open_tables(alloc, cabinet, asked.lookups.as_slice()) {
         Ok(tables) => {
             read.tables = tables;
             Ok(read)
