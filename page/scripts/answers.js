@@ -1,0 +1,73 @@
+// What the engine tells beside the filled sheet: its lines of errors, one by one.
+
+export const GIVEN = 0;
+export const SURE = 1;
+export const DOUBT = 2;
+export const NONE = 3;
+export const NONE_DOUBT = 4;
+
+/** How states are called on the page, and the mark that stands beside their colour. */
+export const STATE_NAMES = ["given", "sure", "doubt", "none", "none, in doubt"];
+export const STATE_MARKS = ["●", "✓", "?", "∅", "∅?"];
+
+export const isDoubtful = (state) => state === DOUBT || state === NONE_DOUBT;
+
+/** The lines without the program's name before them. */
+const linesOf = (text) => text.split("\n").filter((it) => it !== "").map((it) => it.replace(/^(?:fillcsv|flashfill): /, ""));
+
+/** Why given cells are not learned from: the reasons by record, counted from 0. */
+function refusalsIn(lines) {
+    const refusals = new Map();
+    for (const line of lines) {
+        const found = /^row (\d+): (not learned from.*)$/.exec(line);
+        if (found) refusals.set(Number(found[1]) - 1, found[2]);
+    }
+    return refusals;
+}
+
+/** How many cells have each state, in the order of the states; the header is no cell. */
+function countsOf(states, header) {
+    const counts = [0, 0, 0, 0, 0];
+    for (let record = header ? 1 : 0; record < states.length; record++) counts[states[record]]++;
+    return counts;
+}
+
+/** What the engine told of a fill, in the page's terms. `notes` are the lines that belong to no cell. */
+export function filledOf(answer, header) {
+    const lines = linesOf(answer.lines);
+    const refusals = refusalsIn(lines);
+    const isNote = (line) => !/^row \d+: not learned|^look at row |^\d+ given, /.test(line);
+    const isWhole = answer.status <= 1;
+    return {
+        isWhole,
+        texts: answer.texts,
+        states: answer.states,
+        counts: isWhole ? countsOf(answer.states, header) : [0, 0, 0, 0, 0],
+        refusals,
+        notes: lines.filter(isNote),
+        lines,
+        times: answer.times,
+    };
+}
+
+/** The line of an answer that is none: what the program says, or the status where it says nothing. */
+export function problemOf({ status, lines }) {
+    const said = linesOf(lines);
+    if (said.length > 0) return said.map((line) => line.replace(/^error: /, "")).join(" ");
+    return status === 6 ? "out of memory" : `the engine stopped with status ${status}`;
+}
+
+/**
+ * The next row to look at, a record counted from 0, or null where no row is in doubt: the first one in doubt after `from`,
+ * or else from the top. The engine has no better order yet.
+ */
+export function suggest(filled, header, from) {
+    const { states } = filled;
+    const first = header ? 1 : 0;
+    const count = states.length - first;
+    for (let step = 1; step <= count; step++) {
+        const record = first + ((((from - first + step) % count) + count) % count);
+        if (isDoubtful(states[record])) return record;
+    }
+    return null;
+}

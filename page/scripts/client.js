@@ -1,0 +1,74 @@
+// The page's side of the worker. Of requests in one lane that wait, only the newest is sent.
+
+export class Client {
+    #worker = null;
+    #held = new Map();
+    #waiting = [];
+    #sent = null;
+    #next = 1;
+
+    constructor() {
+        this.#start();
+    }
+
+    #start() {
+        this.#worker = new Worker(new URL("./worker.js", import.meta.url), { type: "module" });
+        this.#worker.onmessage = ({ data }) => this.#ended(data);
+        this.#worker.onerror = (event) => this.#ended({ id: this.#sent?.id, failed: event.message ?? "the worker could not start" });
+    }
+
+    /** Whether a request is on its way. */
+    get isBusy() {
+        return this.#sent !== null;
+    }
+
+    /** Holds a file for all later requests; without bytes it is forgotten. */
+    hold(name, bytes) {
+        if (bytes) this.#held.set(name, bytes);
+        else this.#held.delete(name);
+        return this.ask("hold", { name, bytes });
+    }
+
+    /**
+     * Sends a request, and answers what comes back; null where a newer one in the same lane has taken its place.
+     * Rejects where the engine could not be loaded, or stopped in the middle.
+     */
+    ask(kind, request, lane = null) {
+        return new Promise((resolve, reject) => {
+            if (lane !== null) {
+                for (const old of this.#waiting.filter((it) => it.lane === lane)) old.resolve(null);
+                this.#waiting = this.#waiting.filter((it) => it.lane !== lane);
+            }
+            this.#waiting.push({ id: this.#next++, kind, request, lane, resolve, reject });
+            this.#send();
+        });
+    }
+
+    /** Stops the request that is on its way, with a new worker. Its answer is null. */
+    stop() {
+        const stopped = this.#sent;
+        this.#worker.terminate();
+        this.#sent = null;
+        this.#start();
+        const again = [...this.#held].map(([name, bytes]) => ({ id: this.#next++, kind: "hold", request: { name, bytes }, lane: null, resolve() {}, reject() {} }));
+        this.#waiting.unshift(...again);
+        stopped?.resolve(null);
+        this.#send();
+    }
+
+    #send() {
+        if (this.#sent || this.#waiting.length === 0) return;
+        this.#sent = this.#waiting.shift();
+        const { id, kind, request } = this.#sent;
+        this.#worker.postMessage({ id, kind, request });
+    }
+
+    #ended({ id, answer, failed }) {
+        if (!this.#sent || this.#sent.id !== id) return;
+        const { resolve, reject } = this.#sent;
+        this.#sent = null;
+        if (failed === undefined) resolve(answer);
+        else reject(new Error(failed));
+        this.#send();
+    }
+}

@@ -1,0 +1,398 @@
+// The page: what is shown, and what happens when a person does something.
+import { filledOf, isDoubtful, problemOf, suggest } from "./answers.js";
+import { FILTERS, listenToChoices, showChoices, showStates, withColumn } from "./bar.js";
+import { Client } from "./client.js";
+import { recordsOfPasted } from "./csv.js";
+import { byId, say } from "./dom.js";
+import { Editor, listen } from "./editor.js";
+import { canRun } from "./engine.js";
+import { EXAMPLE } from "./example.js";
+import { explain } from "./explain.js";
+import { askForCells, download, listenForFiles } from "./files.js";
+import { Grid } from "./grid.js";
+import { History, Sheet, firstChoices } from "./model.js";
+import { showCell, showNothing, showOther, showResult } from "./panel.js";
+import { PlainWords } from "./plain.js";
+import { TablesCard } from "./tables.js";
+import { fileWord, fillWords, shellLine } from "./words.js";
+
+class Page {
+    constructor() {
+        this.client = new Client();
+        this.sheet = null;
+        this.history = null;
+        this.filled = null;
+        this.filter = null;
+        this.explained = null;
+        this.preview = null;
+        this.grid = new Grid(byId("grid"), {
+            onActive: () => this.showCard(),
+            onScroll: () => this.editor.close(true),
+            onEdit: () => this.edit(),
+        });
+        this.editor = new Editor(this.grid, {
+            onTyping: (record, text) => this.typing(record, text),
+            onDone: (record, text, isEntered) => this.typed(record, text, isEntered),
+        });
+        this.tables = new TablesCard(this);
+    }
+
+    get choices() {
+        return this.history.now;
+    }
+
+    /** The number of the filled column. */
+    get place() {
+        return this.choices.place(this.sheet);
+    }
+
+    /** Opens a sheet. `sources` are the columns that are read at first, where they are not the usual ones. */
+    async open(name, bytes, sources = null) {
+        this.editor.close(false);
+        try {
+            if (this.sheet) await this.client.hold(fileWord(this.sheet.name), null);
+            await this.client.hold(fileWord(name), bytes);
+            const answer = await this.client.ask("open", { word: fileWord(name) });
+            this.sheet = new Sheet(name, answer.records);
+            this.showProblem(answer.status > 1 ? problemOf(answer) : null);
+            if (this.sheet.width === 0) return this.showEmpty();
+        } catch (error) {
+            return this.showProblem(error.message);
+        }
+        const choices = firstChoices(this.sheet);
+        this.history = new History(sources ? choices.with({ sources }) : choices);
+        this.filled = null;
+        this.filter = null;
+        this.explained = null;
+        const first = Math.min(this.choices.header ? 1 : 0, this.sheet.records.length - 1);
+        this.grid.active = { record: first, column: this.place };
+        byId("grid").scrollTop = 0;
+        this.render();
+        await this.refresh();
+        if (!this.filled?.isWhole) return;
+        const doubtful = suggest(this.filled, this.choices.header, this.choices.header ? 0 : -1);
+        if (doubtful !== null && this.filled.counts[0] > 0) this.grid.choose(doubtful, this.place);
+    }
+
+    /** Where a file has no records. */
+    showEmpty() {
+        byId("file-name").textContent = this.sheet.name;
+        byId("file-size").textContent = "no rows";
+        this.history = null;
+        this.filled = null;
+        byId("grid").classList.add("empty");
+        showNothing("Nothing to fill. Open another file.");
+    }
+
+    /** Takes up other choices, which can be undone. */
+    choose(changes) {
+        this.history.push(this.choices.with(changes));
+        this.changed();
+    }
+
+    changed() {
+        this.render();
+        return this.refresh();
+    }
+
+    fillColumn(column) {
+        this.history.push(withColumn(this.sheet, this.choices, column));
+        this.filter = null;
+        this.grid.active = { record: this.grid.active.record, column: this.place };
+        this.changed();
+    }
+
+    undo() {
+        this.editor.close(false);
+        this.history?.undo();
+        if (this.history) this.changed();
+    }
+
+    redo() {
+        this.editor.close(false);
+        this.history?.redo();
+        if (this.history) this.changed();
+    }
+
+    /** A text is given for a cell; null takes it back. */
+    give(record, text) {
+        if (this.choices.given(this.sheet, record) === text) return this.refresh();
+        this.history.push(this.choices.typing(this.sheet, record, text));
+        return this.changed();
+    }
+
+    typing(record, text) {
+        this.preview = this.choices.typing(this.sheet, record, text === "" ? null : text);
+        this.refresh();
+    }
+
+    /**
+     * Typing has ended. An empty text takes back what was given; null leaves all as it was. The text that stood there
+     * already is no example, but where Enter was pressed on a guess.
+     */
+    typed(record, text, isEntered) {
+        this.preview = null;
+        const isSame = text === this.startText && !(isEntered && this.wasDoubtful);
+        if (text === null || isSame) return this.refresh();
+        this.give(record, text === "" ? null : text);
+    }
+
+    /** Edits the chosen cell, with the text that stands there. */
+    edit() {
+        if (!this.mayEdit()) return;
+        const { record } = this.grid.active;
+        const { isWhole, texts, states } = this.filled ?? {};
+        this.startText = isWhole ? texts[record] : (this.choices.given(this.sheet, record) ?? "");
+        this.wasDoubtful = isWhole && isDoubtful(states[record]);
+        this.editor.open(this.startText, false);
+    }
+
+    /** Begins to type into the chosen cell. */
+    type(text) {
+        if (!this.mayEdit()) return;
+        const { record } = this.grid.active;
+        this.startText = null;
+        this.editor.open(text, false);
+        this.typing(record, text);
+    }
+
+    mayEdit() {
+        if (!this.history || this.grid.placeOf(this.grid.active.record) < 0) return false;
+        if (this.grid.active.column === this.place) return true;
+        say("This column is read and stays as it is");
+        byId("cell").classList.remove("nudge");
+        requestAnimationFrame(() => byId("cell").classList.add("nudge"));
+        return false;
+    }
+
+    clear() {
+        if (this.mayEdit()) this.give(this.grid.active.record, null);
+    }
+
+    /** Takes one of the two answers of the chosen cell, or any text. */
+    take(text) {
+        this.give(this.grid.active.record, text ?? "");
+        byId("grid").focus({ preventScroll: true });
+    }
+
+    takeAnswer(which) {
+        const answer = this.explained?.answers[which];
+        if (answer && this.explained.record === this.grid.active.record) this.take(answer.text);
+        else if (which === 0 && this.filled && isDoubtful(this.filled.states[this.grid.active.record])) this.take(this.filled.texts[this.grid.active.record]);
+    }
+
+    /** Goes to the next row to look at. */
+    next(step) {
+        if (!this.filled?.isWhole) return;
+        const { header } = this.choices;
+        let found = suggest(this.filled, header, this.grid.active.record);
+        if (step < 0) {
+            const before = (record) => isDoubtful(this.filled.states[record]);
+            const all = this.grid.rows.filter(before);
+            found = all.filter((it) => it < this.grid.active.record).at(-1) ?? all.at(-1) ?? null;
+        }
+        if (found === null) return say("No row is in doubt");
+        if (this.grid.placeOf(found) < 0) this.setFilter(null);
+        this.grid.choose(found, this.place);
+        byId("grid").focus({ preventScroll: true });
+    }
+
+    /** Pastes: one column of cells goes into the filled column from the chosen cell on, and a whole sheet is opened. */
+    paste(text) {
+        const cells = recordsOfPasted(text.replace(/\r?\n$/, ""));
+        const isColumn = !text.includes("\t");
+        if (!isColumn || this.grid.active.column !== this.place) return askForCells(text, (name, bytes) => this.open(name, bytes));
+        const lines = text.replace(/\r?\n$/, "").split(/\r?\n/);
+        if (cells.length === 0) return;
+        const at = this.grid.placeOf(this.grid.active.record);
+        let choices = this.choices;
+        lines.slice(0, this.grid.rows.length - at).forEach((line, index) => {
+            if (line !== "") choices = choices.typing(this.sheet, this.grid.rows[at + index], line);
+        });
+        this.history.push(choices);
+        this.changed();
+    }
+
+    setFilter(name) {
+        this.filter = name;
+        this.showRows();
+        showStates(this.filled, this.filter, (it) => this.setFilter(it));
+        if (this.grid.placeOf(this.grid.active.record) < 0 && this.grid.rows.length > 0) this.grid.choose(this.grid.rows[0], this.place);
+    }
+
+    /** The records that are shown. */
+    shownRows() {
+        const states = FILTERS.find((it) => it.name === this.filter)?.states;
+        const rows = [];
+        for (let record = this.choices.header ? 1 : 0; record < this.sheet.records.length; record++) {
+            if (!states || !this.filled?.isWhole || states.includes(this.filled.states[record])) rows.push(record);
+        }
+        return rows;
+    }
+
+    showRows() {
+        this.grid.show(this.preview ? this.grid.rows : this.shownRows(), this.choices, this.filled);
+    }
+
+    /** Shows all that does not wait for the engine. */
+    render() {
+        const { sheet, choices } = this;
+        byId("grid").classList.remove("empty");
+        byId("file-name").textContent = sheet.name;
+        const rows = sheet.records.length - (choices.header ? 1 : 0);
+        byId("file-size").textContent = `${rows.toLocaleString("en")} ${rows === 1 ? "row" : "rows"}`;
+        byId("undo").disabled = !this.history.canUndo;
+        byId("redo").disabled = !this.history.canRedo;
+        showChoices(sheet, choices);
+        this.tables.show();
+        this.grid.layOut(sheet, choices);
+        this.showRows();
+    }
+
+    /** Asks the engine, and shows what it answers; what is older than a newer question is passed over. */
+    async refresh() {
+        const choices = this.preview ?? this.choices;
+        const { sheet } = this;
+        const began = performance.now();
+        let answer;
+        try {
+            const request = { words: fillWords(sheet, choices, true), column: choices.place(sheet), header: choices.header };
+            this.showBusy();
+            answer = await this.client.ask("fill", request, "fill");
+        } catch (error) {
+            this.showProblem(error.message);
+            return;
+        } finally {
+            this.showBusy();
+        }
+        if (answer === null || sheet !== this.sheet) return;
+        this.filled = filledOf(answer, choices.header);
+        this.explained = null;
+        this.showProblem(this.filled.isWhole ? null : problemOf(answer));
+        this.showRows();
+        showStates(this.filled, this.filter, (it) => this.setFilter(it));
+        byId("next").disabled = !this.filled.isWhole || suggest(this.filled, choices.header, 0) === null;
+        const took = performance.now() - began;
+        byId("time").textContent = this.filled.isWhole ? `filled in ${took < 10 ? took.toFixed(1) : Math.round(took)} ms` : "";
+        document.body.dataset.filled = String(Number(document.body.dataset.filled ?? 0) + 1);
+        if (this.preview) return;
+        this.showResult();
+        this.showCard();
+        const [given, sure, doubt, none, noneDoubt] = this.filled.counts;
+        say(`${given} given, ${sure} sure, ${doubt + noneDoubt} in doubt, ${none} none`);
+    }
+
+    showBusy() {
+        clearTimeout(this.busyTimer);
+        if (this.client.isBusy) this.busyTimer = setTimeout(() => (byId("busy").hidden = !this.client.isBusy), 300);
+        else byId("busy").hidden = true;
+    }
+
+    showProblem(text) {
+        byId("problem").hidden = text === null;
+        byId("problem").textContent = text ?? "";
+        if (text !== null && this.history) showNothing("Nothing is filled until this is mended.");
+    }
+
+    showResult() {
+        const line = shellLine(fillWords(this.sheet, this.choices, false));
+        showResult(line, this.filled.notes, this.filled.isWhole, {
+            download: () => this.download(),
+            copy: async () => {
+                await navigator.clipboard.writeText(line);
+                say("Copied");
+            },
+        });
+    }
+
+    async download() {
+        const words = fillWords(this.sheet, this.choices, false);
+        const answer = await this.client.ask("run", { program: "fillcsv", words });
+        if (answer.status > 1) return this.showProblem(problemOf(answer));
+        download(`${this.sheet.name.replace(/\.(csv|txt|tsv)$/i, "")}-filled.csv`, answer.out);
+    }
+
+    /** Shows the card of the chosen cell, and asks for the reasons of a doubt. */
+    async showCard() {
+        const { record, column } = this.grid.active;
+        if (!this.filled?.isWhole || this.preview || this.editor.isOpen) return;
+        const { sheet, choices, filled } = this;
+        if (column !== this.place) return showOther(sheet.title(column, choices.header), record, sheet.text(record, column), () => this.fillColumn(column));
+        if (this.explained?.record !== record) this.explained = null;
+        this.drawCell(record);
+        if (this.explained || !isDoubtful(filled.states[record])) return;
+        try {
+            const found = await explain(this.client, sheet, choices, filled, record);
+            if (!found || this.filled !== filled || this.grid.active.record !== record || this.grid.active.column !== this.place) return;
+            this.explained = { ...found, record };
+            this.drawCell(record);
+        } catch (error) {
+            this.showProblem(error.message);
+        }
+    }
+
+    drawCell(record) {
+        const { sheet, choices } = this;
+        const title = choices.column === null ? choices.newName : sheet.title(choices.column, choices.header);
+        const names = { column: (it) => sheet.title(it, choices.header), tableColumn: (table, column) => this.tables.columnTitle(table, column) };
+        showCell(title, record, this.filled, this.explained, new PlainWords(names), {
+            take: (text) => this.take(text),
+            edit: () => this.edit(),
+            clear: () => this.give(record, null),
+            keepEmpty: () => this.take(""),
+        });
+    }
+
+    /** Lets buttons and keys of the whole page work. */
+    listen() {
+        listenToChoices(this);
+        listenForFiles({ open: (name, bytes) => this.open(name, bytes), addTable: (name, bytes) => this.tables.add(name, bytes) });
+        listen(this.grid, {
+            type: (text) => this.type(text),
+            edit: () => this.edit(),
+            clear: () => this.clear(),
+            next: (step) => this.next(step),
+            take: (which) => this.takeAnswer(which),
+        });
+        byId("undo").addEventListener("click", () => this.undo());
+        byId("redo").addEventListener("click", () => this.redo());
+        byId("next").addEventListener("click", () => this.next(1));
+        byId("stop").addEventListener("click", () => this.client.stop());
+        document.addEventListener("keydown", (event) => {
+            if (!(event.ctrlKey || event.metaKey) || event.altKey || event.target.matches("input, textarea")) return;
+            const key = event.key.toLowerCase();
+            if (key === "z" && !event.shiftKey) this.undo();
+            else if (key === "y" || (key === "z" && event.shiftKey)) this.redo();
+            else return;
+            event.preventDefault();
+        });
+        byId("grid").addEventListener("copy", (event) => {
+            const { record, column } = this.grid.active;
+            const text = column === this.place && this.filled?.isWhole ? this.filled.texts[record] : this.sheet.text(record, column);
+            event.clipboardData.setData("text/plain", text);
+            event.preventDefault();
+        });
+        document.addEventListener("paste", (event) => {
+            if (event.target.matches?.("input, textarea") || byId("paste-dialog").open) return;
+            const text = event.clipboardData.getData("text/plain");
+            if (text && this.history) this.paste(text);
+            event.preventDefault();
+        });
+    }
+
+    async start() {
+        this.listen();
+        byId("hello").hidden = localStorage.getItem("flashfill-hello") === "done";
+        byId("hello-done").addEventListener("click", () => {
+            localStorage.setItem("flashfill-hello", "done");
+            byId("hello").hidden = true;
+            byId("grid").focus();
+        });
+        if (!canRun()) return this.showProblem("This browser cannot run the engine: it needs WebAssembly with 64-bit memory, as in Chromium 133, Firefox 134 or later.");
+        await this.tables.start();
+        await this.open(EXAMPLE.name, new TextEncoder().encode(EXAMPLE.text), EXAMPLE.sources);
+    }
+}
+
+const page = new Page();
+page.start();

@@ -1,0 +1,80 @@
+// The cards beside the sheet: what is known of the chosen cell, and what to do with the result.
+import { DOUBT, GIVEN, NONE, NONE_DOUBT, STATE_MARKS, STATE_NAMES, SURE, isDoubtful } from "./answers.js";
+import { byId, element } from "./dom.js";
+
+const STATE_CLASSES = ["given", "sure", "doubt", "none", "none-doubt"];
+
+const SENTENCES = {
+    [GIVEN]: "You gave this text. The column is learned from it.",
+    [SURE]: "Every rule that explains your examples gives this text.",
+    [DOUBT]: "A guess: rules that explain your examples give different texts here.",
+    [NONE]: "No rule that explains your examples gives a text here. Fill it by hand if you want one.",
+    [NONE_DOUBT]: "The simplest rule gives no text here, another one does.",
+};
+
+/** A text as it is shown on a button. */
+const shown = (text) => (text === null || text === "" ? element("i", {}, "stays empty") : text);
+
+const badge = (state) => element("span", { class: `badge ${STATE_CLASSES[state]}` }, element("span", { "aria-hidden": "true" }, STATE_MARKS[state]), ` ${STATE_NAMES[state]}`);
+
+const steps = (pieces) => element("ul", { class: "pieces" }, pieces.map((it) => element("li", {}, it)));
+
+/** The button that takes one of two answers, with the rule behind it in words. */
+function answerButton(which, answer, words, onTake) {
+    const rule = answer.program === null ? null : element("span", { class: "rule", title: answer.program }, steps(words.program(answer.program)));
+    const keys = element("kbd", {}, `Alt+${which + 1}`);
+    return element("button", { type: "button", class: "answer", onclick: () => onTake(answer.text) }, element("span", { class: "answer-text" }, shown(answer.text)), keys, rule);
+}
+
+/** The card of a cell that is not in the filled column. */
+export function showOther(title, record, text, onFill) {
+    byId("cell").replaceChildren(
+        element("h2", {}, `${title}, row ${record + 1}`),
+        element("p", { class: "cell-text" }, text === "" ? element("i", {}, "empty") : text),
+        element("p", {}, "This column is read and stays as it is."),
+        element("button", { type: "button", onclick: onFill }, `Fill “${title}” instead`),
+    );
+}
+
+/**
+ * The card of a cell of the filled column. `explained` is what `explain` answers, or null; `calls` has `take(text)`,
+ * `edit()`, `clear()` and `keepEmpty()`.
+ */
+export function showCell(title, record, filled, explained, words, calls) {
+    const state = filled.states[record];
+    const refusal = filled.refusals.get(record);
+    const text = filled.texts[record];
+    const parts = [element("h2", {}, `${title}, row ${record + 1}`, badge(state))];
+    const answers = explained?.answers ?? [];
+    if (isDoubtful(state) && answers.length === 2) {
+        parts.push(element("p", {}, SENTENCES[state]));
+        parts.push(element("div", { class: "answers" }, answers.map((it, which) => answerButton(which, it, words, calls.take))));
+    } else {
+        parts.push(element("p", { class: "cell-text" }, shown(text)));
+        parts.push(element("p", { class: refusal ? "refusal" : null }, refusal ? `This text is ${refusal}. It stays as you gave it.` : SENTENCES[state]));
+        if (isDoubtful(state)) parts.push(element("button", { type: "button", onclick: () => calls.take(text) }, "Yes, take this text"));
+    }
+    const tools = [element("button", { type: "button", onclick: calls.edit }, state === GIVEN ? "Change it" : "Type another text")];
+    if (state === GIVEN) tools.push(element("button", { type: "button", onclick: calls.clear }, "Take it back"));
+    if (text !== "" || state !== GIVEN) tools.push(element("button", { type: "button", onclick: calls.keepEmpty }, "Leave it empty"));
+    parts.push(element("p", { class: "row-of-buttons" }, tools));
+    byId("cell").replaceChildren(...parts);
+}
+
+/** The card where nothing is filled. */
+export function showNothing(text) {
+    byId("cell").replaceChildren(element("p", {}, text));
+}
+
+/** The card of the result. `calls` has `download()` and `copy()`. */
+export function showResult(line, notes, canDownload, calls) {
+    const code = element("code", { tabindex: 0, "aria-label": "The command" }, line);
+    byId("result").replaceChildren(
+        element("h2", {}, "The filled sheet"),
+        element("p", { class: "row-of-buttons" }, element("button", { type: "button", class: "main", disabled: !canDownload, onclick: calls.download }, "Download CSV")),
+        element("p", {}, "The proved program writes the same bytes from this line:"),
+        element("pre", {}, code),
+        element("p", { class: "row-of-buttons" }, element("button", { type: "button", onclick: calls.copy }, "Copy this line")),
+        ...(notes.length > 0 ? [element("ul", { class: "notes" }, notes.map((it) => element("li", {}, it)))] : []),
+    );
+}
