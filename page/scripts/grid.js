@@ -6,6 +6,9 @@ import { element } from "./dom.js";
 const ROW = 30;
 /** How many rows are kept ready above and below those in view. */
 const MORE = 8;
+/** How many rows are measured for the width of a column, and how wide one becomes at most. */
+const SAMPLE = 200;
+const MOST_WIDE = 320;
 const STATE_CLASSES = ["given", "sure", "doubt", "none", "none-doubt"];
 
 const cellId = (record, column) => `cell-${record}-${column}`;
@@ -58,6 +61,7 @@ export class Grid {
         this.places = null;
         this.body.style.height = `${rows.length * ROW}px`;
         this.place.setAttribute("aria-rowcount", String(rows.length + 1));
+        this.#widen();
         this.#draw(true);
     }
 
@@ -90,6 +94,11 @@ export class Grid {
         return Math.max(1, Math.floor((this.place.clientHeight - ROW) / ROW) - 1);
     }
 
+    /** The records whose rows are in view, or almost. */
+    get inView() {
+        return this.slots.filter((it) => it.at >= 0).map((it) => this.rows[it.at]).filter((it) => it !== undefined);
+    }
+
     /** The element of the chosen cell; null where it is out of view. */
     get activeCell() {
         return this.place.querySelector(`#${cellId(this.active.record, this.active.column)}`);
@@ -114,16 +123,29 @@ export class Grid {
         const style = getComputedStyle(this.place);
         pen.font = `${style.fontSize} ${style.fontFamily}`;
         const { sheet, columns } = this;
-        const sample = sheet.records.slice(0, 200);
-        const widths = columns.map(({ number, title, role }) => {
-            let most = pen.measureText(title).width * 1.08 + 28;
-            for (const record of sample) most = Math.max(most, pen.measureText((record[number - 1] ?? "").slice(0, 60)).width + 20);
-            return Math.round(role === "fills" ? Math.min(360, Math.max(180, most + 30)) : Math.min(300, Math.max(64, most)));
+        const sample = sheet.records.slice(0, SAMPLE);
+        this.widthOf = (text) => pen.measureText(text.slice(0, 60)).width;
+        this.widths = columns.map(({ number, title, role }) => {
+            const widest = sample.reduce((most, record) => Math.max(most, this.widthOf(record[number - 1] ?? "")), 0);
+            const wanted = Math.max(this.widthOf(title) * 1.08 + 44, widest + 20);
+            return Math.round(role === "fills" ? Math.min(MOST_WIDE, Math.max(160, wanted + 30)) : Math.min(MOST_WIDE, Math.max(64, wanted)));
         });
-        const digits = pen.measureText(String(sheet.records.length)).width;
-        const template = [`${Math.round(digits) + 24}px`, ...widths.map((it) => `${it}px`), "minmax(0, 1fr)"].join(" ");
-        this.place.style.setProperty("--columns", template);
-        this.place.style.setProperty("--numbers", `${Math.round(digits) + 24}px`);
+        this.#applyWidths();
+    }
+
+    #applyWidths() {
+        const numbers = Math.round(this.widthOf(String(this.sheet.records.length))) + 24;
+        this.place.style.setProperty("--columns", [numbers, ...this.widths].map((it) => `${it}px`).join(" ") + " minmax(0, 1fr)");
+    }
+
+    /** Makes the filled column as wide as its texts need; it never becomes narrower, so that nothing jumps. */
+    #widen() {
+        const at = this.columns.findIndex((it) => it.role === "fills");
+        const texts = this.filled?.isWhole ? this.filled.texts.slice(0, SAMPLE) : [];
+        const wanted = Math.round(Math.min(MOST_WIDE, texts.reduce((most, text) => Math.max(most, this.widthOf(text)), 0) * 1.03 + 48));
+        if (wanted <= this.widths[at]) return;
+        this.widths[at] = wanted;
+        this.#applyWidths();
     }
 
     #fillHead() {
@@ -131,7 +153,7 @@ export class Grid {
             const note = role === "fills" ? "filled" : role === "reads" ? "read" : "";
             return element("div", { class: `title ${role}`, role: "columnheader", "aria-colindex": number + 1, title }, element("span", {}, title), note ? element("small", {}, note) : null);
         });
-        const corner = element("div", { class: "number", role: "columnheader", "aria-colindex": 1, "aria-label": "Row" });
+        const corner = element("div", { class: "number", role: "columnheader", "aria-colindex": 1, "aria-label": "Row" }, this.choices.header ? "1" : "");
         this.head.replaceChildren(corner, ...cells, element("div", { class: "filler", role: "presentation" }));
     }
 
@@ -144,8 +166,9 @@ export class Grid {
         const title = this.head.children[column];
         if (!title || title.classList.contains("fills")) return;
         const left = title.offsetLeft - this.head.children[0].offsetWidth;
+        // the filled column may cover the right edge
         const fills = this.head.querySelector(".fills");
-        const right = title.offsetLeft + title.offsetWidth + (fills && fills.offsetLeft > title.offsetLeft ? 0 : 0);
+        const right = title.offsetLeft + title.offsetWidth + (this.columns[column - 1].number < this.choices.place(this.sheet) ? fills.offsetWidth : 0);
         if (left < place.scrollLeft) place.scrollLeft = left;
         else if (right > place.scrollLeft + place.clientWidth) place.scrollLeft = right - place.clientWidth;
     }
@@ -234,9 +257,10 @@ export class Grid {
         const state = filled.states[record];
         const refusal = filled.refusals.get(record);
         const shown = filled.texts[record];
+        const isOld = filled.fresh !== null && !filled.fresh.has(record);
         setText(text, shown);
         setText(mark, refusal ? "!" : STATE_MARKS[state]);
-        cell.className = `cell fills ${STATE_CLASSES[state]}${refusal ? " refused" : ""}${cell.classList.contains("active") ? " active" : ""}`;
+        cell.className = `cell fills ${STATE_CLASSES[state]}${refusal ? " refused" : ""}${isOld ? " old" : ""}${cell.classList.contains("active") ? " active" : ""}`;
         const isNothing = shown === "" && (state === NONE || state === NONE_DOUBT || state === GIVEN);
         cell.setAttribute("aria-label", `${isNothing ? "empty" : shown}, ${refusal ?? STATE_NAMES[state]}`);
         if (refusal) cell.title = refusal;

@@ -1,14 +1,13 @@
 // The page: what is shown, and what happens when a person does something.
-import { filledOf, isDoubtful, problemOf, suggest } from "./answers.js";
+import { isDoubtful, problemOf, suggest } from "./answers.js";
 import { FILTERS, listenToChoices, showChoices, showStates, withColumn } from "./bar.js";
-import { Client } from "./client.js";
 import { recordsOfPasted } from "./csv.js";
 import { byId, say } from "./dom.js";
 import { Editor, listen } from "./editor.js";
 import { canRun } from "./engine.js";
 import { EXAMPLE } from "./example.js";
-import { explain } from "./explain.js";
 import { askForCells, download, listenForFiles } from "./files.js";
+import { Filling } from "./filling.js";
 import { Grid } from "./grid.js";
 import { History, Sheet, firstChoices } from "./model.js";
 import { showCell, showNothing, showOther, showResult } from "./panel.js";
@@ -18,7 +17,11 @@ import { fileWord, fillWords, shellLine } from "./words.js";
 
 class Page {
     constructor() {
-        this.client = new Client();
+        this.filling = new Filling({
+            onFilled: (filled, isWhole) => this.showFilled(filled, isWhole),
+            onProblem: (text) => this.showProblem(text),
+            onBusy: () => this.showBusy(),
+        });
         this.sheet = null;
         this.history = null;
         this.filled = null;
@@ -50,9 +53,7 @@ class Page {
     async open(name, bytes, sources = null) {
         this.editor.close(false);
         try {
-            if (this.sheet) await this.client.hold(fileWord(this.sheet.name), null);
-            await this.client.hold(fileWord(name), bytes);
-            const answer = await this.client.ask("open", { word: fileWord(name) });
+            const answer = await this.filling.open(fileWord(name), bytes);
             this.sheet = new Sheet(name, answer.records);
             this.showProblem(answer.status > 1 ? problemOf(answer) : null);
             if (this.sheet.width === 0) return this.showEmpty();
@@ -176,9 +177,10 @@ class Page {
     }
 
     takeAnswer(which) {
-        const answer = this.explained?.answers[which];
-        if (answer && this.explained.record === this.grid.active.record) this.take(answer.text);
-        else if (which === 0 && this.filled && isDoubtful(this.filled.states[this.grid.active.record])) this.take(this.filled.texts[this.grid.active.record]);
+        const { record } = this.grid.active;
+        if (!this.filled?.isWhole || !isDoubtful(this.filled.states[record])) return;
+        const answers = this.explained?.record === record ? this.explained.answers : [{ text: this.filled.texts[record] }];
+        if (answers[which] && answers[which].text !== null) this.take(answers[which].text);
     }
 
     /** Goes to the next row to look at. */
@@ -249,42 +251,33 @@ class Page {
         this.showRows();
     }
 
-    /** Asks the engine, and shows what it answers; what is older than a newer question is passed over. */
-    async refresh() {
+    /** Asks the engine by the choices as they are, or as they would be with what is being typed. */
+    refresh() {
         const choices = this.preview ?? this.choices;
-        const { sheet } = this;
-        const began = performance.now();
-        let answer;
-        try {
-            const request = { words: fillWords(sheet, choices, true), column: choices.place(sheet), header: choices.header };
-            this.showBusy();
-            answer = await this.client.ask("fill", request, "fill");
-        } catch (error) {
-            this.showProblem(error.message);
-            return;
-        } finally {
-            this.showBusy();
-        }
-        if (answer === null || sheet !== this.sheet) return;
-        this.filled = filledOf(answer, choices.header);
+        return this.filling.fill(this.sheet, choices, this.grid.inView, this.preview !== null);
+    }
+
+    /** Shows what was filled; not `isWhole` where the rows in view alone are up to date. */
+    showFilled(filled, isWhole) {
+        const { header } = this.choices;
+        this.filled = filled;
         this.explained = null;
-        this.showProblem(this.filled.isWhole ? null : problemOf(answer));
         this.showRows();
-        showStates(this.filled, this.filter, (it) => this.setFilter(it));
-        byId("next").disabled = !this.filled.isWhole || suggest(this.filled, choices.header, 0) === null;
-        const took = performance.now() - began;
-        byId("time").textContent = this.filled.isWhole ? `filled in ${took < 10 ? took.toFixed(1) : Math.round(took)} ms` : "";
+        if (!isWhole) return;
+        showStates(filled, this.filter, (it) => this.setFilter(it));
+        byId("next").disabled = !filled.isWhole || suggest(filled, header, 0) === null;
+        byId("time").textContent = filled.isWhole ? `filled in ${filled.took < 10 ? filled.took.toFixed(1) : Math.round(filled.took)} ms` : "";
         document.body.dataset.filled = String(Number(document.body.dataset.filled ?? 0) + 1);
         if (this.preview) return;
         this.showResult();
         this.showCard();
-        const [given, sure, doubt, none, noneDoubt] = this.filled.counts;
+        const [given, sure, doubt, none, noneDoubt] = filled.counts;
         say(`${given} given, ${sure} sure, ${doubt + noneDoubt} in doubt, ${none} none`);
     }
 
     showBusy() {
         clearTimeout(this.busyTimer);
-        if (this.client.isBusy) this.busyTimer = setTimeout(() => (byId("busy").hidden = !this.client.isBusy), 300);
+        if (this.filling.isBusy) this.busyTimer = setTimeout(() => (byId("busy").hidden = !this.filling.isBusy), 300);
         else byId("busy").hidden = true;
     }
 
@@ -307,7 +300,7 @@ class Page {
 
     async download() {
         const words = fillWords(this.sheet, this.choices, false);
-        const answer = await this.client.ask("run", { program: "fillcsv", words });
+        const answer = await this.filling.run("fillcsv", words);
         if (answer.status > 1) return this.showProblem(problemOf(answer));
         download(`${this.sheet.name.replace(/\.(csv|txt|tsv)$/i, "")}-filled.csv`, answer.out);
     }
@@ -322,9 +315,9 @@ class Page {
         this.drawCell(record);
         if (this.explained || !isDoubtful(filled.states[record])) return;
         try {
-            const found = await explain(this.client, sheet, choices, filled, record);
-            if (!found || this.filled !== filled || this.grid.active.record !== record || this.grid.active.column !== this.place) return;
-            this.explained = { ...found, record };
+            const answers = await this.filling.explain(sheet, choices, filled, record);
+            if (!answers || this.filled !== filled || this.grid.active.record !== record || this.grid.active.column !== this.place) return;
+            this.explained = { answers, record };
             this.drawCell(record);
         } catch (error) {
             this.showProblem(error.message);
@@ -335,7 +328,7 @@ class Page {
         const { sheet, choices } = this;
         const title = choices.column === null ? choices.newName : sheet.title(choices.column, choices.header);
         const names = { column: (it) => sheet.title(it, choices.header), tableColumn: (table, column) => this.tables.columnTitle(table, column) };
-        showCell(title, record, this.filled, this.explained, new PlainWords(names), {
+        showCell(title, record, this.filled, this.explained?.answers ?? [], new PlainWords(names), {
             take: (text) => this.take(text),
             edit: () => this.edit(),
             clear: () => this.give(record, null),
@@ -357,7 +350,7 @@ class Page {
         byId("undo").addEventListener("click", () => this.undo());
         byId("redo").addEventListener("click", () => this.redo());
         byId("next").addEventListener("click", () => this.next(1));
-        byId("stop").addEventListener("click", () => this.client.stop());
+        byId("stop").addEventListener("click", () => this.filling.stop());
         document.addEventListener("keydown", (event) => {
             if (!(event.ctrlKey || event.metaKey) || event.altKey || event.target.matches("input, textarea")) return;
             const key = event.key.toLowerCase();
@@ -391,6 +384,7 @@ class Page {
         if (!canRun()) return this.showProblem("This browser cannot run the engine: it needs WebAssembly with 64-bit memory, as in Chromium 133, Firefox 134 or later.");
         await this.tables.start();
         await this.open(EXAMPLE.name, new TextEncoder().encode(EXAMPLE.text), EXAMPLE.sources);
+        if (document.activeElement === document.body) byId("grid").focus({ preventScroll: true });
     }
 }
 

@@ -80,6 +80,18 @@ export class Choices {
     }
 }
 
+/**
+ * A sheet of these records alone, counted from 0 and from the top down, with the choices for it. Answers of rows depend on
+ * the examples and on the row itself: so where all given cells are among the records, each has the answer of the whole sheet.
+ */
+export function partOf(sheet, choices, records) {
+    const places = new Map(records.map((record, at) => [record, at]));
+    const part = new Sheet(sheet.name, records.map((record) => sheet.records[record]));
+    const typed = new Map([...choices.typed].filter(([record]) => places.has(record)).map(([record, text]) => [places.get(record), text]));
+    const cleared = new Set([...choices.cleared].filter((record) => places.has(record)).map((record) => places.get(record)));
+    return { sheet: part, choices: choices.with({ typed, cleared }), places };
+}
+
 const isNumber = (text) => /^[\s$€£¥+-]*[\d.,]*\d[\d.,]*\s*%?$/.test(text);
 
 /** Whether a sheet's first record looks like names of columns: all different, none empty, no number. */

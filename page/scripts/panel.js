@@ -17,13 +17,15 @@ const shown = (text) => (text === null || text === "" ? element("i", {}, "stays 
 
 const badge = (state) => element("span", { class: `badge ${STATE_CLASSES[state]}` }, element("span", { "aria-hidden": "true" }, STATE_MARKS[state]), ` ${STATE_NAMES[state]}`);
 
-const steps = (pieces) => element("ul", { class: "pieces" }, pieces.map((it) => element("li", {}, it)));
+/** The pieces of a rule, one after the other. */
+const joined = (pieces) => pieces.flatMap((it, at) => [at > 0 ? element("span", { class: "plus" }, " + ") : null, element("span", {}, it)]);
 
-/** The button that takes one of two answers, with the rule behind it in words. */
-function answerButton(which, answer, words, onTake) {
-    const rule = answer.program === null ? null : element("span", { class: "rule", title: answer.program }, steps(words.program(answer.program)));
+/** The button that takes one of two answers, with the rule behind it in words. That a rule has no answer cannot be taken. */
+function answerButton(which, { text, program }, words, onTake) {
+    const rule = program === null ? null : element("span", { class: "rule", title: program }, joined(words.program(program)));
+    if (text === null) return element("div", { class: "answer" }, element("span", { class: "answer-text" }, element("i", {}, "no text at all")), rule);
     const keys = element("kbd", {}, `Alt+${which + 1}`);
-    return element("button", { type: "button", class: "answer", onclick: () => onTake(answer.text) }, element("span", { class: "answer-text" }, shown(answer.text)), keys, rule);
+    return element("button", { type: "button", class: "answer", onclick: () => onTake(text) }, element("span", { class: "answer-text" }, shown(text)), keys, rule);
 }
 
 /** The card of a cell that is not in the filled column. */
@@ -37,15 +39,14 @@ export function showOther(title, record, text, onFill) {
 }
 
 /**
- * The card of a cell of the filled column. `explained` is what `explain` answers, or null; `calls` has `take(text)`,
+ * The card of a cell of the filled column. `answers` are those that `explain` finds, or none; `calls` has `take(text)`,
  * `edit()`, `clear()` and `keepEmpty()`.
  */
-export function showCell(title, record, filled, explained, words, calls) {
+export function showCell(title, record, filled, answers, words, calls) {
     const state = filled.states[record];
     const refusal = filled.refusals.get(record);
     const text = filled.texts[record];
     const parts = [element("h2", {}, `${title}, row ${record + 1}`, badge(state))];
-    const answers = explained?.answers ?? [];
     if (isDoubtful(state) && answers.length === 2) {
         parts.push(element("p", {}, SENTENCES[state]));
         parts.push(element("div", { class: "answers" }, answers.map((it, which) => answerButton(which, it, words, calls.take))));

@@ -25,20 +25,35 @@ function ordinal(count) {
 
 const spans = (tokens) => tokens.map((it) => TOKEN_WORDS[it] ?? it).join(" and ");
 
-/** A place, as it stands behind “from” or “to”. */
-function placeWords({ name, parts }) {
+/** What a place stands at: the token behind it or before it, or a count of characters. */
+function placeOf({ name, parts }) {
     if (name === "CPos") {
         const [count] = parts;
-        if (count === 0) return "the start";
-        if (count === -1) return "the end";
-        if (count < 0) return `${-count - 1} characters before the end`;
-        return count === 1 ? "behind the first character" : `behind the first ${count} characters`;
+        if (count === 0) return { at: "the start" };
+        if (count === -1) return { at: "the end" };
+        if (count < 0) return { at: `${-count - 1} characters before the end` };
+        return { at: count === 1 ? "after the first character" : `after the first ${count} characters` };
     }
     const [before, behind, count] = parts;
-    if (behind.length === 0) return `behind the ${ordinal(count)} ${spans(before)}`;
-    if (before.length === 0) return `before the ${ordinal(count)} ${spans(behind)}`;
-    if (before[0] === "Start" && before.length === 1) return `the start, before a ${spans(behind)}`;
-    return `the ${ordinal(count)} place between ${spans(before)} and ${spans(behind)}`;
+    if (behind.length === 0) return { behind: `the ${ordinal(count)} ${spans(before)}` };
+    if (before.length === 0) return { before: `the ${ordinal(count)} ${spans(behind)}` };
+    if (before.length === 1 && before[0] === "Start") return { at: `the start, if it is a ${spans(behind)}` };
+    if (behind.length === 1 && behind[0] === "End") return { at: `the end, if it is a ${spans(before)}` };
+    return { at: `the ${ordinal(count)} place between ${spans(before)} and ${spans(behind)}` };
+}
+
+/** “from the last run of capitals”, “after the first blank”. */
+function fromWords(place) {
+    const { at, behind, before } = placeOf(place);
+    if (behind) return `after ${behind}`;
+    return at?.startsWith("after") ? at : `from ${before ?? at}`;
+}
+
+/** “up to the first comma”, “to the end of the second word”. */
+function toWords(place) {
+    const { at, behind, before } = placeOf(place);
+    if (behind) return `to the end of ${behind}`;
+    return before ? `up to ${before}` : `up to ${at}`.replace("up to after", "up to");
 }
 
 const isStart = (place) => place.name === "CPos" && place.parts[0] === 0;
@@ -61,9 +76,9 @@ function pieceWords(source, from, to) {
         const count = -from.parts[0] - 1;
         return count === 1 ? `the last character of ${source}` : `the last ${count} characters of ${source}`;
     }
-    if (isEnd(to)) return from.name === "Pos" && from.parts[1].length === 0 ? `${source} ${placeWords(from)}` : `${source} from ${placeWords(from)} on`;
-    if (isStart(from)) return `${source} up to ${placeWords(to)}`.replace("up to before", "up to");
-    return `${source} from ${placeWords(from)} to ${placeWords(to)}`;
+    if (isEnd(to)) return `${source} ${fromWords(from)}${fromWords(from).startsWith("from") ? " on" : ""}`;
+    if (isStart(from)) return `${source} ${toWords(to)}`;
+    return `${source} ${fromWords(from)} ${toWords(to)}`;
 }
 
 /** Words for programs over a sheet: `names` has the titles of its columns and of its tables' columns. */

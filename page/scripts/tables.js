@@ -18,7 +18,7 @@ export class TablesCard {
 
     /** Finds out whether the engine knows tables. */
     async start() {
-        const help = await this.page.client.ask("run", { program: "fillcsv", words: ["--help"] });
+        const help = await this.page.filling.run("fillcsv", ["--help"]);
         this.isThere = new TextDecoder().decode(help.out).includes("--table");
         byId("tables").hidden = !this.isThere;
     }
@@ -35,8 +35,8 @@ export class TablesCard {
         if (!this.isThere || !page.history || page.choices.tables.length >= MOST_TABLES) return;
         const file = fileWord(fileName);
         const name = fileName.replace(/\.[^.]*$/, "").replace(/[^\w-]+/g, "-");
-        await page.client.hold(file, bytes);
-        const answer = await page.client.ask("run", { program: "flashfill", words: ["keys", file] });
+        await page.filling.hold(file, bytes);
+        const answer = await page.filling.run("flashfill", ["keys", file]);
         if (answer.status !== 0) return page.showProblem(problemOf(answer));
         const offered = recordsOf(new TextDecoder().decode(answer.out)).map(([, ...columns]) => columns.map(Number));
         if (offered.length === 0) return page.showProblem(`${fileName}: no columns tell its rows apart, so nothing can be looked up in it`);

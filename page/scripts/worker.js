@@ -9,6 +9,9 @@ const engine = Engine.load(new URL("../engine.wasm", import.meta.url));
 /** The states of cells as the engine writes them; a cell's state goes to the page as its place in this list. */
 const STATES = ["given", "sure", "doubt", "none", "none doubt"];
 
+/** The files that are held, and those that one request alone sees. */
+const withMore = (more) => (more ? new Map([...files, ...more]) : files);
+
 const kinds = {
     /** Says whether the engine is there. */
     async ready() {
@@ -32,9 +35,9 @@ const kinds = {
     },
 
     /** A column filled: its texts, and the states of its cells, in the order of the sheet's records. */
-    async fill({ words, column, header }) {
+    async fill({ words, column, header, more }) {
         const began = performance.now();
-        const { status, out, err } = (await engine).run("fillcsv", words, files);
+        const { status, out, err } = (await engine).run("fillcsv", words, withMore(more));
         const ran = performance.now();
         const texts = [];
         const states = [];
@@ -50,7 +53,7 @@ const kinds = {
 
     /** A program's answer as it is; `more` are files that this call alone sees. */
     async run({ program, words, more }) {
-        const { status, out, err } = (await engine).run(program, words, new Map([...files, ...(more ?? [])]));
+        const { status, out, err } = (await engine).run(program, words, withMore(more));
         return { status, lines: decoder.decode(err), out };
     },
 };

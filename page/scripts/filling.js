@@ -1,0 +1,123 @@
+// Asks the engine for the filled column and for the reasons of doubts. Two workers: one fills the whole sheet; the other one
+// answers at once for a few rows, so that in a large sheet the rows in view follow while one types.
+import { filledOf, problemOf } from "./answers.js";
+import { Client } from "./client.js";
+import { textOf } from "./csv.js";
+import { explain } from "./explain.js";
+import { partOf } from "./model.js";
+import { fileWord, fillWords } from "./words.js";
+
+/** Of a sheet with more records the rows in view are filled first. */
+const LARGE = 400;
+/** With more given cells a part of the sheet has not the same examples. */
+const MOST_EXAMPLES = 64;
+/** Where the whole sheet takes longer than this, it waits until typing pauses for so many milliseconds. */
+const SLOW = 150;
+const PAUSE = 250;
+
+const pause = (time) => new Promise((resolve) => setTimeout(resolve, time));
+
+export class Filling {
+    #turn = 0;
+    #viewTurn = 0;
+    #took = 0;
+
+    /** `calls.onFilled(filled, isWhole)` gets what to show, `calls.onProblem(text)` why there is nothing, `calls.onBusy()` any change of that. */
+    constructor(calls) {
+        this.calls = calls;
+        this.client = new Client();
+        this.quick = new Client();
+        this.filled = null;
+    }
+
+    get isBusy() {
+        return this.client.isBusy;
+    }
+
+    stop() {
+        this.client.stop();
+    }
+
+    /** Holds a file in both workers; without bytes it is forgotten. */
+    hold(name, bytes) {
+        return Promise.all([this.client.hold(name, bytes), this.quick.hold(name, bytes)]);
+    }
+
+    /** Opens a file as a sheet: its status, lines and records. */
+    async open(name, bytes) {
+        this.filled = null;
+        this.#turn++;
+        await this.client.hold(name, bytes);
+        return this.client.ask("open", { word: name });
+    }
+
+    /** Fills by these choices; what was asked before is no longer waited for. `inView` are the records in view. */
+    async fill(sheet, choices, inView, isTyping) {
+        const turn = ++this.#turn;
+        try {
+            if (sheet.records.length > LARGE && this.filled?.isWhole) {
+                this.#fillView(turn, sheet, choices, inView);
+                if (isTyping && this.#took > SLOW) await pause(PAUSE);
+                if (turn !== this.#turn) return;
+            }
+            await this.#fillAll(turn, sheet, choices);
+        } catch (error) {
+            if (turn === this.#turn) this.calls.onProblem(error.message);
+        }
+    }
+
+    async #fillAll(turn, sheet, choices) {
+        const began = performance.now();
+        const request = { words: fillWords(sheet, choices, true), column: choices.place(sheet), header: choices.header };
+        const asked = this.client.ask("fill", request, "fill");
+        this.calls.onBusy();
+        const answer = await asked.finally(() => this.calls.onBusy());
+        if (answer === null || turn < this.#viewTurn || this.filled?.turn > turn) return;
+        this.#took = performance.now() - began;
+        this.filled = { ...filledOf(answer, choices.header), sheet, turn, fresh: null, took: this.#took };
+        this.calls.onFilled(this.filled, true);
+        this.calls.onProblem(this.filled.isWhole ? null : problemOf(answer));
+    }
+
+    /** Fills the rows in view, and shows them among what was filled before. */
+    async #fillView(turn, sheet, choices, inView) {
+        const given = choices.allGiven(sheet).map(([record]) => record);
+        if (given.length > MOST_EXAMPLES) return;
+        const began = performance.now();
+        const records = [...new Set([...(choices.header ? [0] : []), ...given, ...inView])].sort((a, b) => a - b);
+        const part = partOf(sheet, choices, records);
+        const request = { ...partRequest(part), column: part.choices.place(part.sheet), header: choices.header };
+        const answer = await this.quick.ask("fill", request, "view").catch(() => null);
+        if (answer === null || answer.status > 1 || turn !== this.#turn || this.filled?.sheet !== sheet || this.filled.turn >= turn) return;
+        this.#viewTurn = turn;
+        const { filled } = this;
+        const texts = filled.texts.slice();
+        const states = filled.states.slice();
+        records.forEach((record, at) => {
+            texts[record] = answer.texts[at];
+            states[record] = answer.states[at];
+        });
+        const refusals = new Map([...filledOf(answer, choices.header).refusals].map(([at, reason]) => [records[at], reason]));
+        this.filled = { ...filled, texts, states, refusals, fresh: new Set(records), turn: turn - 0.5, took: performance.now() - began };
+        this.calls.onFilled(this.filled, false);
+    }
+
+    /** Why a cell is in doubt; null where a newer question took its place. */
+    explain(sheet, choices, filled, record) {
+        const examples = choices.allGiven(sheet).filter(([it]) => !filled.refusals.has(it)).slice(0, MOST_EXAMPLES);
+        const records = [...new Set([...(choices.header ? [0] : []), ...examples.map(([it]) => it), record])].sort((a, b) => a - b);
+        const chosen = { text: filled.texts[record], state: filled.states[record] };
+        return explain(this.quick, partOf(sheet, choices, records), chosen, record);
+    }
+
+    /** Runs a program with words of its own; files of one request alone can be handed along. */
+    run(program, words, more = null) {
+        return this.client.ask("run", { program, words, more });
+    }
+}
+
+/** The words and the file of a part of a sheet. */
+function partRequest(part) {
+    const bytes = new TextEncoder().encode(textOf(part.sheet.records));
+    return { words: fillWords(part.sheet, part.choices, true), more: [[fileWord(part.sheet.name), bytes]] };
+}
