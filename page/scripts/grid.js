@@ -128,7 +128,7 @@ export class Grid {
         this.widths = columns.map(({ number, title, role }) => {
             const widest = sample.reduce((most, record) => Math.max(most, this.widthOf(record[number - 1] ?? "")), 0);
             const wanted = Math.max(this.widthOf(title) * 1.08 + 44, widest + 20);
-            return Math.round(role === "fills" ? Math.min(MOST_WIDE, Math.max(160, wanted + 30)) : Math.min(MOST_WIDE, Math.max(64, wanted)));
+            return Math.round(role === "fills" ? Math.min(MOST_WIDE, this.place.clientWidth * 0.48, Math.max(150, wanted + 30)) : Math.min(MOST_WIDE, Math.max(64, wanted)));
         });
         this.#applyWidths();
     }
@@ -142,7 +142,8 @@ export class Grid {
     #widen() {
         const at = this.columns.findIndex((it) => it.role === "fills");
         const texts = this.filled?.isWhole ? this.filled.texts.slice(0, SAMPLE) : [];
-        const wanted = Math.round(Math.min(MOST_WIDE, texts.reduce((most, text) => Math.max(most, this.widthOf(text)), 0) * 1.03 + 48));
+        const most = Math.max(150, Math.min(MOST_WIDE, this.place.clientWidth * 0.48));
+        const wanted = Math.round(Math.min(most, texts.reduce((most, text) => Math.max(most, this.widthOf(text)), 0) * 1.03 + 48));
         if (wanted <= this.widths[at]) return;
         this.widths[at] = wanted;
         this.#applyWidths();

@@ -1,0 +1,465 @@
+"""What is tried in the page, one function for each thing."""
+import base64
+import csv
+import io
+import pathlib
+import random
+import shlex
+import subprocess
+import tempfile
+import time
+
+from browser import Browser
+
+EXAMPLES = pathlib.Path(__file__).resolve().parent.parent.parent / "examples"
+
+
+class Trial:
+    """A browser with the page, and what it is compared with."""
+
+    def __init__(self, browser, base, programs, cases):
+        self.browser, self.base, self.programs, self.cases = browser, base, programs, cases
+        self.room = tempfile.TemporaryDirectory(prefix="page-trial-")
+        self.folder = pathlib.Path(self.room.name)
+
+    def start(self):
+        """Opens the page, and waits until its example is filled."""
+        self.browser.requests()
+        self.browser.open(f"{self.base}/index.html")
+        self.browser.wait("Number(document.body.dataset.filled ?? 0) > 0", "the example is filled")
+        self.settle()
+        return self
+
+    def fills(self):
+        return self.browser.run("return Number(document.body.dataset.filled ?? 0);")
+
+    def settle(self, seconds=120):
+        """Waits until nothing has been filled for a while, and no problem keeps it from being so."""
+        end = time.monotonic() + seconds
+        seen, since = None, 0
+        while time.monotonic() < end:
+            now = self.browser.run("return [document.body.dataset.filled, document.getElementById('busy').hidden, document.getElementById('cell').textContent].join();")
+            since = since + 1 if now == seen else 0
+            if since > 6 and ",true," in now:
+                return
+            seen = now
+            time.sleep(0.05)
+        raise RuntimeError("the page does not come to rest")
+
+    def open_file(self, path):
+        """Opens a sheet by the button's file field."""
+        before = self.fills()
+        self.browser.put_file("#file", path)
+        self.browser.wait(f"Number(document.body.dataset.filled ?? 0) > {before} || !document.getElementById('problem').hidden", f"{path} is opened")
+        self.settle()
+
+    def pick(self, target, sources):
+        """Chooses the column to fill, a number or None for a new one, and the columns to read."""
+        self.browser.run("const field = document.getElementById('target'); field.value = args[0]; field.dispatchEvent(new Event('change', {bubbles: true}));",
+                         "new" if target is None else str(target))
+        self.settle()
+        self.browser.run("for (const box of document.querySelectorAll('#sources input')) box.checked = args[0].includes(Number(box.value));"
+                         "document.getElementById('sources').dispatchEvent(new Event('change', {bubbles: true}));", sources)
+        self.settle()
+
+    def go_to(self, row):
+        """Moves to the filled column's cell of a row, as the sheet shows it, by keys alone."""
+        browser = self.browser
+        browser.run("document.getElementById('grid').focus();")
+        browser.press("Control+Home")
+        first = browser.run("return Number(document.querySelector('.cell.active').parentElement.dataset.record) + 1;")
+        for _ in range(row - first):
+            browser.press("Down")
+        columns = browser.run("return document.querySelectorAll('.title').length;")
+        browser.press("End")
+        place = browser.run("return [...document.querySelectorAll('.title')].findIndex((it) => it.classList.contains('fills')) + 1;")
+        for _ in range(columns - place):
+            browser.press("Left")
+
+    def type_into(self, row, text):
+        self.go_to(row)
+        self.browser.type(text)
+        self.browser.press("Enter")
+        self.settle()
+
+    def shown(self):
+        """The texts and states of the filled column's rows in view, by record."""
+        found = self.browser.run("""return [...document.querySelectorAll('.body .row:not([hidden]) .cell.fills')].map((it) =>
+            [Number(it.parentElement.dataset.record) + 1, it.querySelector('.text').textContent, it.className.replace('cell fills', '').replace('active', '').trim()]);""")
+        return {row: (text, state) for row, text, state in found}
+
+    def downloaded(self):
+        """The bytes of the file that the button offers."""
+        for old in self.browser.downloads.glob("*"):
+            old.unlink()
+        self.browser.run("document.querySelector('#result button.main').click();")
+        end = time.monotonic() + 60
+        while time.monotonic() < end:
+            done = [it for it in self.browser.downloads.glob("*") if not it.name.endswith(".crdownload") and not it.name.startswith(".")]
+            if done:
+                return done[0].read_bytes()
+            time.sleep(0.05)
+        raise RuntimeError("nothing was downloaded")
+
+    def line(self):
+        return self.browser.run("return document.querySelector('#result code').textContent;")
+
+    def by_program(self, path):
+        """What the proved program writes for the line that the page shows."""
+        words = shlex.split(self.line())
+        assert words[0] == "./fillcsv" and words[1] == path.name, words
+        ran = subprocess.run([self.programs["fillcsv"], *words[1:]], cwd=path.parent, capture_output=True, timeout=600)
+        assert ran.returncode <= 1, ran.stderr
+        return ran.stdout
+
+    def compare(self, path):
+        """The downloaded sheet is that of the program, byte for byte."""
+        got, wanted = self.downloaded(), self.by_program(path)
+        assert got == wanted, f"{path.name}: {self.line()}\n  page    {got[:300]!r}\n  program {wanted[:300]!r}"
+        return len(got)
+
+    def is_clean(self):
+        """No error on the console, and no request to another place."""
+        errors = self.browser.errors()
+        assert not errors, f"on the console: {errors}"
+        asked = [it for it in self.browser.requests() if not it.startswith((self.base, "data:", "chrome://", "blob:"))]
+        assert not asked, f"requests to elsewhere: {asked}"
+
+
+def first_visit(trial):
+    """The example stands there with given, sure, doubtful and empty cells, and a wrong guess can be set right by keys."""
+    trial.start()
+    shown = trial.shown()
+    states = {state for _, state in shown.values()}
+    assert {"given", "sure", "doubt", "none"} <= states, states
+    assert shown[5] == ("A Noether (Erlangen)", "doubt"), shown[5]
+    trial.browser.press("Alt+2")
+    trial.settle()
+    shown = trial.shown()
+    assert shown[5] == ("Noether (Erlangen)", "given") and shown[10][0] == "Turing (London)", shown
+    trial.browser.press("Control+z")
+    trial.settle()
+    assert trial.shown()[5] == ("A Noether (Erlangen)", "doubt")
+    trial.browser.press("Control+y")
+    trial.settle()
+    assert trial.shown()[5][1] == "given"
+    trial.browser.press("Delete")
+    trial.settle()
+    assert trial.shown()[5][1] == "doubt"
+    trial.is_clean()
+    return f"{len(shown)} rows, a doubt settled, undone, made again and taken back by keys"
+
+
+def follows_typing(trial):
+    """Other rows change while a text is being typed, before Enter, and Escape leaves all as it was."""
+    trial.start()
+    before = trial.shown()
+    trial.go_to(5)
+    trial.browser.type("Noether")
+    trial.settle()
+    during = trial.shown()
+    assert during[10][0] == "Turing", during[10]
+    trial.browser.press("Escape")
+    trial.settle()
+    after = {row: text for row, (text, _) in trial.shown().items()}
+    assert after == {row: text for row, (text, _) in before.items()}, after
+    trial.is_clean()
+    return "rows follow while one types"
+
+
+def session_of(path):
+    """What a session of examples/ reads and adds: its sheet, header, inputs, output and examples."""
+    said = {"header": False, "output": None, "adds": [], "tables": False}
+    for record in csv.reader(io.StringIO(path.read_text(encoding="utf-8"))):
+        match record:
+            case ["sheet", name]:
+                said["sheet"] = name
+            case ["header"]:
+                said["header"] = True
+            case ["inputs", *columns]:
+                said["inputs"] = [int(it) for it in columns]
+            case ["output", column]:
+                said["output"] = int(column)
+            case ["table", *_]:
+                said["tables"] = True
+            case ["add", row, text]:
+                said["adds"].append((int(row), text))
+    return said
+
+
+def examples(trial):
+    """The examples of examples/, typed into the page, fill the sheets as the program does."""
+    trial.start()
+    told = []
+    for path in sorted(EXAMPLES.glob("*-session.csv")):
+        session = session_of(path)
+        if session["tables"]:
+            continue
+        sheet = EXAMPLES / session["sheet"]
+        trial.open_file(sheet)
+        header = trial.browser.run("return document.getElementById('header').checked;")
+        if header != session["header"]:
+            trial.browser.click("#header")
+            trial.settle()
+        trial.pick(session["output"], session["inputs"])
+        trial.compare(sheet)
+        for row, text in session["adds"]:
+            trial.type_into(row + session["header"], text)
+            size = trial.compare(sheet)
+        told.append(f"{sheet.name} with {len(session['adds'])} typed, {size} bytes")
+    trial.is_clean()
+    return "; ".join(told)
+
+
+def odd_sheets(trial):
+    """Quotes, line ends in cells, CRLF, a byte order mark, short records, no header, numbers as names: as the program does."""
+    trial.start()
+    texts = {
+        "quotes.csv": 'a,b,c\r\n"x, ""y""",1,\r\n"two\r\nlines",2,\r\n\r\nshort\r\nlast,3,\r\n',
+        "mark.csv": "\ufeffName,Out\nAda Byron,\nMax Planck,\n",
+        "plain.csv": "Ada Byron\nMax Planck\nLise Meitner\n",
+        "numbers.csv": "2,1,x\nAda Byron,Kiel,\nMax Planck,Graz,\n",
+        "it's -odd=name.csv": "First,Last,\nAda,Byron,\nMax,Planck,\n",
+        "-dash.csv": "-a,b,-c\nAda Byron,1,\nMax Planck,2,\n",
+    }
+    for name, text in texts.items():
+        path = trial.folder / name
+        path.write_bytes(text.encode())
+        trial.open_file(path)
+        first = min(row for row in trial.shown())
+        trial.type_into(first, "-B=1,")
+        if name.startswith("-"):
+            continue  # the program is given ./-dash.csv
+        trial.compare(path)
+    trial.is_clean()
+    return f"{len(texts)} sheets"
+
+
+def own_cells(trial):
+    """Given cells of the sheet can be changed, taken back and left empty; the line says all of it."""
+    trial.start()
+    path = EXAMPLES / "people.csv"
+    trial.open_file(path)
+    trial.type_into(2, "Byron")
+    trial.compare(path)
+    trial.go_to(4)
+    trial.browser.press("Delete")
+    trial.settle()
+    assert "--replace" in trial.line() and trial.shown()[4][1] != "given", trial.line()
+    trial.compare(path)
+    trial.go_to(7)
+    trial.browser.run("[...document.querySelectorAll('#cell button')].find((it) => it.textContent === 'Leave it empty').click();")
+    trial.settle()
+    assert "--example 7=" in trial.line() and trial.shown()[7] == ("", "given"), trial.line()
+    trial.compare(path)
+    trial.is_clean()
+    return "changed, taken back, left empty"
+
+
+def refusals(trial):
+    """Errors are told as the program tells them: a large file, no UTF-8, a clash, an empty file."""
+    trial.start()
+    told = []
+    for name, data in (("large.csv", b"a,b\n" * (17 * 262144)), ("latin.csv", "Name,Out\nG\u00f6del,\n".encode("latin-1")), ("many.csv", b"a,b\n" * 20001)):
+        path = trial.folder / name
+        path.write_bytes(data)
+        trial.open_file(path)
+        said = trial.browser.run("return document.getElementById('problem').textContent;")
+        ran = subprocess.run([trial.programs["fillcsv"], name, "--new=x", "--from=1", "--no-header"], cwd=trial.folder, capture_output=True, text=True, timeout=600)
+        assert ran.returncode == 5 and f"fillcsv: {said}\n" == ran.stderr, (said, ran.stderr)
+        told.append(said)
+    path = trial.folder / "clash.csv"
+    path.write_text("In,Out\nab,x\nab,\ncd,y\n", encoding="utf-8")
+    trial.open_file(path)
+    trial.type_into(3, "z")
+    assert trial.shown()[3] == ("z", "given refused"), trial.shown()
+    said = trial.browser.run("return document.querySelector('.cell.refused').title;")
+    trial.compare(path)
+    trial.is_clean()
+    return "; ".join([*told, said])
+
+
+RUN = """const { Engine } = await import(args[0] + '/scripts/engine.js');
+window.testEngine ??= await Engine.load(args[0] + '/engine.wasm');
+const bytes = (text) => Uint8Array.from(atob(text), (it) => it.charCodeAt(0));
+const text = (them) => { let made = ''; for (const it of them) made += String.fromCharCode(it); return btoa(made); };
+const answers = [];
+for (const { program, words, files } of args[1]) {
+    const answer = window.testEngine.run(program, words, new Map(Object.entries(files).map(([name, it]) => [name, typeof it === 'number' ? new Uint8Array(it).fill(97) : bytes(it)])));
+    answers.push([answer.status, text(answer.out), text(answer.err)]);
+}
+return answers;"""
+
+
+def engine_answers(trial, requests):
+    """The engine's answers in the browser: status, output and errors of each request."""
+    answers = trial.browser.run(RUN, trial.base, requests)
+    return [(status, base64.b64decode(out), base64.b64decode(err)) for status, out, err in answers]
+
+
+def request(words, files):
+    return {"program": "flashfill", "words": words, "files": {name: it if isinstance(it, int) else base64.b64encode(it).decode() for name, it in files.items()}}
+
+
+def reports(trial):
+    """The sessions of examples/ have the stored reports, and random changes of them those of the program."""
+    trial.start()
+    files = {it.name: it.read_bytes() for it in EXAMPLES.glob("*.csv")}
+    sessions = sorted(it for it in files if it.endswith("-session.csv"))
+    answers = engine_answers(trial, [request(["replay", it], files) for it in sessions])
+    for name, (status, out, _) in zip(sessions, answers):
+        assert out == files[name.replace("-session", "-report")], name
+        assert status <= 1, status
+    made = random.Random(1)
+    asked = []
+    for _ in range(60):
+        name = made.choice(sessions)
+        changed = dict(files)
+        part = bytearray(changed[name])
+        for _ in range(made.randrange(1, 4)):
+            part[made.randrange(len(part))] = made.choice(b',"\n 01aZ')
+        changed[name] = bytes(part)
+        asked.append((["replay", name], changed))
+    answers = engine_answers(trial, [request(*it) for it in asked])
+    for (words, changed), answer in zip(asked, answers):
+        with tempfile.TemporaryDirectory() as folder:
+            for name, data in changed.items():
+                pathlib.Path(folder, name).write_bytes(data)
+            ran = subprocess.run([trial.programs["flashfill"], *words], cwd=folder, capture_output=True, timeout=300)
+        assert answer == (ran.returncode, ran.stdout, ran.stderr), (words, changed[words[1]], answer, ran)
+    trial.is_clean()
+    return f"{len(sessions)} reports and {len(asked)} changed sessions"
+
+
+def outside_cases(trial):
+    """The outside cases of flashfill, where they are at hand, as they are written down."""
+    if not trial.cases.is_dir():
+        return "not at hand"
+    trial.start()
+    named, asked, wanted = [], [], []
+    for folder in sorted(it for it in trial.cases.iterdir() if it.is_dir()):
+        try:
+            words = (folder / "args").read_bytes().decode().splitlines()
+        except UnicodeDecodeError:
+            continue  # no words of a request
+        if len((folder / "stage").read_text().split()) > 1:
+            continue  # of an earlier stage
+        kept = ("args", "stdout", "stderr", "status", "stage", "MAKE_BIG")
+        files = {it.name: it.read_bytes() for it in folder.iterdir() if it.is_file() and it.name not in kept}
+        if (folder / "MAKE_BIG").exists():
+            files["BIG"] = int((folder / "MAKE_BIG").read_text())
+        named.append(folder.name)
+        asked.append(request(words, files))
+        wanted.append((int((folder / "status").read_text()), (folder / "stdout").read_bytes(), (folder / "stderr").read_bytes()))
+    answers = engine_answers(trial, asked)
+    wrong = [name for name, answer, want in zip(named, answers, wanted) if answer != want]
+    assert not wrong, f"{len(wrong)} of {len(named)} differ: {wrong}"
+    return f"{len(named)} cases"
+
+
+def made_sheet(path, rows):
+    """A sheet of people, of which two have labels."""
+    made = random.Random(1)
+    first = "Ada Max Lise Emmy Carl Emil Sofia Ludwig Marie Niels Otto Hedy Alan Grace Kurt Paul".split()
+    last = "Byron Planck Meitner Noether Gauss Artin Kowalewski Boltzmann Curie Bohr Hahn Lamarr Turing Hopper Gödel Erdős".split()
+    cities = "London Kiel Graz Erlangen Kassel Hamburg Wien Rom Paris Bern".split()
+    lines = ["Name,Mail,City,Label"]
+    for row in range(rows):
+        a, b, city = made.choice(first), made.choice(last), made.choice(cities)
+        middle = made.choice(["", "", made.choice("ABCDE") + " "])
+        lines.append(f"{a} {middle}{b},{a.lower()}@{b.lower()}.org,{city},{f'{b} ({city})' if row in (0, 2) else ''}")
+    path.write_text("\n".join(lines) + "\n", encoding="utf-8")
+    return path
+
+
+# From a key until the page has shown what follows: the time of each of the letters of a text that is typed into row 5
+TYPING = """const grid = document.getElementById('grid');
+const times = [];
+for (const letter of args[0]) {
+    const field = document.querySelector('.editor');
+    const began = performance.now();
+    const seen = document.querySelector('.body').innerHTML;
+    field.value += letter;
+    field.dispatchEvent(new Event('input', { bubbles: true }));
+    while (document.querySelector('.body').innerHTML === seen && performance.now() - began < 20000) await new Promise((done) => setTimeout(done, 1));
+    times.push(performance.now() - began);
+}
+return times;"""
+
+
+def time_typing(trial, rows, text):
+    """The times until the rows in view follow each letter, and of the whole fill, in milliseconds."""
+    path = made_sheet(trial.folder / f"people-{rows}.csv", rows)
+    trial.open_file(path)
+    trial.pick(4, [1, 3])
+    whole = trial.browser.run("return document.getElementById('time').textContent;")
+    trial.go_to(5)
+    trial.browser.press("F2")
+    trial.browser.run("document.querySelector('.editor').value = '';")
+    times = trial.browser.run(TYPING, text)
+    trial.browser.press("Escape")
+    trial.settle()
+    return path, whole, sorted(times)
+
+
+def thousand_rows(trial):
+    """1,000 rows follow what is typed."""
+    trial.start()
+    path, whole, times = time_typing(trial, 1000, "Byron (Kiel)")
+    trial.compare(path)
+    trial.is_clean()
+    return f"{whole}; after a letter the rows in view follow in {times[len(times) // 2]:.0f} ms (middle), {times[-1]:.0f} ms (longest)"
+
+
+def many_rows(trial):
+    """19,999 rows follow what is typed, and scroll with few rows in the document."""
+    trial.start()
+    path, whole, times = time_typing(trial, 19999, "Byron (Kiel)")
+    frames = trial.browser.run("""const grid = document.getElementById('grid');
+        const gaps = [];
+        let last = performance.now();
+        for (let at = 0; at < 120; at++) {
+            grid.scrollTop = at * 5000;
+            await new Promise(requestAnimationFrame);
+            gaps.push(performance.now() - last);
+            last = performance.now();
+        }
+        return gaps.sort((a, b) => a - b);""")
+    rows = trial.browser.run("return document.querySelectorAll('.body .row').length;")
+    assert rows < 100, rows
+    trial.go_to(2)
+    trial.browser.press("Control+Down")
+    assert max(trial.shown()) == 20000, max(trial.shown())
+    trial.compare(path)
+    trial.is_clean()
+    return (f"{whole}; after a letter the rows in view follow in {times[len(times) // 2]:.0f} ms (middle), {times[-1]:.0f} ms (longest); "
+            f"a frame of scrolling {frames[len(frames) // 2]:.0f} ms (middle), {frames[-2]:.0f} ms; {rows} rows in the document")
+
+
+def labels(trial):
+    """Every control has a name for screen readers, and the sheet says its rows, columns and chosen cell."""
+    trial.start()
+    bare = trial.browser.run("""return [...document.querySelectorAll('button, input:not([type=file]), select, textarea')].filter((it) => {
+        const name = it.getAttribute('aria-label') ?? it.textContent.trim() ?? '';
+        return !name && !it.labels?.length;
+    }).map((it) => it.outerHTML);""")
+    assert not bare, bare
+    grid = trial.browser.run("""const grid = document.getElementById('grid');
+        return [grid.getAttribute('aria-rowcount'), grid.getAttribute('aria-colcount'), document.getElementById(grid.getAttribute('aria-activedescendant'))?.getAttribute('aria-label')];""")
+    assert grid == ["13", "5", "A Noether (Erlangen), doubt"], grid
+    tree = trial.browser.devtools("Accessibility.getFullAXTree", {})["nodes"]
+    roles = {it.get("role", {}).get("value") for it in tree}
+    assert {"grid", "row", "gridcell", "columnheader", "rowheader"} <= roles, roles
+    return f"{len(tree)} nodes for screen readers"
+
+
+def take_pictures(base, folder):
+    """Screenshots: light, dark, and as narrow as a phone."""
+    for name, how in (("page-light", {}), ("page-dark", {"dark": True}), ("page-narrow", {"width": 390, "height": 844, "scale": 2})):
+        with Browser(**how) as browser:
+            Trial(browser, base, {}, folder).start()
+            browser.picture(folder / f"{name}.png")
+
+
+ALL = [first_visit, follows_typing, examples, odd_sheets, own_cells, refusals, reports, outside_cases, labels, thousand_rows, many_rows]
+SLOW = [outside_cases, many_rows]
