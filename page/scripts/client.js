@@ -29,6 +29,15 @@ export class Client {
         return this.ask("hold", { name, bytes });
     }
 
+    /** Holds this file alone. */
+    holdOnly(name, bytes) {
+        this.#held.clear();
+        this.#held.set(name, bytes);
+        if (this.isBusy) this.stop();
+        else this.ask("hold", { name: null });
+        return this.ask("hold", { name, bytes });
+    }
+
     /**
      * Sends a request, and answers what comes back; null where a newer one in the same lane has taken its place.
      * Rejects where the engine could not be loaded, or stopped in the middle.
@@ -47,11 +56,12 @@ export class Client {
     /** Stops the request that is on its way, with a new worker. Its answer is null. */
     stop() {
         const stopped = this.#sent;
+        const left = this.#waiting;
         this.#worker.terminate();
         this.#sent = null;
         this.#start();
         const again = [...this.#held].map(([name, bytes]) => ({ id: this.#next++, kind: "hold", request: { name, bytes }, lane: null, resolve() {}, reject() {} }));
-        this.#waiting.unshift(...again);
+        this.#waiting = [...again, ...left.filter((it) => it.kind !== "hold")];
         stopped?.resolve(null);
         this.#send();
     }

@@ -5,26 +5,15 @@
 // there too, if the branches are the same. What it cannot tell is left out.
 import { NONE_DOUBT } from "./answers.js";
 import { recordsOf, textOf } from "./csv.js";
+import { sessionExamples, sessionHead } from "./rule.js";
 import { fileWord } from "./words.js";
 
 const SESSION = "page session";
 
-/** The session that asks for the rules and for the objection to a row's answer. Rows are counted without the header. */
+/** The session that asks for the rules and for the objection to a row's answer. */
 function sessionOf({ sheet, choices }, record) {
-    const above = choices.header ? 1 : 0;
-    const row = String(record + 1 - above);
-    const lines = [["sheet", fileWord(sheet.name)]];
-    if (choices.header) lines.push(["header"]);
-    lines.push(["inputs", ...choices.sources.map(String)]);
-    for (const { name, file, keys } of choices.tables) {
-        lines.push(["table", name, file]);
-        for (const key of keys) lines.push(["key", name, ...key.map(String)]);
-    }
-    if (choices.tables.length > 0) lines.push(["depth", String(Math.min(2, choices.depth))]);
-    lines.push(["begin"]);
-    for (const [it, text] of choices.allGiven(sheet)) lines.push(["add", String(it + 1 - above), text]);
-    lines.push(["answer", row], ["object", row], ["programs"]);
-    return textOf(lines);
+    const row = String(record + (choices.header ? 0 : 1));
+    return textOf([...sessionHead(sheet, choices), ...sessionExamples(sheet, choices, new Map()), ["answer", row], ["object", row], ["programs"]]);
 }
 
 /** An answer with a rule that gives it; the text is null where the rule has no answer, the program where it is not known. */

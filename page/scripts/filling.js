@@ -5,7 +5,7 @@ import { Client } from "./client.js";
 import { textOf } from "./csv.js";
 import { explain } from "./explain.js";
 import { partOf } from "./model.js";
-import { fileWord, fillWords } from "./words.js";
+import { fileWord, shownWords } from "./words.js";
 
 /** Of a sheet with more records the rows in view are filled first. */
 const LARGE = 400;
@@ -43,11 +43,12 @@ export class Filling {
         return Promise.all([this.client.hold(name, bytes), this.quick.hold(name, bytes)]);
     }
 
-    /** Opens a file as a sheet: its status, lines and records. */
+    /** Opens a file as a sheet: its status, lines and records. All other files are forgotten. */
     async open(name, bytes) {
         this.filled = null;
         this.#turn++;
-        await this.client.hold(name, bytes);
+        this.quick.holdOnly(name, new Uint8Array());
+        await this.client.holdOnly(name, bytes);
         return this.client.ask("open", { word: name });
     }
 
@@ -68,7 +69,7 @@ export class Filling {
 
     async #fillAll(turn, sheet, choices) {
         const began = performance.now();
-        const request = { words: fillWords(sheet, choices, true), column: choices.place(sheet), header: choices.header };
+        const request = { words: shownWords(sheet, choices), column: choices.place(sheet), header: choices.header };
         const asked = this.client.ask("fill", request, "fill");
         this.calls.onBusy();
         const answer = await asked.finally(() => this.calls.onBusy());
@@ -119,5 +120,5 @@ export class Filling {
 /** The words and the file of a part of a sheet. */
 function partRequest(part) {
     const bytes = new TextEncoder().encode(textOf(part.sheet.records));
-    return { words: fillWords(part.sheet, part.choices, true), more: [[fileWord(part.sheet.name), bytes]] };
+    return { words: shownWords(part.sheet, part.choices), more: [[fileWord(part.sheet.name), bytes]] };
 }

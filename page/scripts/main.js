@@ -10,10 +10,11 @@ import { askForCells, download, listenForFiles } from "./files.js";
 import { Filling } from "./filling.js";
 import { Grid } from "./grid.js";
 import { History, Sheet, firstChoices } from "./model.js";
-import { showCell, showNothing, showOther, showResult } from "./panel.js";
+import { showCell, showNothing, showOther, showResult, showRule } from "./panel.js";
 import { PlainWords } from "./plain.js";
+import { ruleFiles } from "./rule.js";
 import { TablesCard } from "./tables.js";
-import { fileWord, fillWords, shellLine } from "./words.js";
+import { fileWord, resultWords, shellLine } from "./words.js";
 
 class Page {
     constructor() {
@@ -288,18 +289,35 @@ class Page {
     }
 
     showResult() {
-        const line = shellLine(fillWords(this.sheet, this.choices, false));
-        showResult(line, this.filled.notes, this.filled.isWhole, {
+        const line = shellLine(resultWords(this.sheet, this.choices));
+        showResult(line, this.choices, this.filled, {
+            choose: (changes) => this.choose(changes),
             download: () => this.download(),
-            copy: async () => {
-                await navigator.clipboard.writeText(line);
-                say("Copied");
-            },
+            copy: (text) => this.copy(text),
+            saveRule: () => this.saveRule(),
         });
     }
 
+    async copy(text) {
+        await navigator.clipboard.writeText(text);
+        say("Copied");
+    }
+
+    async saveRule() {
+        const { filled } = this;
+        const rule = await ruleFiles(this.filling, this.sheet, this.choices, filled);
+        if (filled !== this.filled) return;
+        showRule(rule, this.words, { copy: (text) => this.copy(text), save: ({ name, text }) => download(name, new TextEncoder().encode(text)) });
+    }
+
+    /** Words for programs over the sheet. */
+    get words() {
+        const { sheet, choices } = this;
+        return new PlainWords({ column: (it) => sheet.title(it, choices.header), tableColumn: (table, column) => this.tables.columnTitle(table, column) });
+    }
+
     async download() {
-        const words = fillWords(this.sheet, this.choices, false);
+        const words = resultWords(this.sheet, this.choices);
         const answer = await this.filling.run("fillcsv", words);
         if (answer.status > 1) return this.showProblem(problemOf(answer));
         download(`${this.sheet.name.replace(/\.(csv|txt|tsv)$/i, "")}-filled.csv`, answer.out);
@@ -327,8 +345,7 @@ class Page {
     drawCell(record) {
         const { sheet, choices } = this;
         const title = choices.column === null ? choices.newName : sheet.title(choices.column, choices.header);
-        const names = { column: (it) => sheet.title(it, choices.header), tableColumn: (table, column) => this.tables.columnTitle(table, column) };
-        showCell(title, record, this.filled, this.explained?.answers ?? [], new PlainWords(names), {
+        showCell(title, record, this.filled, this.explained?.answers ?? [], this.words, {
             take: (text) => this.take(text),
             edit: () => this.edit(),
             clear: () => this.give(record, null),

@@ -29,7 +29,8 @@ export function usualSources(sheet, column) {
 /**
  * What a person chose. `column` is the number of the column to fill, or null for a new one of the name `newName`.
  * `typed` are the texts that were typed, by record; `cleared` the records whose own text is to be forgotten.
- * `tables` are lookup tables with their keys, and `depth` says how deep lookups may stand in each other.
+ * `tables` are lookup tables with their keys, and `depth` says how deep lookups may stand in each other. `onlySure` leaves
+ * guesses empty in the result, and `withStates` adds the column of states to it.
  */
 export class Choices {
     constructor(fields) {
@@ -101,22 +102,24 @@ function looksLikeHeader(sheet) {
     return names.length > 0 && names.length === sheet.width && new Set(names).size === names.length && names.every((it) => it !== "" && !isNumber(it));
 }
 
-/** The last column that has empty cells; null where there is none. One without any text is taken before the others. */
+/** A column with more texts than this is not taken for one that is to be filled. */
+const MOST_EXAMPLES = 8;
+
+/** The last column that has few texts, or none at all; null where there is no such column. */
 function columnToFill(sheet, header) {
     const rows = sheet.records.slice(header ? 1 : 0);
-    let found = null;
-    for (let column = 1; column <= sheet.width; column++) {
+    for (let column = sheet.width; column >= 1; column--) {
         const filled = rows.filter((record) => (record[column - 1] ?? "") !== "").length;
-        if (filled < rows.length && (filled <= 64 || filled < rows.length / 2)) found = column;
+        if (filled < rows.length && filled <= MOST_EXAMPLES) return column;
     }
-    return found;
+    return null;
 }
 
 /** The choices that a sheet is opened with. */
 export function firstChoices(sheet) {
     const header = sheet.records.length > 1 && looksLikeHeader(sheet);
     const column = sheet.width > 1 ? columnToFill(sheet, header) : null;
-    const fields = { header, column, newName: "New column", typed: new Map(), cleared: new Set(), tables: [], depth: 1 };
+    const fields = { header, column, newName: "New column", typed: new Map(), cleared: new Set(), tables: [], depth: 1, onlySure: false, withStates: false };
     return new Choices({ ...fields, sources: usualSources(sheet, column) });
 }
 

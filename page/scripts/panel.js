@@ -52,7 +52,8 @@ export function showCell(title, record, filled, answers, words, calls) {
         parts.push(element("div", { class: "answers" }, answers.map((it, which) => answerButton(which, it, words, calls.take))));
     } else {
         parts.push(element("p", { class: "cell-text" }, shown(text)));
-        parts.push(element("p", { class: refusal ? "refusal" : null }, refusal ? `This text is ${refusal}. It stays as you gave it.` : SENTENCES[state]));
+        const sentence = filled.counts[GIVEN] === 0 ? "Nothing is learned yet: type what this cell should be." : SENTENCES[state];
+        parts.push(element("p", { class: refusal ? "refusal" : null }, refusal ? `This text is ${refusal}. It stays as you gave it.` : sentence));
         if (isDoubtful(state)) parts.push(element("button", { type: "button", onclick: () => calls.take(text) }, "Yes, take this text"));
     }
     const tools = [element("button", { type: "button", onclick: calls.edit }, state === GIVEN ? "Change it" : "Type another text")];
@@ -67,15 +68,35 @@ export function showNothing(text) {
     byId("cell").replaceChildren(element("p", {}, text));
 }
 
-/** The card of the result. `calls` has `download()` and `copy()`. */
-export function showResult(line, notes, canDownload, calls) {
+const box = (text, checked, onchange) => element("label", { class: "check" }, element("input", { type: "checkbox", checked, onchange }), ` ${text}`);
+
+/** The card of the result. `calls` has `choose(changes)`, `download()` and `copy()`. */
+export function showResult(line, choices, filled, calls) {
+    const { notes, isWhole } = filled;
     const code = element("code", { tabindex: 0, "aria-label": "The command" }, line);
     byId("result").replaceChildren(
         element("h2", {}, "The filled sheet"),
-        element("p", { class: "row-of-buttons" }, element("button", { type: "button", class: "main", disabled: !canDownload, onclick: calls.download }, "Download CSV")),
+        ...(notes.length > 0 ? [element("ul", { class: "notes" }, notes.map((it) => element("li", {}, it)))] : []),
+        box("leave guesses empty", choices.onlySure, (event) => calls.choose({ onlySure: event.target.checked })),
+        box("with a column of states", choices.withStates, (event) => calls.choose({ withStates: event.target.checked })),
+        element("p", { class: "row-of-buttons" }, element("button", { type: "button", class: "main", disabled: !isWhole, onclick: calls.download }, "Download CSV")),
         element("p", {}, "The proved program writes the same bytes from this line:"),
         element("pre", {}, code),
-        element("p", { class: "row-of-buttons" }, element("button", { type: "button", onclick: calls.copy }, "Copy this line")),
-        ...(notes.length > 0 ? [element("ul", { class: "notes" }, notes.map((it) => element("li", {}, it)))] : []),
+        element("p", { class: "row-of-buttons" }, element("button", { type: "button", onclick: () => calls.copy(line) }, "Copy this line"), element("button", { type: "button", disabled: !isWhole || filled.counts[GIVEN] === 0, onclick: calls.saveRule }, "The rule…")),
     );
+}
+
+/** Offers the rule's files below the result; null as the rule where it cannot be saved. `calls` has `copy(text)` and `save(file)`. */
+export function showRule(rule, words, calls) {
+    byId("rule")?.remove();
+    const parts = rule === null
+        ? [element("p", {}, "The rule of this sheet cannot be saved yet: the program that saves rules knows no rule that fills every row alike.")]
+        : [
+              element("p", {}, "The rule: ", ...words.cases(rule.program).map((it) => element("span", { class: "case" }, it))),
+              element("p", { class: "row-of-buttons" }, rule.files.map((file) => element("button", { type: "button", onclick: () => calls.save(file) }, file.name))),
+              element("p", {}, "With both files, for another sheet with these columns:"),
+              element("pre", {}, element("code", { tabindex: 0, "aria-label": "The command for another sheet" }, rule.line)),
+              element("p", { class: "row-of-buttons" }, element("button", { type: "button", onclick: () => calls.copy(rule.line) }, "Copy this line")),
+          ];
+    byId("result").append(element("section", { id: "rule" }, parts));
 }

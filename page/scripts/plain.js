@@ -81,6 +81,15 @@ function pieceWords(source, from, to) {
     return `${source} ${fromWords(from)} ${toWords(to)}`;
 }
 
+/** The guards and programs of the inside of a `Switch(..)`; quoted texts may hold any sign. */
+function splitCases(text) {
+    const parts = text.match(/(?:'(?:[^'\\]|\\[^])*'|[^';])+/g) ?? [];
+    return parts.map((part) => {
+        const at = part.indexOf("=>");
+        return [part.slice(0, at), part.slice(at + 2)];
+    });
+}
+
 /** Words for programs over a sheet: `names` has the titles of its columns and of its tables' columns. */
 export class PlainWords {
     constructor(names) {
@@ -118,6 +127,17 @@ export class PlainWords {
         if (isPlace) return `${name} ${isNot ? "does not end" : "ends"} with a ${inner}`;
         if (count === 1) return `${name} has ${isNot ? "no" : "a"} ${inner}`;
         return isNot ? `${name} has at most ${count - 1} × ${inner}` : `${name} has at least ${count} × ${inner}`;
+    }
+
+    /** The cases of a conditional program such as `Switch(..)`, each as a sentence. */
+    cases(text) {
+        const inside = /^Switch\(([^]*)\)$/.exec(text);
+        if (!inside) return [text];
+        const cases = splitCases(inside[1]);
+        return cases.map(([guard, program]) => {
+            const pieces = this.program(program).join(" + ");
+            return cases.length === 1 ? `${pieces}.` : guard === "else" ? `Else ${pieces}.` : `If ${this.guard(guard)}: ${pieces}.`;
+        });
     }
 
     /** The kind of rows that a guard says. */

@@ -27,8 +27,18 @@ function tableWords(tables, depth) {
     return tables.length > 0 && depth !== 1 ? [...words, "--depth", String(depth)] : words;
 }
 
-/** The words for these choices; `states` asks for the column of states too. */
-export function fillWords(sheet, choices, states) {
+/** The words for what is shown: all texts, and their states. */
+export const shownWords = (sheet, choices) => [...fillWords(sheet, choices), "--state"];
+
+/** The words for the result, as it is downloaded. */
+export function resultWords(sheet, choices) {
+    const words = fillWords(sheet, choices);
+    if (choices.onlySure) words.push("--only", "sure");
+    if (choices.withStates) words.push("--state");
+    return words;
+}
+
+function fillWords(sheet, choices) {
     const { header, column, newName, sources, typed, cleared, tables, depth } = choices;
     const words = [fileWord(sheet.name)];
     words.push(...(column === null ? option("--new", newName) : option("--to", columnWord(sheet, header, column))));
@@ -39,11 +49,11 @@ export function fillWords(sheet, choices, states) {
     const examples = isReplaced ? choices.allGiven(sheet) : [...typed].filter(([record]) => !header || record > 0);
     for (const [record, text] of examples.sort(([a], [b]) => a - b)) words.push(...option("--example", `${record + 1}=${text}`));
     words.push(...tableWords(tables, depth));
-    if (states) words.push("--state");
     return words;
 }
 
-const shellWord = (word) => (/^[\w@%+=:,./-]+$/.test(word) ? word : `'${word.replaceAll("'", "'\\''")}'`);
+/** A word as a shell takes it. */
+export const shellWord = (word) => (/^[\w@%+=:,./-]+$/.test(word) ? word : `'${word.replaceAll("'", "'\\''")}'`);
 
 /** One line for a shell that writes the same bytes by the proved program. */
 export const shellLine = (words) => ["./fillcsv", ...words].map(shellWord).join(" ");

@@ -19,9 +19,10 @@ const kinds = {
         return {};
     },
 
-    /** Holds a file by its name, or forgets it where there are no bytes. */
+    /** Holds a file by its name, or forgets it where there are no bytes; without a name all files are forgotten. */
     async hold({ name, bytes }) {
-        if (bytes) files.set(name, bytes);
+        if (name === null) files.clear();
+        else if (bytes) files.set(name, bytes);
         else files.delete(name);
         return {};
     },

@@ -436,6 +436,63 @@ def many_rows(trial):
             f"a frame of scrolling {frames[len(frames) // 2]:.0f} ms (middle), {frames[-2]:.0f} ms; {rows} rows in the document")
 
 
+def saved_rule(trial):
+    """The rule can be saved as two files by which `flashfill apply` gives the same texts."""
+    trial.start()
+    path = EXAMPLES / "people.csv"
+    trial.open_file(path)
+    trial.pick(4, [1, 3])
+    trial.type_into(5, "Noether (Erlangen)")
+    for old in trial.browser.downloads.glob("*"):
+        old.unlink()
+    trial.browser.devtools("Browser.setDownloadBehavior", {"behavior": "allow", "downloadPath": str(trial.browser.downloads)})
+    trial.browser.run("[...document.querySelectorAll('#result button')].find((it) => it.textContent.startsWith('The rule')).click();")
+    trial.browser.wait("document.querySelector('#rule code') !== null", "the rule is shown")
+    names = ["people-session.csv", "people-rule.csv"]
+    trial.browser.run("for (const it of document.querySelectorAll('#rule button')) if (it.textContent.endsWith('.csv')) it.click();")
+    end = time.monotonic() + 20
+    while not all((trial.browser.downloads / it).exists() for it in names):
+        assert time.monotonic() < end, [it.name for it in trial.browser.downloads.iterdir()]
+        time.sleep(0.05)
+    for name in names:
+        (trial.folder / name).write_bytes((trial.browser.downloads / name).read_bytes())
+    (trial.folder / "OTHER.csv").write_bytes(path.read_bytes())
+    words = shlex.split(trial.browser.run("return document.querySelector('#rule code').textContent;"))
+    ran = subprocess.run([trial.programs["flashfill"], *words[1:]], cwd=trial.folder, capture_output=True, text=True, timeout=60)
+    texts = [it[2] for it in csv.reader(io.StringIO(ran.stdout))]
+    assert ran.returncode == 0 and texts == [text for _, (text, _) in sorted(trial.shown().items())], (texts, ran.stderr)
+    trial.is_clean()
+    return f"{len(texts)} rows alike"
+
+
+def pasted(trial):
+    """Pasted cells become a sheet, and a pasted column becomes examples."""
+    trial.start()
+    browser = trial.browser
+    browser.click("#paste")
+    before = trial.fills()
+    browser.run("document.getElementById('paste-text').value = 'Name\\tOut\\nAda Byron\\t\\n\"Max \"\"M\"\" Planck\"\\t\\n';")
+    browser.click("#paste-dialog button.main")
+    browser.wait(f"Number(document.body.dataset.filled) > {before}", "pasted cells are opened")
+    trial.settle()
+    trial.type_into(2, "Byron")
+    shown = trial.shown()
+    assert len(shown) == 2 and shown[2] == ("Byron", "given") and shown[3][0] == '"M" Planck', shown
+    path = trial.folder / "pasted.csv"
+    path.write_bytes(b'Name,Out\nAda Byron,\n"Max ""M"" Planck",\n')
+    trial.compare(path)
+    trial.go_to(2)
+    browser.run("""const data = new DataTransfer();
+        data.setData('text/plain', 'A\\nM\\n');
+        document.getElementById('grid').dispatchEvent(new ClipboardEvent('paste', { clipboardData: data, bubbles: true, cancelable: true }));""")
+    trial.settle()
+    shown = trial.shown()
+    assert shown[2] == ("A", "given") and shown[3] == ("M", "given"), shown
+    trial.compare(path)
+    trial.is_clean()
+    return "a sheet and a column"
+
+
 def labels(trial):
     """Every control has a name for screen readers, and the sheet says its rows, columns and chosen cell."""
     trial.start()
@@ -461,5 +518,5 @@ def take_pictures(base, folder):
             browser.picture(folder / f"{name}.png")
 
 
-ALL = [first_visit, follows_typing, examples, odd_sheets, own_cells, refusals, reports, outside_cases, labels, thousand_rows, many_rows]
+ALL = [first_visit, follows_typing, examples, odd_sheets, own_cells, refusals, saved_rule, pasted, reports, outside_cases, labels, thousand_rows, many_rows]
 SLOW = [outside_cases, many_rows]
