@@ -43,13 +43,15 @@ export class Filling {
         return Promise.all([this.client.hold(name, bytes), this.quick.hold(name, bytes)]);
     }
 
-    /** Opens a file as a sheet: its status, lines and records. All other files are forgotten. */
+    /** Opens a file as a sheet: its status, lines and records. Where it has records, all other files are forgotten. */
     async open(name, bytes) {
+        const answer = await this.quick.ask("open", { word: name, more: [[name, bytes]] });
+        if (answer.records.length === 0) return answer;
         this.filled = null;
         this.#turn++;
         this.quick.holdOnly(name, new Uint8Array());
         await this.client.holdOnly(name, bytes);
-        return this.client.ask("open", { word: name });
+        return answer;
     }
 
     /** Fills by these choices; what was asked before is no longer waited for. `inView` are the records in view. */

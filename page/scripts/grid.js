@@ -119,16 +119,20 @@ export class Grid {
     }
 
     #setWidths() {
-        const pen = element("canvas").getContext("2d");
         const style = getComputedStyle(this.place);
-        pen.font = `${style.fontSize} ${style.fontFamily}`;
+        const measure = (weight) => {
+            const pen = element("canvas").getContext("2d");
+            pen.font = `${weight} ${style.fontSize} ${style.fontFamily}`;
+            return (text) => pen.measureText(text.slice(0, 60)).width;
+        };
         const { sheet, columns } = this;
         const sample = sheet.records.slice(0, SAMPLE);
-        this.widthOf = (text) => pen.measureText(text.slice(0, 60)).width;
+        const titleWidth = measure(600);
+        this.widthOf = measure(400);
         this.widths = columns.map(({ number, title, role }) => {
             const widest = sample.reduce((most, record) => Math.max(most, this.widthOf(record[number - 1] ?? "")), 0);
-            const wanted = Math.max(this.widthOf(title) * 1.08 + 44, widest + 20);
-            return Math.round(role === "fills" ? Math.min(MOST_WIDE, this.place.clientWidth * 0.48, Math.max(150, wanted + 30)) : Math.min(MOST_WIDE, Math.max(64, wanted)));
+            const wanted = Math.max(titleWidth(title), widest) + 20;
+            return Math.round(role === "fills" ? Math.min(MOST_WIDE, this.place.clientWidth * 0.48, Math.max(150, wanted + 44)) : Math.min(MOST_WIDE, Math.max(64, wanted)));
         });
         this.#applyWidths();
     }
@@ -151,8 +155,9 @@ export class Grid {
 
     #fillHead() {
         const cells = this.columns.map(({ number, role, title }) => {
-            const note = role === "fills" ? "filled" : role === "reads" ? "read" : "";
-            return element("div", { class: `title ${role}`, role: "columnheader", "aria-colindex": number + 1, title }, element("span", {}, title), note ? element("small", {}, note) : null);
+            const label = `${title}, ${role === "fills" ? "to fill" : role === "reads" ? "read" : "not read"}`;
+            const note = role === "fills" ? element("small", {}, "to fill") : null;
+            return element("div", { class: `title ${role}`, role: "columnheader", "aria-colindex": number + 1, title: label, "aria-label": label }, element("span", {}, title), note);
         });
         const corner = element("div", { class: "number", role: "columnheader", "aria-colindex": 1, "aria-label": "Row" }, this.choices.header ? "1" : "");
         this.head.replaceChildren(corner, ...cells, element("div", { class: "filler", role: "presentation" }));
@@ -248,7 +253,7 @@ export class Grid {
     #fillAnswer(cell, record) {
         const { filled } = this;
         const [text, mark] = cell.children;
-        if (!filled?.isWhole) {
+        if (!filled?.isWhole || filled.counts[GIVEN] === 0) {
             setText(text, this.choices.given(this.sheet, record) ?? "");
             setText(mark, "");
             cell.className = `cell fills${cell.classList.contains("active") ? " active" : ""}`;

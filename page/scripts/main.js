@@ -50,17 +50,17 @@ class Page {
         return this.choices.place(this.sheet);
     }
 
-    /** Opens a sheet. `sources` are the columns that are read at first, where they are not the usual ones. */
+    /** Opens a sheet, or says why it is none. `sources` are the columns that are read at first, where not the usual ones. */
     async open(name, bytes, sources = null) {
         this.editor.close(false);
+        let answer;
         try {
-            const answer = await this.filling.open(fileWord(name), bytes);
-            this.sheet = new Sheet(name, answer.records);
-            this.showProblem(answer.status > 1 ? problemOf(answer) : null);
-            if (this.sheet.width === 0) return this.showEmpty();
+            answer = await this.filling.open(fileWord(name), bytes);
         } catch (error) {
             return this.showProblem(error.message);
         }
+        if (answer.records.length === 0) return this.showProblem(answer.status > 1 ? problemOf(answer) : `${name}: it has no rows`);
+        this.sheet = new Sheet(name, answer.records);
         const choices = firstChoices(this.sheet);
         this.history = new History(sources ? choices.with({ sources }) : choices);
         this.filled = null;
@@ -69,21 +69,12 @@ class Page {
         const first = Math.min(this.choices.header ? 1 : 0, this.sheet.records.length - 1);
         this.grid.active = { record: first, column: this.place };
         byId("grid").scrollTop = 0;
+        this.showProblem(null);
         this.render();
         await this.refresh();
         if (!this.filled?.isWhole) return;
         const doubtful = suggest(this.filled, this.choices.header, this.choices.header ? 0 : -1);
-        if (doubtful !== null && this.filled.counts[0] > 0) this.grid.choose(doubtful, this.place);
-    }
-
-    /** Where a file has no records. */
-    showEmpty() {
-        byId("file-name").textContent = this.sheet.name;
-        byId("file-size").textContent = "no rows";
-        this.history = null;
-        this.filled = null;
-        byId("grid").classList.add("empty");
-        showNothing("Nothing to fill. Open another file.");
+        this.grid.choose(doubtful !== null && this.filled.counts[0] > 0 ? doubtful : first, this.place);
     }
 
     /** Takes up other choices, which can be undone. */
@@ -240,7 +231,6 @@ class Page {
     /** Shows all that does not wait for the engine. */
     render() {
         const { sheet, choices } = this;
-        byId("grid").classList.remove("empty");
         byId("file-name").textContent = sheet.name;
         const rows = sheet.records.length - (choices.header ? 1 : 0);
         byId("file-size").textContent = `${rows.toLocaleString("en")} ${rows === 1 ? "row" : "rows"}`;
@@ -285,7 +275,7 @@ class Page {
     showProblem(text) {
         byId("problem").hidden = text === null;
         byId("problem").textContent = text ?? "";
-        if (text !== null && this.history) showNothing("Nothing is filled until this is mended.");
+        if (text !== null && !this.filled?.isWhole) showNothing("Nothing is filled until this is mended.");
     }
 
     showResult() {

@@ -12,8 +12,8 @@ const SENTENCES = {
     [NONE_DOUBT]: "The simplest rule gives no text here, another one does.",
 };
 
-/** A text as it is shown on a button. */
-const shown = (text) => (text === null || text === "" ? element("i", {}, "stays empty") : text);
+/** A text as it is shown in a card. */
+const shown = (text) => (text === "" ? element("i", {}, "empty") : text);
 
 const badge = (state) => element("span", { class: `badge ${STATE_CLASSES[state]}` }, element("span", { "aria-hidden": "true" }, STATE_MARKS[state]), ` ${STATE_NAMES[state]}`);
 
@@ -46,17 +46,18 @@ export function showCell(title, record, filled, answers, words, calls) {
     const state = filled.states[record];
     const refusal = filled.refusals.get(record);
     const text = filled.texts[record];
-    const parts = [element("h2", {}, `${title}, row ${record + 1}`, badge(state))];
+    const isBlank = filled.counts[GIVEN] === 0;
+    const parts = [element("h2", {}, `${title}, row ${record + 1}`, isBlank ? null : badge(state))];
     if (isDoubtful(state) && answers.length === 2) {
         parts.push(element("p", {}, SENTENCES[state]));
         parts.push(element("div", { class: "answers" }, answers.map((it, which) => answerButton(which, it, words, calls.take))));
     } else {
         parts.push(element("p", { class: "cell-text" }, shown(text)));
-        const sentence = filled.counts[GIVEN] === 0 ? "Nothing is learned yet: type what this cell should be." : SENTENCES[state];
+        const sentence = isBlank ? "Nothing is learned yet: type what this cell should be." : SENTENCES[state];
         parts.push(element("p", { class: refusal ? "refusal" : null }, refusal ? `This text is ${refusal}. It stays as you gave it.` : sentence));
         if (isDoubtful(state)) parts.push(element("button", { type: "button", onclick: () => calls.take(text) }, "Yes, take this text"));
     }
-    const tools = [element("button", { type: "button", onclick: calls.edit }, state === GIVEN ? "Change it" : "Type another text")];
+    const tools = [element("button", { type: "button", onclick: calls.edit }, state === GIVEN ? "Change it" : text === "" ? "Type a text" : "Type another text")];
     if (state === GIVEN) tools.push(element("button", { type: "button", onclick: calls.clear }, "Take it back"));
     if (text !== "" || state !== GIVEN) tools.push(element("button", { type: "button", onclick: calls.keepEmpty }, "Leave it empty"));
     parts.push(element("p", { class: "row-of-buttons" }, tools));

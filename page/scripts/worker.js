@@ -28,8 +28,8 @@ const kinds = {
     },
 
     /** The records of a sheet, as the engine reads them: with an empty column more, which is taken off here. */
-    async open({ word }) {
-        const { status, out, err } = (await engine).run("fillcsv", [word, "--new=x", "--from=1", "--no-header", "--quiet"], files);
+    async open({ word, more }) {
+        const { status, out, err } = (await engine).run("fillcsv", [word, "--new=x", "--from=1", "--no-header", "--quiet"], withMore(more));
         const records = recordsOf(decoder.decode(out));
         for (const record of records) record.pop();
         return { status, lines: decoder.decode(err), records };
