@@ -36,7 +36,7 @@ function countsOf(states, header) {
 export function filledOf(answer, header) {
     const lines = linesOf(answer.lines);
     const refusals = refusalsIn(lines);
-    const isNote = (line) => !/^row \d+: not learned|^look at row |^\d+ given, /.test(line);
+    const isNote = (line) => !/^row \d+: not learned|^look at row |^\d+ given, |^no cell of the column is filled/.test(line);
     const isWhole = answer.status <= 1;
     return {
         isWhole,
@@ -44,7 +44,7 @@ export function filledOf(answer, header) {
         states: answer.states,
         counts: isWhole ? countsOf(answer.states, header) : [0, 0, 0, 0, 0],
         refusals,
-        notes: lines.filter(isNote),
+        notes: isWhole ? lines.filter(isNote) : [],
         lines,
         times: answer.times,
     };

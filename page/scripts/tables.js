@@ -26,7 +26,7 @@ export class TablesCard {
     /** What a column of a table is called; tables and columns are counted from 1. */
     columnTitle(table, column) {
         const name = this.page.choices.tables[table - 1]?.name;
-        return `${name ?? `table ${table}`}: ${this.#heads.get(name)?.[column - 1] ?? `column ${column}`}`;
+        return `column ${column} of ${name ?? `table ${table}`}`;
     }
 
     /** Adds a table, with the keys that the engine finds. */
@@ -55,7 +55,7 @@ export class TablesCard {
         const depths = [1, 2, 3].map((it) => element("option", { value: it, selected: it === depth }, String(it)));
         byId("tables").replaceChildren(
             element("h2", {}, "Lookup tables"),
-            tables.length === 0 ? element("p", {}, "Drop a table here, such as names of months or prices, and rules can look cells up in it.") : null,
+            ...(tables.length > 0 ? [] : [element("p", {}, "Drop a table here, such as names of months or prices, and rules can look cells up in it.")]),
             ...tables.map((table) => this.#table(table)),
             element("p", { class: "row-of-buttons" }, element("button", { type: "button", onclick: () => input.click() }, "Add a table…"), input),
             ...(tables.length === 0 ? [] : [element("label", {}, "Lookups inside each other, up to ", element("select", { onchange: (event) => page.choose({ depth: Number(event.target.value) }) }, depths))]),
@@ -69,7 +69,8 @@ export class TablesCard {
             const isOn = table.keys.includes(key);
             const onchange = () => change(isOn ? table.keys.filter((it) => it !== key) : [...table.keys, key]);
             const isFixed = isOn ? table.keys.length === 1 : table.keys.length >= MOST_KEYS;
-            const title = key.map((it) => this.#heads.get(table.name)?.[it - 1] ?? it).join(" + ");
+            const first = key.map((it) => this.#heads.get(table.name)?.[it - 1] ?? "").join(", ");
+            const title = `column${key.length > 1 ? "s" : ""} ${key.join(" + ")} (${first})`;
             return element("label", { class: "chip" }, element("input", { type: "checkbox", checked: isOn, disabled: isFixed, onchange }), element("span", {}, title));
         });
         const remove = () => page.choose({ tables: page.choices.tables.filter((it) => it !== table) });

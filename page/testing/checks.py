@@ -170,20 +170,19 @@ def follows_typing(trial):
 def session_of(path):
     """What a session of examples/ reads and adds: its sheet, header, inputs, output and examples."""
     said = {"header": False, "output": None, "adds": [], "tables": False}
-    for record in csv.reader(io.StringIO(path.read_text(encoding="utf-8"))):
-        match record:
-            case ["sheet", name]:
-                said["sheet"] = name
-            case ["header"]:
-                said["header"] = True
-            case ["inputs", *columns]:
-                said["inputs"] = [int(it) for it in columns]
-            case ["output", column]:
-                said["output"] = int(column)
-            case ["table", *_]:
-                said["tables"] = True
-            case ["add", row, text]:
-                said["adds"].append((int(row), text))
+    for word, *rest in csv.reader(io.StringIO(path.read_text(encoding="utf-8"))):
+        if word == "sheet":
+            said["sheet"] = rest[0]
+        elif word == "header":
+            said["header"] = True
+        elif word == "inputs":
+            said["inputs"] = [int(it) for it in rest]
+        elif word == "output":
+            said["output"] = int(rest[0])
+        elif word == "table":
+            said["tables"] = True
+        elif word == "add":
+            said["adds"].append((int(rest[0]), rest[1]))
     return said
 
 
