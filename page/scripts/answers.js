@@ -59,14 +59,13 @@ export function problemOf({ status, lines }) {
 
 /**
  * The next row to look at, a record counted from 0, or null where no row is in doubt: the first one in doubt after `from`,
- * or else from the top. The engine has no better order yet.
+ * or else from the top; with -1 as `step` the other way round. The engine has no better order yet.
  */
-export function suggest(filled, header, from) {
-    const { states } = filled;
+export function suggest({ states }, header, from, step = 1) {
     const first = header ? 1 : 0;
     const count = states.length - first;
-    for (let step = 1; step <= count; step++) {
-        const record = first + ((((from - first + step) % count) + count) % count);
+    for (let far = 1; far <= count; far++) {
+        const record = first + ((((from - first + step * far) % count) + count) % count);
         if (isDoubtful(states[record])) return record;
     }
     return null;

@@ -34,11 +34,14 @@ export class Grid {
         this.place.addEventListener("dblclick", (event) => this.#cellOf(event) && this.calls.onEdit());
     }
 
-    /** Shows another sheet or other columns: everything is laid out anew. */
+    /** Shows another sheet or other columns: everything is laid out anew, if anything is another one. */
     layOut(sheet, choices) {
+        const fills = choices.place(sheet);
+        const layout = [sheet.width, fills, choices.sources, choices.header, choices.newName].join();
+        if (sheet === this.sheet && layout === this.layout) return;
         this.sheet = sheet;
         this.choices = choices;
-        const fills = choices.place(sheet);
+        this.layout = layout;
         const count = Math.max(sheet.width, fills);
         this.columns = Array.from({ length: count }, (_, index) => {
             const number = index + 1;
@@ -253,10 +256,11 @@ export class Grid {
     #fillAnswer(cell, record) {
         const { filled } = this;
         const [text, mark] = cell.children;
+        const kept = ["active", "editing"].filter((it) => cell.classList.contains(it));
         if (!filled?.isWhole || filled.counts[GIVEN] === 0) {
             setText(text, this.choices.given(this.sheet, record) ?? "");
             setText(mark, "");
-            cell.className = `cell fills${cell.classList.contains("active") ? " active" : ""}`;
+            cell.className = ["cell fills", ...kept].join(" ");
             cell.removeAttribute("aria-label");
             return;
         }
@@ -266,7 +270,7 @@ export class Grid {
         const isOld = filled.fresh !== null && !filled.fresh.has(record);
         setText(text, shown);
         setText(mark, refusal ? "!" : STATE_MARKS[state]);
-        cell.className = `cell fills ${STATE_CLASSES[state]}${refusal ? " refused" : ""}${isOld ? " old" : ""}${cell.classList.contains("active") ? " active" : ""}`;
+        cell.className = ["cell fills", STATE_CLASSES[state], ...(refusal ? ["refused"] : []), ...(isOld ? ["old"] : []), ...kept].join(" ");
         const isNothing = shown === "" && (state === NONE || state === NONE_DOUBT || state === GIVEN);
         cell.setAttribute("aria-label", `${isNothing ? "empty" : shown}, ${refusal ?? STATE_NAMES[state]}`);
         if (refusal) cell.title = refusal;

@@ -1,7 +1,6 @@
 // The page: what is shown, and what happens when a person does something.
 import { isDoubtful, problemOf, suggest } from "./answers.js";
 import { FILTERS, listenToChoices, showChoices, showStates, withColumn } from "./bar.js";
-import { recordsOfPasted } from "./csv.js";
 import { byId, say } from "./dom.js";
 import { Editor, listen } from "./editor.js";
 import { canRun } from "./engine.js";
@@ -175,16 +174,10 @@ class Page {
         if (answers[which] && answers[which].text !== null) this.take(answers[which].text);
     }
 
-    /** Goes to the next row to look at. */
+    /** Goes to the next row to look at, or where `step` is -1 to the one before. */
     next(step) {
         if (!this.filled?.isWhole) return;
-        const { header } = this.choices;
-        let found = suggest(this.filled, header, this.grid.active.record);
-        if (step < 0) {
-            const before = (record) => isDoubtful(this.filled.states[record]);
-            const all = this.grid.rows.filter(before);
-            found = all.filter((it) => it < this.grid.active.record).at(-1) ?? all.at(-1) ?? null;
-        }
+        const found = suggest(this.filled, this.choices.header, this.grid.active.record, step);
         if (found === null) return say("No row is in doubt");
         if (this.grid.placeOf(found) < 0) this.setFilter(null);
         this.grid.choose(found, this.place);
@@ -193,11 +186,8 @@ class Page {
 
     /** Pastes: one column of cells goes into the filled column from the chosen cell on, and a whole sheet is opened. */
     paste(text) {
-        const cells = recordsOfPasted(text.replace(/\r?\n$/, ""));
-        const isColumn = !text.includes("\t");
-        if (!isColumn || this.grid.active.column !== this.place) return askForCells(text, (name, bytes) => this.open(name, bytes));
+        if (text.includes("\t") || this.grid.active.column !== this.place) return askForCells(text, (name, bytes) => this.open(name, bytes));
         const lines = text.replace(/\r?\n$/, "").split(/\r?\n/);
-        if (cells.length === 0) return;
         const at = this.grid.placeOf(this.grid.active.record);
         let choices = this.choices;
         lines.slice(0, this.grid.rows.length - at).forEach((line, index) => {
