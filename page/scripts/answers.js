@@ -25,6 +25,23 @@ function refusalsIn(lines) {
     return refusals;
 }
 
+const ESCAPES = { n: "\n", r: "\r", t: "\t", "?": "\ufffd" };
+
+/** The text of an answer as a line tells it: in quotes with escapes, or `none`, which is null. */
+const answerIn = (told) => (told === "none" ? null : told.slice(1, -1).replace(/\\([^])/g, (_, it) => ESCAPES[it] ?? it));
+
+/** What else cells in doubt could be: the other answer and the words of its rule, by record. */
+function doubtsIn(lines) {
+    const answer = '("(?:[^"\\\\]|\\\\.)*"|none)';
+    const pattern = new RegExp(`^row (\\d+): ${answer}, or ${answer} by: (.*)$`);
+    const doubts = new Map();
+    for (const line of lines) {
+        const found = pattern.exec(line);
+        if (found) doubts.set(Number(found[1]) - 1, { other: answerIn(found[3]), words: found[4] });
+    }
+    return doubts;
+}
+
 /** How many cells have each state, in the order of the states; the header is no cell. */
 function countsOf(states, header) {
     const counts = [0, 0, 0, 0, 0];
@@ -32,11 +49,11 @@ function countsOf(states, header) {
     return counts;
 }
 
-/** What the engine told of a fill, in the page's terms. `notes` are the lines that belong to no cell. */
+/** What the engine told of a fill, in the page's terms: `rule` in plain words, a line for each kind of rows; `notes` are lines that belong to no cell. */
 export function filledOf(answer, header) {
     const lines = linesOf(answer.lines);
     const refusals = refusalsIn(lines);
-    const isNote = (line) => !/^row \d+: not learned|^look at row |^\d+ given, |^no cell of the column is filled/.test(line);
+    const isNote = (line) => !/^row \d+: |^look at row |^\d+ given, |^rule: |^no cell of the column is filled/.test(line);
     const isWhole = answer.status <= 1;
     return {
         isWhole,
@@ -44,8 +61,9 @@ export function filledOf(answer, header) {
         states: answer.states,
         counts: isWhole ? countsOf(answer.states, header) : [0, 0, 0, 0, 0],
         refusals,
+        rule: lines.filter((it) => it.startsWith("rule: ")).map((it) => it.slice(6)),
+        doubts: doubtsIn(lines),
         notes: isWhole ? lines.filter(isNote) : [],
-        lines,
         times: answer.times,
     };
 }

@@ -1,51 +1,17 @@
-// Why a cell is in doubt: both answers, and a rule for each.
-//
-// `fillcsv` does not tell the rules yet, so a session of `flashfill` is asked, by the first profile. Its tokens are among
-// those of the third one, by which the sheet is filled: so each rule that it finds explains the examples of the row's branch
-// there too, if the branches are the same. What it cannot tell is left out.
-import { NONE_DOUBT } from "./answers.js";
-import { recordsOf, textOf } from "./csv.js";
-import { sessionExamples, sessionHead } from "./rule.js";
-import { fileWord } from "./words.js";
-
-const SESSION = "page session";
-
-/** The session that asks for the rules and for the objection to a row's answer. */
-function sessionOf({ sheet, choices }, record) {
-    const row = String(record + (choices.header ? 0 : 1));
-    return textOf([...sessionHead(sheet, choices), ...sessionExamples(sheet, choices, new Map()), ["answer", row], ["object", row], ["programs"]]);
-}
-
-/** An answer with a rule that gives it; the text is null where the rule has no answer, the program where it is not known. */
-const answerOf = (text, program) => ({ text, program });
-
-/** What a session's report says of a row. */
-function readReport(report) {
-    const records = recordsOf(report);
-    const row = records.find((it) => it[0] === "row");
-    const object = records.find((it) => it[0] === "object");
-    const branches = records.filter((it) => it[0] === "branch");
-    const answers = [];
-    if (row && branches.length === 1) answers.push(answerOf(row[3].startsWith("none") ? null : row[2], branches[0][3]));
-    if (object && object[4] !== "agreed" && object[0] === "object") answers.push(answerOf(object[4] === "some" ? object[3] : null, object[2]));
-    return answers;
-}
+// Why a cell is in doubt: its two answers, and the rule behind each in plain words, as `fillcsv --explain` tells them.
+import { filledOf, NONE_DOUBT } from "./answers.js";
 
 /**
- * Explains the doubtful cell of a record: its text and another one that a rule gives, each with a rule where one is known.
- * `part` is a part of a sheet that has the record and all examples; `chosen` the cell's text and state. Answers null where a
- * newer question took the place of this one.
+ * Explains the doubtful cell of a record: the answer that stands there and another one, the words of a rule with each, as far
+ * as the engine tells them. The text of an answer is null where the rule gives none. `request` asks for a part of the sheet
+ * with the record, which stands there at `at`; null where a newer question took the place of this one.
  */
-export async function explain(client, part, chosen, record) {
-    const at = part.places.get(record);
-    const { sheet } = part;
-    const encoder = new TextEncoder();
-    const more = [[SESSION, encoder.encode(sessionOf(part, at))], [fileWord(sheet.name), encoder.encode(textOf(sheet.records))]];
-    const answer = await client.ask("run", { program: "flashfill", words: ["replay", SESSION], more }, "explain");
+export async function explain(client, request, header, at, chosen) {
+    const answer = await client.ask("fill", request, "explain");
     if (answer === null) return null;
-    const answers = readReport(new TextDecoder().decode(answer.out));
+    const { rule, doubts } = filledOf(answer, header);
+    const doubt = doubts.get(at);
     const text = chosen.state === NONE_DOUBT ? null : chosen.text;
-    const first = answers.find((it) => it.text === text);
-    const second = answers.find((it) => it.text !== text);
-    return [answerOf(text, first?.program ?? null), ...(second ? [second] : [])];
+    const first = { text, words: rule.length === 1 ? rule[0] : null };
+    return doubt ? [first, { text: doubt.other, words: doubt.words }] : [first];
 }

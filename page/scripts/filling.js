@@ -1,5 +1,5 @@
-// Asks the engine for the filled column and for the reasons of doubts. Two workers: one fills the whole sheet; the other one
-// answers at once for a few rows, so that in a large sheet the rows in view follow while one types.
+// Asks the engine for the filled column and for the reasons of doubts. Three workers: one fills the whole sheet; one fills the
+// rows in view, so that they follow in a large sheet while one types; one finds reasons.
 import { filledOf, problemOf } from "./answers.js";
 import { Client } from "./client.js";
 import { textOf } from "./csv.js";
@@ -27,6 +27,7 @@ export class Filling {
         this.calls = calls;
         this.client = new Client();
         this.quick = new Client();
+        this.reasons = new Client();
         this.filled = null;
     }
 
@@ -38,9 +39,13 @@ export class Filling {
         this.client.stop();
     }
 
-    /** Holds a file in both workers; without bytes it is forgotten. */
+    get workers() {
+        return [this.client, this.quick, this.reasons];
+    }
+
+    /** Holds a table in all workers. */
     hold(name, bytes) {
-        return Promise.all([this.client.hold(name, bytes), this.quick.hold(name, bytes)]);
+        return Promise.all(this.workers.map((it) => it.hold(name, bytes)));
     }
 
     /** Opens a file as a sheet: its status, lines and records. Where it has records, all other files are forgotten. */
@@ -49,7 +54,9 @@ export class Filling {
         if (answer.records.length === 0) return answer;
         this.filled = null;
         this.#turn++;
+        // parts of the sheet come with their requests
         this.quick.holdOnly(name, new Uint8Array());
+        this.reasons.holdOnly(name, new Uint8Array());
         await this.client.holdOnly(name, bytes);
         return answer;
     }
@@ -89,8 +96,7 @@ export class Filling {
         const began = performance.now();
         const records = [...new Set([...(choices.header ? [0] : []), ...given, ...inView])].sort((a, b) => a - b);
         const part = partOf(sheet, choices, records);
-        const request = { ...partRequest(part), column: part.choices.place(part.sheet), header: choices.header };
-        const answer = await this.quick.ask("fill", request, "view").catch(() => null);
+        const answer = await this.quick.ask("fill", partRequest(part), "view").catch(() => null);
         if (answer === null || answer.status > 1 || turn !== this.#turn || this.filled?.sheet !== sheet || this.filled.turn >= turn) return;
         this.#viewTurn = turn;
         const { filled } = this;
@@ -105,12 +111,15 @@ export class Filling {
         this.calls.onFilled(this.filled, false);
     }
 
-    /** Why a cell is in doubt; null where a newer question took its place. */
+    /** Why a cell is in doubt; null where a newer question took its place. A question that takes long is given up for it. */
     explain(sheet, choices, filled, record) {
         const examples = choices.allGiven(sheet).filter(([it]) => !filled.refusals.has(it)).slice(0, MOST_EXAMPLES);
         const records = [...new Set([...(choices.header ? [0] : []), ...examples.map(([it]) => it), record])].sort((a, b) => a - b);
-        const chosen = { text: filled.texts[record], state: filled.states[record] };
-        return explain(this.quick, partOf(sheet, choices, records), chosen, record);
+        const part = partOf(sheet, choices, records);
+        const request = partRequest(part);
+        request.words.push("--explain");
+        if (this.reasons.isBusy) this.reasons.stop();
+        return explain(this.reasons, request, choices.header, part.places.get(record), { text: filled.texts[record], state: filled.states[record] });
     }
 
     /** Runs a program with words of its own; files of one request alone can be handed along. */
@@ -119,8 +128,8 @@ export class Filling {
     }
 }
 
-/** The words and the file of a part of a sheet. */
-function partRequest(part) {
-    const bytes = new TextEncoder().encode(textOf(part.sheet.records));
-    return { words: shownWords(part.sheet, part.choices), more: [[fileWord(part.sheet.name), bytes]] };
+/** The request that fills a part of a sheet. */
+function partRequest({ sheet, choices }) {
+    const more = [[fileWord(sheet.name), new TextEncoder().encode(textOf(sheet.records))]];
+    return { words: shownWords(sheet, choices), column: choices.place(sheet), header: choices.header, more };
 }

@@ -10,7 +10,6 @@ import { Filling } from "./filling.js";
 import { Grid } from "./grid.js";
 import { History, Sheet, firstChoices } from "./model.js";
 import { showCell, showNothing, showOther, showResult, showRule } from "./panel.js";
-import { PlainWords } from "./plain.js";
 import { ruleFiles } from "./rule.js";
 import { TablesCard } from "./tables.js";
 import { fileWord, resultWords, shellLine } from "./words.js";
@@ -287,13 +286,7 @@ class Page {
         const { filled } = this;
         const rule = await ruleFiles(this.filling, this.sheet, this.choices, filled);
         if (filled !== this.filled) return;
-        showRule(rule, this.words, { copy: (text) => this.copy(text), save: ({ name, text }) => download(name, new TextEncoder().encode(text)) });
-    }
-
-    /** Words for programs over the sheet. */
-    get words() {
-        const { sheet, choices } = this;
-        return new PlainWords({ column: (it) => sheet.title(it, choices.header), tableColumn: (table, column) => this.tables.columnTitle(table, column) });
+        showRule(rule, { copy: (text) => this.copy(text), save: ({ name, text }) => download(name, new TextEncoder().encode(text)) });
     }
 
     async download() {
@@ -325,7 +318,7 @@ class Page {
     drawCell(record) {
         const { sheet, choices } = this;
         const title = choices.column === null ? choices.newName : sheet.title(choices.column, choices.header);
-        showCell(title, record, this.filled, this.explained?.answers ?? [], this.words, {
+        showCell(title, record, this.filled, this.explained?.answers ?? [], {
             take: (text) => this.take(text),
             edit: () => this.edit(),
             clear: () => this.give(record, null),

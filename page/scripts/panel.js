@@ -17,13 +17,10 @@ const shown = (text) => (text === "" ? element("i", {}, "empty") : text);
 
 const badge = (state) => element("span", { class: `badge ${STATE_CLASSES[state]}` }, element("span", { "aria-hidden": "true" }, STATE_MARKS[state]), ` ${STATE_NAMES[state]}`);
 
-/** The pieces of a rule, one after the other. */
-const joined = (pieces) => pieces.flatMap((it, at) => [at > 0 ? element("span", { class: "plus" }, " + ") : null, element("span", {}, it)]);
-
-/** The button that takes one of two answers, with the rule behind it in words. That a rule has no answer cannot be taken. */
-function answerButton(which, { text, program }, words, onTake) {
-    const rule = program === null ? null : element("span", { class: "rule", title: program }, joined(words.program(program)));
-    if (text === null) return element("div", { class: "answer" }, element("span", { class: "answer-text" }, element("i", {}, "no text at all")), rule);
+/** The button that takes one of two answers, with the words of its rule. That a rule gives no text cannot be taken. */
+function answerButton(which, { text, words }, onTake) {
+    const rule = words === null ? null : element("span", { class: "rule" }, words);
+    if (text === null || text.includes("\ufffd")) return element("div", { class: "answer" }, element("span", { class: "answer-text" }, text ?? element("i", {}, "no text at all")), rule);
     const keys = element("kbd", {}, `Alt+${which + 1}`);
     return element("button", { type: "button", class: "answer", onclick: () => onTake(text) }, element("span", { class: "answer-text" }, shown(text)), keys, rule);
 }
@@ -42,7 +39,7 @@ export function showOther(title, record, text, onFill) {
  * The card of a cell of the filled column. `answers` are those that `explain` finds, or none; `calls` has `take(text)`,
  * `edit()`, `clear()` and `keepEmpty()`.
  */
-export function showCell(title, record, filled, answers, words, calls) {
+export function showCell(title, record, filled, answers, calls) {
     const state = filled.states[record];
     const refusal = filled.refusals.get(record);
     const text = filled.texts[record];
@@ -50,7 +47,7 @@ export function showCell(title, record, filled, answers, words, calls) {
     const parts = [element("h2", {}, `${title}, row ${record + 1}`, isBlank ? null : badge(state))];
     if (isDoubtful(state) && answers.length === 2) {
         parts.push(element("p", {}, SENTENCES[state]));
-        parts.push(element("div", { class: "answers" }, answers.map((it, which) => answerButton(which, it, words, calls.take))));
+        parts.push(element("div", { class: "answers" }, answers.map((it, which) => answerButton(which, it, calls.take))));
     } else {
         parts.push(element("p", { class: "cell-text" }, shown(text)));
         const sentence = isBlank ? "Nothing is learned yet: type what this cell should be." : SENTENCES[state];
@@ -73,9 +70,10 @@ const box = (text, checked, onchange) => element("label", { class: "check" }, el
 
 /** The card of the result. `calls` has `choose(changes)`, `download()` and `copy()`. */
 export function showResult(line, choices, filled, calls) {
-    const { notes, isWhole } = filled;
+    const { notes, isWhole, rule } = filled;
     const code = element("code", { tabindex: 0, "aria-label": "The command" }, line);
     byId("result").replaceChildren(
+        ...(rule.length > 0 ? [element("h2", {}, "The rule"), element("ul", { class: "rule-lines" }, rule.map((it) => element("li", {}, it)))] : []),
         element("h2", {}, "The filled sheet"),
         ...(notes.length > 0 ? [element("ul", { class: "notes" }, notes.map((it) => element("li", {}, it)))] : []),
         box("leave guesses empty", choices.onlySure, (event) => calls.choose({ onlySure: event.target.checked })),
@@ -83,17 +81,16 @@ export function showResult(line, choices, filled, calls) {
         element("p", { class: "row-of-buttons" }, element("button", { type: "button", class: "main", disabled: !isWhole, onclick: calls.download }, "Download CSV")),
         element("p", {}, "The proved program writes the same bytes from this line:"),
         element("pre", {}, code),
-        element("p", { class: "row-of-buttons" }, element("button", { type: "button", onclick: () => calls.copy(line) }, "Copy this line"), element("button", { type: "button", disabled: !isWhole || filled.counts[GIVEN] === 0, onclick: calls.saveRule }, "The rule…")),
+        element("p", { class: "row-of-buttons" }, element("button", { type: "button", onclick: () => calls.copy(line) }, "Copy this line"), element("button", { type: "button", disabled: !isWhole || filled.counts[GIVEN] === 0, onclick: calls.saveRule }, "Save the rule…")),
     );
 }
 
 /** Offers the rule's files below the result; null as the rule where it cannot be saved. `calls` has `copy(text)` and `save(file)`. */
-export function showRule(rule, words, calls) {
+export function showRule(rule, calls) {
     byId("rule")?.remove();
     const parts = rule === null
-        ? [element("p", {}, "The rule of this sheet cannot be saved yet: the program that saves rules knows no rule that fills every row alike.")]
+        ? [element("p", {}, "The rule of this sheet cannot be saved yet: the program that saves rules knows none that fills every row alike.")]
         : [
-              element("p", {}, "The rule: ", ...words.cases(rule.program).map((it) => element("span", { class: "case" }, it))),
               element("p", { class: "row-of-buttons" }, rule.files.map((file) => element("button", { type: "button", onclick: () => calls.save(file) }, file.name))),
               element("p", {}, "With both files, for another sheet with these columns:"),
               element("pre", {}, element("code", { tabindex: 0, "aria-label": "The command for another sheet" }, rule.line)),

@@ -4,7 +4,7 @@ import { recordsOf, textOf } from "./csv.js";
 import { fileWord, shellWord } from "./words.js";
 
 /** The lines of a session before its edits. Rows are counted without the header. */
-export function sessionHead(sheet, choices) {
+function sessionHead(sheet, choices) {
     const lines = [["sheet", fileWord(sheet.name)]];
     if (choices.header) lines.push(["header"]);
     lines.push(["inputs", ...choices.sources.map(String)]);
@@ -17,7 +17,7 @@ export function sessionHead(sheet, choices) {
 }
 
 /** The lines that add the examples. */
-export function sessionExamples(sheet, choices, refusals) {
+function sessionExamples(sheet, choices, refusals) {
     const above = choices.header ? 1 : 0;
     const given = choices.allGiven(sheet).filter(([record]) => !refusals.has(record)).slice(0, 64);
     return given.map(([record, text]) => ["add", String(record + 1 - above), text]);
@@ -49,5 +49,5 @@ export async function ruleFiles(filling, sheet, choices, filled) {
         { name: `${stem}-rule.csv`, text: textOf([rule]) },
     ];
     const words = ["./flashfill", "apply", ...files.map((it) => fileWord(it.name)), "OTHER.csv"];
-    return { files, program: rule[1], line: words.map(shellWord).join(" ") };
+    return { files, line: words.map(shellWord).join(" ") };
 }

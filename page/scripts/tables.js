@@ -23,12 +23,6 @@ export class TablesCard {
         byId("tables").hidden = !this.isThere;
     }
 
-    /** What a column of a table is called; tables and columns are counted from 1. */
-    columnTitle(table, column) {
-        const name = this.page.choices.tables[table - 1]?.name;
-        return `column ${column} of ${name ?? `table ${table}`}`;
-    }
-
     /** Adds a table, with the keys that the engine finds. */
     async add(fileName, bytes) {
         const { page } = this;
