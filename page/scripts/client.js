@@ -2,17 +2,22 @@
 
 export class Client {
     #worker = null;
+    #ready = null;
     #held = new Map();
     #waiting = [];
     #sent = null;
     #next = 1;
 
-    constructor() {
+    /** `module` is the promise of the engine's module. */
+    constructor(module) {
+        this.module = module;
         this.#start();
     }
 
     #start() {
-        this.#worker = new Worker(new URL("./worker.js", import.meta.url), { type: "module" });
+        const worker = new Worker(new URL("./worker.js", import.meta.url), { type: "module" });
+        this.#worker = worker;
+        this.#ready = this.module.then((module) => worker.postMessage({ module }));
         this.#worker.onmessage = ({ data }) => this.#ended(data);
         this.#worker.onerror = (event) => this.#ended({ id: this.#sent?.id, failed: event.message ?? "the worker could not start" });
     }
@@ -70,7 +75,11 @@ export class Client {
         if (this.#sent || this.#waiting.length === 0) return;
         this.#sent = this.#waiting.shift();
         const { id, kind, request } = this.#sent;
-        this.#worker.postMessage({ id, kind, request });
+        const worker = this.#worker;
+        this.#ready.then(
+            () => worker.postMessage({ id, kind, request }),
+            (error) => this.#ended({ id, failed: error.message }),
+        );
     }
 
     #ended({ id, answer, failed }) {

@@ -40,17 +40,18 @@ function requestOf(program, words, files) {
     return request;
 }
 
+/** Fetches and compiles the engine's module. */
+export async function loadModule(url) {
+    const response = await fetch(url);
+    if (!response.ok) throw new Error(`the engine could not be loaded: ${response.status} ${response.statusText}`);
+    return WebAssembly.compile(await response.arrayBuffer());
+}
+
+/** The engine over a module. */
 export class Engine {
     constructor(module) {
         this.module = module;
         this.calls = null;
-    }
-
-    /** Fetches and compiles the engine. */
-    static async load(url) {
-        const response = await fetch(url);
-        if (!response.ok) throw new Error(`${url}: ${response.status}`);
-        return new Engine(await WebAssembly.compile(await response.arrayBuffer()));
     }
 
     /**

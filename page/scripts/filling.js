@@ -3,6 +3,7 @@
 import { filledOf, problemOf } from "./answers.js";
 import { Client } from "./client.js";
 import { textOf } from "./csv.js";
+import { loadModule } from "./engine.js";
 import { explain } from "./explain.js";
 import { partOf } from "./model.js";
 import { fileWord, shownWords } from "./words.js";
@@ -25,9 +26,10 @@ export class Filling {
     /** `calls.onFilled(filled, isWhole)` gets what to show, `calls.onProblem(text)` why there is nothing, `calls.onBusy()` any change of that. */
     constructor(calls) {
         this.calls = calls;
-        this.client = new Client();
-        this.quick = new Client();
-        this.reasons = new Client();
+        const module = loadModule(new URL("../engine.wasm", import.meta.url));
+        this.client = new Client(module);
+        this.quick = new Client(module);
+        this.reasons = new Client(module);
         this.filled = null;
     }
 

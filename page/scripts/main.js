@@ -372,7 +372,11 @@ class Page {
             byId("grid").focus();
         });
         if (!canRun()) return this.showProblem("This browser cannot run the engine: it needs WebAssembly with 64-bit memory, as in Chromium 133, Firefox 134 or later.");
-        await this.tables.start();
+        try {
+            await this.tables.start();
+        } catch (error) {
+            return this.showProblem(error.message);
+        }
         await this.open(EXAMPLE.name, new TextEncoder().encode(EXAMPLE.text), EXAMPLE.sources);
         if (document.activeElement === document.body) byId("grid").focus({ preventScroll: true });
     }

@@ -61,6 +61,7 @@ class Browser:
         wanted = {"browserName": "chrome", "goog:chromeOptions": options, "goog:loggingPrefs": {"browser": "ALL", "performance": "ALL"}}
         made = self.call("POST", "/session", {"capabilities": {"alwaysMatch": wanted}})
         self.session = f"/session/{made['sessionId']}"
+        self.on("POST", "/timeouts", {"script": 180_000})
         emulate = {"width": width, "height": height, "deviceScaleFactor": scale, "mobile": width < 600}
         self.devtools("Emulation.setDeviceMetricsOverride", emulate)
         if dark:

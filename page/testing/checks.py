@@ -174,8 +174,8 @@ def refusals(trial):
     return "; ".join([*told, said])
 
 
-RUN = """const { Engine } = await import(args[0] + '/scripts/engine.js');
-window.testEngine ??= await Engine.load(args[0] + '/engine.wasm');
+RUN = """const { Engine, loadModule } = await import(args[0] + '/scripts/engine.js');
+window.testEngine ??= new Engine(await loadModule(args[0] + '/engine.wasm'));
 const bytes = (text) => Uint8Array.from(atob(text), (it) => it.charCodeAt(0));
 const text = (them) => { let made = ''; for (const it of them) made += String.fromCharCode(it); return btoa(made); };
 const answers = [];
