@@ -6,6 +6,7 @@ export class Client {
     #held = new Map();
     #waiting = [];
     #sent = null;
+    #sentAt = 0;
     #next = 1;
 
     /** `module` is the promise of the engine's module. */
@@ -18,6 +19,7 @@ export class Client {
         const worker = new Worker(new URL("./worker.js", import.meta.url), { type: "module" });
         this.#worker = worker;
         this.#ready = this.module.then((module) => worker.postMessage({ module }));
+        this.#ready.catch(() => {}); // told by each request
         this.#worker.onmessage = ({ data }) => this.#ended(data);
         this.#worker.onerror = (event) => this.#ended({ id: this.#sent?.id, failed: event.message ?? "the worker could not start" });
     }
@@ -25,6 +27,11 @@ export class Client {
     /** Whether a request is on its way. */
     get isBusy() {
         return this.#sent !== null;
+    }
+
+    /** How many milliseconds the request that is on its way has taken. */
+    get busyFor() {
+        return this.isBusy ? performance.now() - this.#sentAt : 0;
     }
 
     /** Holds a file for all later requests; without bytes it is forgotten. */
@@ -68,12 +75,14 @@ export class Client {
         const again = [...this.#held].map(([name, bytes]) => ({ id: this.#next++, kind: "hold", request: { name, bytes }, lane: null, resolve() {}, reject() {} }));
         this.#waiting = [...again, ...left.filter((it) => it.kind !== "hold")];
         stopped?.resolve(null);
+        for (const old of left.filter((it) => it.kind === "hold")) old.resolve({});
         this.#send();
     }
 
     #send() {
         if (this.#sent || this.#waiting.length === 0) return;
         this.#sent = this.#waiting.shift();
+        this.#sentAt = performance.now();
         const { id, kind, request } = this.#sent;
         const worker = this.#worker;
         this.#ready.then(

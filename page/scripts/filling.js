@@ -15,6 +15,8 @@ const MOST_EXAMPLES = 64;
 /** Where the whole sheet takes longer than this, it waits until typing pauses for so many milliseconds. */
 const SLOW = 150;
 const PAUSE = 250;
+/** A reason that takes longer is given up where another one is asked for. */
+const PATIENCE = 700;
 
 const pause = (time) => new Promise((resolve) => setTimeout(resolve, time));
 
@@ -120,7 +122,7 @@ export class Filling {
         const part = partOf(sheet, choices, records);
         const request = partRequest(part);
         request.words.push("--explain");
-        if (this.reasons.isBusy) this.reasons.stop();
+        if (this.reasons.busyFor > PATIENCE) this.reasons.stop();
         return explain(this.reasons, request, choices.header, part.places.get(record), { text: filled.texts[record], state: filled.states[record] });
     }
 
