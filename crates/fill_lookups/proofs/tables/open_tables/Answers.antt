@@ -1,7 +1,19 @@
-use Rattle.std.proofs.Common.{◌∙◌, arith}
+use Rattle.std.proofs.Common.{◌∙◌, ◌<◌, ap, arith, length, map, subst, sym}
+use Rattle.std.proofs.lemmas.List.{get_or-map, length-map}
 use Rattle.fill_open.proofs.Replays.{none_fell_both}
+use Rattle.fill_words.specs.Words.{IsLookup, lookup_data}
 use Rattle.fill_lookups.proofs.Steps.{lookup_stops, lookup_passes, lookups_end}
 use Rattle.fill_lookups.proofs.tables.open_tables.Goals as goal
+
+pub add-requires : goal.add-requires
+add-requires g c =
+    let l = c.loop-lookup in
+    let lookups = c.args.lookups.now in
+    let item = c.lookup-item.result in
+    let within : l.lookup-index < length lookups = omega arith in
+    let inside : l.lookup-index < length (map lookup_data lookups) = omega (arith, length-map lookups lookup_data) in
+    subst IsLookup (get_or-map lookup_data lookups l.lookup-index item (lookup_data item) within ∙ ap lookup_data (sym c.lookup-item.is))
+    (c.requires l.lookup-index (lookup_data item) inside)
 
 pub returns-in-Err-clause-stopped : goal.returns-in-Err-clause-stopped
 returns-in-Err-clause-stopped g c =
