@@ -68,6 +68,6 @@ export class TablesCard {
             return element("label", { class: "chip" }, element("input", { type: "checkbox", checked: isOn, disabled: isFixed, onchange }), element("span", {}, title));
         });
         const remove = () => page.choose({ tables: page.choices.tables.filter((it) => it !== table) });
-        return element("div", { class: "table" }, element("p", {}, element("strong", {}, table.file), " ", element("button", { type: "button", class: "small", "aria-label": `Remove ${table.file}`, onclick: remove }, "Remove")), element("p", {}, "found by ", ...chips));
+        return element("div", { class: "table" }, element("p", {}, element("strong", {}, table.file), " ", element("button", { type: "button", class: "small", "aria-label": `Remove ${table.file}`, onclick: remove }, "Remove")), element("p", { class: "row-of-buttons" }, "found by", ...chips));
     }
 }

@@ -57,7 +57,7 @@ class Browser:
                 f"--force-device-scale-factor={scale}", f"--user-data-dir={self.folder.name}/profile", "--disable-background-networking"]
         if dark:
             args.append("--force-prefers-color-scheme=dark")
-        options = {"binary": program("chromium", "chromium-browser", "google-chrome"), "args": args, "prefs": {"download.default_directory": str(self.downloads)}}
+        options = {"binary": program("chromium", "chromium-browser", "google-chrome"), "args": args, "prefs": {"download.default_directory": str(self.downloads), "profile.default_content_setting_values.automatic_downloads": 1}}
         wanted = {"browserName": "chrome", "goog:chromeOptions": options, "goog:loggingPrefs": {"browser": "ALL", "performance": "ALL"}}
         made = self.call("POST", "/session", {"capabilities": {"alwaysMatch": wanted}})
         self.session = f"/session/{made['sessionId']}"

@@ -340,7 +340,6 @@ def saved_rule(trial):
     trial.type_into(5, "Noether (Erlangen)")
     for old in trial.browser.downloads.glob("*"):
         old.unlink()
-    trial.browser.devtools("Browser.setDownloadBehavior", {"behavior": "allow", "downloadPath": str(trial.browser.downloads)})
     trial.browser.run("[...document.querySelectorAll('#result button')].find((it) => it.textContent.startsWith('The rule')).click();")
     trial.browser.wait("document.querySelector('#rule code') !== null", "the rule is shown")
     names = ["people-session.csv", "people-rule.csv"]
