@@ -340,7 +340,7 @@ def saved_rule(trial):
     trial.type_into(5, "Noether (Erlangen)")
     for old in trial.browser.downloads.glob("*"):
         old.unlink()
-    trial.browser.run("[...document.querySelectorAll('#result button')].find((it) => it.textContent.startsWith('The rule')).click();")
+    trial.browser.run("[...document.querySelectorAll('#result button')].find((it) => it.textContent.startsWith('Save the rule')).click();")
     trial.browser.wait("document.querySelector('#rule code') !== null", "the rule is shown")
     names = ["people-session.csv", "people-rule.csv"]
     trial.browser.run("for (const it of document.querySelectorAll('#rule button')) if (it.textContent.endsWith('.csv')) it.click();")
