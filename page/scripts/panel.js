@@ -73,12 +73,12 @@ export function showResult(line, choices, filled, calls) {
     const { notes, isWhole, rule } = filled;
     const code = element("code", { tabindex: 0, "aria-label": "The command" }, line);
     byId("result").replaceChildren(
-        ...(rule.length > 0 ? [element("h2", {}, "The rule"), element("ul", { class: "rule-lines" }, rule.map((it) => element("li", {}, it)))] : []),
         element("h2", {}, "The filled sheet"),
         ...(notes.length > 0 ? [element("ul", { class: "notes" }, notes.map((it) => element("li", {}, it)))] : []),
         box("leave guesses empty", choices.onlySure, (event) => calls.choose({ onlySure: event.target.checked })),
         box("with a column of states", choices.withStates, (event) => calls.choose({ withStates: event.target.checked })),
         element("p", { class: "row-of-buttons" }, element("button", { type: "button", class: "main", disabled: !isWhole, onclick: calls.download }, "Download CSV")),
+        ...(rule.length > 0 ? [element("h2", {}, "The rule"), element("ul", { class: "rule-lines" }, rule.map((it) => element("li", {}, it)))] : []),
         element("p", {}, "The proved program writes the same bytes from this line:"),
         element("pre", {}, code),
         element("p", { class: "row-of-buttons" }, element("button", { type: "button", onclick: () => calls.copy(line) }, "Copy this line"), element("button", { type: "button", disabled: !isWhole || filled.counts[GIVEN] === 0, onclick: calls.saveRule }, "Save the rule…")),
