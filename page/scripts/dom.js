@@ -1,0 +1,21 @@
+// Small helpers for the document.
+
+/** The element of an id. */
+export const byId = (id) => document.getElementById(id);
+
+/** A new element: attributes, among them `onclick` and the like, and children. Null children are left out. */
+export function element(tag, attributes = {}, ...children) {
+    const made = document.createElement(tag);
+    for (const [name, value] of Object.entries(attributes)) {
+        if (name.startsWith("on")) made.addEventListener(name.slice(2), value);
+        else if (value === true) made.setAttribute(name, "");
+        else if (value !== false && value !== null && value !== undefined) made.setAttribute(name, value);
+    }
+    made.append(...children.flat().filter((it) => it !== null && it !== undefined));
+    return made;
+}
+
+/** Tells a text to screen readers. */
+export function say(text) {
+    byId("said").textContent = text;
+}
