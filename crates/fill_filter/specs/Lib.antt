@@ -1,0 +1,5 @@
+pub mod Places
+pub mod Filled
+pub mod Run
+pub mod Placing
+pub mod Passing
