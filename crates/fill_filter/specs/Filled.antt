@@ -9,8 +9,7 @@ use Rattle.fill_tree.specs.Value.{IsValue}
 use Rattle.fill_apply.specs.Applied.{answer_field}
 use Rattle.fill_columns.specs.Fields.{with_field}
 use Rattle.fill_cells.specs.Row.{row_sheet}
-use Rattle.fill_rule.specs.Rule.{RuleData, rule_data}
-use Rattle.fill_rule.specs.declared.rule.Rule.{Rule}
+use Rattle.fill_rule.specs.Rule.{RuleData}
 use Rattle.fill_rule.specs.declared.rule.Names.{Names}
 use Rattle.fill_filter.specs.Places.{PlacesData}
 
@@ -47,11 +46,3 @@ AreMade r places (Some names) (header ∷ rows) (first ∷ made) = (first ≡ na
 -- the text is that of a record which is made of this one
 abbrev pub MakesText : RuleData → PlacesData → List (List ℕ) → List ℕ → Type 0
 MakesText r places fields text = (made : List (List ℕ)) × IsFilled r places fields made × (text ≡ record_text made)
-
--- a rule of the code at its places
-pub record PlacedData : Type 0 where
-  pub rule : Rule
-  pub places : PlacesData
-
-abbrev pub Makes : PlacedData → List (List ℕ) → List ℕ → Type 0
-Makes p fields text = MakesText (rule_data p.rule) p.places fields text

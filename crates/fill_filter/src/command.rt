@@ -1,11 +1,13 @@
-//! The run of a rule as a command does it: a status, and a line that says how it ended.
-ghost use Rattle.std.specs.Prelude.{◌≡◌};
+//! The run of a rule as a command does it: a status, and lines that say how it goes.
+ghost use Rattle.std.specs.Prelude.{◌≡◌, true};
 ghost use Rattle.fill_rule.specs.Rule.{IsRule, rule_data};
 ghost use Rattle.fill_filter.specs.Run.{RanAs, code_of};
 
+use crate::lines::{say_counts, say_why};
+use crate::progress::Progress;
 use crate::run::filter_stream;
-use crate::Status;
-use fill_edge::{Sink, WriteFault, write_all};
+use crate::{Ended, Status};
+use fill_edge::Sink;
 use fill_rule::Rule;
 use fill_stream::{Counts, Source};
 use std::alloc::Global;
@@ -13,14 +15,16 @@ use std::alloc::Global;
 /// What a command leaves: its status, and the source.
 #[derive(Drop)]
 pub struct Ran<S> {
-    /// 0 where all was done; 3 where the source could not be read, 4 where the output could not be written, 5 where the
-    /// stream is refused, 6 for want of memory.
+    /// 0 where all was done; 3 where a file or the stream could not be read, 4 where the output could not be written, 5
+    /// where a file or the stream is refused, 6 where memory ran out.
     pub status: u8,
     pub source: S,
 }
 
-/// Runs a rule over a stream, and says on `err` how many rows were filled, unless it is to be quiet, or why the run ended
-/// before the stream did.
+/// Runs a rule over a stream.
+///
+/// On `err` a line says why the run ended before the stream did. Unless it is to be quiet, a line says at the end how many
+/// rows there were and how many of them were filled, and one each million rows how far it is.
 pub fn run_rule<S: Source + Drop, O: Sink, E: Sink>(
     alloc: Global,
     rule: &Rule,
@@ -32,12 +36,33 @@ pub fn run_rule<S: Source + Drop, O: Sink, E: Sink>(
     requires { IsRule (rule_data rule.now) }
     ensures ran { RanAs (rule_data rule.now) result.status (S.left source) (S.left result.source) (S.faults source) (S.faults result.source) (O.written out.old) (O.written out.new) (O.faults out.old) (O.faults out.new) }
     ensures whole { S.whole result.source ≡ S.whole source }
+    ensures silent { quiet ≡ true → result.status ≡ 0 → err.new ≡ err.old }
 {
-    let mut counts = Counts::new();
-    let ended = filter_stream(alloc, rule, source, out, &mut counts);
-    if ended.status != Status::Done || !quiet {
-        let _ = tell(err, ended.status, &counts);
+    if quiet {
+        let ended = filter_stream(alloc, rule, source, out, &mut Counts::new());
+        let _ = say_why(err, ended.status);
+        left_by(ended)
+    } else {
+        let mut progress = Progress::new(err);
+        let ended = filter_stream(alloc, rule, source, out, &mut progress);
+        let Progress { counts, err } = progress;
+        match ended.status {
+            Status::Done => {
+                let _ = say_counts(err, counts);
+            }
+            why => {
+                let _ = say_why(err, why);
+            }
+        }
+        left_by(ended)
     }
+}
+
+/// What a command leaves whose run ended so.
+fn left_by<S>(ended: Ended<'_, S>) -> Ran<S>
+    ensures status { result.status ≡ code_of ended.entry.status }
+    ensures source { result.source ≡ ended.entry.source }
+{
     Ran {
         status: code_of(ended.status),
         source: ended.source,
@@ -57,47 +82,4 @@ fn code_of(status: Status<'_>) -> u8
         Status::NotText { .. } => 5,
         Status::NoMemory => 6,
     }
-}
-
-/// Writes the line of a run that ended so.
-fn tell<E: Sink>(err: &mut E, status: Status<'_>, counts: &Counts) -> Result<(), WriteFault> {
-    match status {
-        Status::Done => tell_counts(err, counts),
-        Status::ReadFault => write_all(err, b"fillcsv: the input cannot be read\n"),
-        Status::WriteFault => write_all(err, b"fillcsv: output cannot be written\n"),
-        Status::Missing(name) => tell_name(err, b"fillcsv: no column \"", name),
-        Status::Ambiguous(name) => tell_name(err, b"fillcsv: more than one column \"", name),
-        Status::NotText { record, column } => tell_place(err, record, column),
-        Status::NoMemory => write_all(err, b"fillcsv: out of memory\n"),
-    }
-}
-
-fn tell_name<E: Sink>(err: &mut E, before: &[u8], name: &[u8]) -> Result<(), WriteFault> {
-    write_all(err, before)?;
-    write_all(err, name)?;
-    write_all(err, b"\"\n")
-}
-
-/// Tells a record, from 1, and a column.
-fn tell_place<E: Sink>(err: &mut E, record: u64, column: usize) -> Result<(), WriteFault> {
-    write_all(err, b"fillcsv: record ")?;
-    tell_number(err, record.saturating_add(1))?;
-    write_all(err, b", column ")?;
-    tell_number(err, column as u64)?;
-    write_all(err, b": not UTF-8\n")
-}
-
-fn tell_counts<E: Sink>(err: &mut E, counts: &Counts) -> Result<(), WriteFault> {
-    write_all(err, b"fillcsv: ")?;
-    tell_number(err, counts.rows)?;
-    write_all(err, b" rows, ")?;
-    tell_number(err, counts.filled)?;
-    write_all(err, b" filled, ")?;
-    tell_number(err, counts.empty)?;
-    write_all(err, b" empty\n")
-}
-
-fn tell_number<E: Sink>(err: &mut E, number: u64) -> Result<(), WriteFault> {
-    let mut buffer = itoa::Buffer::new();
-    write_all(err, buffer.format(number).as_bytes())
 }

@@ -15,7 +15,7 @@ use crate::rows::{PlacedRule, put_row};
 use csv::ByteRecord;
 use fill_edge::{Sink, WriteFault};
 use fill_rule::{Names, Rule};
-use fill_stream::{Counts, Ending, RecordStream, filter_records, flush};
+use fill_stream::{Ending, RecordStream, Watch, filter_records, flush};
 use fill_text::NoMemory;
 use std::alloc::Global;
 use std::io::Read;
@@ -36,18 +36,18 @@ pub(crate) enum How<'r> {
     NotText { record: u64, column: usize },
     /// A write failed.
     WriteFault,
-    /// A read failed, or memory was wanting.
+    /// A read failed, or memory ran out.
     Broken,
 }
 
 /// Runs a rule over all records, behind a byte order mark or none.
-pub(crate) fn pass<'r, R: Read + Drop, K: Sink>(
+pub(crate) fn pass<'r, R: Read + Drop, K: Sink, W: Watch>(
     alloc: Global,
     rule: &'r Rule,
     marked: bool,
     records: &mut RecordStream<R>,
     sink: &mut K,
-    counts: &mut Counts,
+    watch: &mut W,
 ) -> How<'r>
     requires { IsRule (rule_data rule.now) }
     ensures writes { PassWrites (rule_data rule.now) result (mark_text marked) records.old.rest (K.written sink.old) (K.written sink.new) }
@@ -59,7 +59,7 @@ pub(crate) fn pass<'r, R: Read + Drop, K: Sink>(
         Err(how) => return how,
     };
     let placed = PlacedRule::new(alloc, rule, places);
-    match filter_records(records, &placed, &mut buffer, sink, counts) {
+    match filter_records(records, &placed, &mut buffer, sink, watch) {
         Ending::WriteFault => How::WriteFault,
         ending => finish(ending, rule.names.is_some(), &mut buffer, sink),
     }
@@ -139,7 +139,13 @@ fn put_head<'r>(
         Ok(places) => places,
         Err(why) => return Err(how_of(why)),
     };
-    match put_row(alloc, header, places.target, names.output.as_slice(), buffer) {
+    match put_row(
+        alloc,
+        header,
+        places.target,
+        names.output.as_slice(),
+        buffer,
+    ) {
         Ok(()) => Ok(places),
         Err(NoMemory) => Err(How::Broken),
     }
@@ -157,12 +163,7 @@ fn how_of(why: Unplaced<'_>) -> How<'_>
 }
 
 /// Writes what is left in the buffer, and says how the pass ends whose filtering ended so, after a header or none.
-fn finish<'r, K: Sink>(
-    ending: Ending,
-    headed: bool,
-    buffer: &mut Vec<u8>,
-    sink: &mut K,
-) -> How<'r>
+fn finish<'r, K: Sink>(ending: Ending, headed: bool, buffer: &mut Vec<u8>, sink: &mut K) -> How<'r>
     requires { IsCounted ending }
     ensures finishes { Finishes ending headed result (K.written sink.old) (K.written sink.new) buffer.old.items (K.faults sink.old) (K.faults sink.new) }
     ensures later { K.faults sink.old ≤ K.faults sink.new }

@@ -26,7 +26,7 @@ pub(crate) enum Unplaced<'r> {
     Missing(&'r [u8]),
     /// More than one column has it.
     Ambiguous(&'r [u8]),
-    /// Want of memory.
+    /// Out of memory.
     NoMemory,
 }
 
@@ -81,11 +81,7 @@ fn one_or_new<'r>(name: &'r [u8], new: usize, columns: &[usize]) -> Result<usize
 
 /// The column of a name in a header.
 #[tactic(auto, using(crate::proofs::Names::named_counted))]
-fn source_in<'r>(
-    alloc: Global,
-    header: &ByteRecord,
-    name: &'r [u8],
-) -> Result<usize, Unplaced<'r>>
+fn source_in<'r>(alloc: Global, header: &ByteRecord, name: &'r [u8]) -> Result<usize, Unplaced<'r>>
     ensures ok { IfOk result (λ column. source_in (fields_of header.now) name.now ≡ Ok column) }
     ensures err { IfErr result (Refuses (source_in (fields_of header.now) name.now)) }
     ensures counted { IfOk result (λ column. 0 < column) }
@@ -98,11 +94,7 @@ fn source_in<'r>(
 
 /// The column of a name, or the one after the last.
 #[tactic(auto, using(crate::proofs::Names::named_counted))]
-fn target_in<'r>(
-    alloc: Global,
-    header: &ByteRecord,
-    name: &'r [u8],
-) -> Result<usize, Unplaced<'r>>
+fn target_in<'r>(alloc: Global, header: &ByteRecord, name: &'r [u8]) -> Result<usize, Unplaced<'r>>
     ensures ok { IfOk result (λ column. target_in (fields_of header.now) name.now ≡ Ok column) }
     ensures err { IfErr result (Refuses (target_in (fields_of header.now) name.now)) }
     ensures counted { IfOk result (λ column. 0 < column) }

@@ -9,8 +9,8 @@ ghost use Rattle.fill_apply.specs.Applied.{answer_field};
 ghost use Rattle.fill_columns.specs.Fields.{with_field};
 ghost use Rattle.fill_stream.specs.Filters.{Puts, Tells};
 ghost use Rattle.fill_rule.specs.Rule.{rule_data};
-ghost use Rattle.fill_filter.specs.Filled.{GivesValue, Makes};
-ghost use Rattle.fill_filter.specs.Placing.{ArePlaces, places_data};
+ghost use Rattle.fill_filter.specs.Filled.{GivesValue};
+ghost use Rattle.fill_filter.specs.Placed.{IsPlaced, Makes};
 
 use crate::fields::{bad_column, field, texts};
 use crate::places::Places;
@@ -20,7 +20,6 @@ use fill_rule::Rule;
 use fill_stream::{Cell, Filter, Unmade};
 use fill_text::{List, NoMemory, Text};
 use std::alloc::Global;
-use std::marker::Model;
 
 /// A rule at its places in a stream.
 #[derive(Drop)]
@@ -30,23 +29,11 @@ pub(crate) struct PlacedRule<'r> {
     places: Places,
 }
 
-impl<'r> Model for PlacedRule<'r> {
-    ghost use Rattle.std.specs.Prelude.{length};
-    ghost use Rattle.fill_filter.specs.Filled.{PlacedData};
-    ghost use Rattle.fill_filter.specs.Placing.{ArePlaces, places_data};
-
-    ghost Value = { PlacedData };
-
-    ghost view = { λ p. record { rule = p.rule.now; places = places_data p.places } };
-
-    ghost invariant = { λ p. ArePlaces (length p.rule.now.inputs.items) (places_data p.places) };
-}
-
 impl<'r> PlacedRule<'r> {
     /// This rule at these places.
     pub(crate) fn new(alloc: Global, rule: &'r Rule, places: Places) -> PlacedRule<'r>
-        requires { ArePlaces (length rule.now.inputs.items) (places_data places) }
-        ensures { result ≡ record { rule = rule.now; places = places_data places } }
+        ensures rule { result.rule.now ≡ rule.now }
+        ensures places { result.places ≡ places }
     {
         PlacedRule {
             alloc,
@@ -57,8 +44,9 @@ impl<'r> PlacedRule<'r> {
 
     /// The value of the rule's program on a record, in UTF-8, if it has one.
     fn value(&self, row: &ByteRecord) -> Result<Option<List<u8>>, NoMemory>
-        requires { IsText self.now.places.sources (fields_of row.now) }
-        ensures { IfOk result (λ bytes. GivesValue (rule_data self.now.rule) self.now.places.sources (fields_of row.now) (unwrap_or bytes [])) }
+        requires valid { IsPlaced self.now }
+        requires text { IsText self.now.places.sources.items (fields_of row.now) }
+        ensures { IfOk result (λ bytes. GivesValue (rule_data self.now.rule.now) self.now.places.sources.items (fields_of row.now) (unwrap_or bytes [])) }
     {
         let cells = texts(self.alloc, row, &self.places.sources)?;
         let value = switch_value(self.alloc, &self.rule.switch, &self.rule.inputs, &cells)?;
@@ -67,7 +55,8 @@ impl<'r> PlacedRule<'r> {
 
     /// Puts what is made of a record at the end, and tells what its cell shows.
     fn fill(&self, row: &ByteRecord, to: &mut Vec<u8>) -> Result<Cell, NoMemory>
-        requires { IsText self.now.places.sources (fields_of row.now) }
+        requires valid { IsPlaced self.now }
+        requires text { IsText self.now.places.sources.items (fields_of row.now) }
         ensures made { OnOk result (Puts (Makes self.now (fields_of row.now)) to.old.items to.new.items) }
         ensures kept { OnErr result (to.new.items ≡ to.old.items) }
     {
@@ -76,13 +65,14 @@ impl<'r> PlacedRule<'r> {
             self.fill_empty(row, to)
         } else {
             put_row(self.alloc, row, self.places.target, given, to)?;
-            Ok(Cell::Kept)
+            Ok(Cell::Left)
         }
     }
 
     /// The same of a record whose cell is empty.
     fn fill_empty(&self, row: &ByteRecord, to: &mut Vec<u8>) -> Result<Cell, NoMemory>
-        requires text { IsText self.now.places.sources (fields_of row.now) }
+        requires valid { IsPlaced self.now }
+        requires text { IsText self.now.places.sources.items (fields_of row.now) }
         requires empty { field_of self.now.places.target (fields_of row.now) ≡ [] }
         ensures made { OnOk result (Puts (Makes self.now (fields_of row.now)) to.old.items to.new.items) }
         ensures kept { OnErr result (to.new.items ≡ to.old.items) }
@@ -94,7 +84,7 @@ impl<'r> PlacedRule<'r> {
             }
             None => {
                 put_row(self.alloc, row, self.places.target, b"", to)?;
-                Ok(Cell::Empty)
+                Ok(Cell::Left)
             }
         }
     }
@@ -113,18 +103,20 @@ fn utf8_of(alloc: Global, text: Option<Text>) -> Result<Option<List<u8>>, NoMemo
 }
 
 impl Filter for PlacedRule<'_> {
-    ghost use Rattle.csv.specs.Records.{fields_of};
     ghost use Rattle.std.specs.Prelude.{◌≡◌, Some};
     ghost use Rattle.fill_records.specs.Texts.{bad_column};
-    ghost use Rattle.fill_filter.specs.Filled.{Makes};
+    ghost use Rattle.fill_filter.specs.Placed.{IsPlaced, Makes};
+
+    ghost valid = { λ p. IsPlaced p };
 
     ghost makes = { λ p fields text. Makes p fields text };
 
-    ghost refuses = { λ p fields column. bad_column p.places.sources fields ≡ Some column };
+    ghost refuses = { λ p fields column. bad_column p.places.sources.items fields ≡ Some column };
 
     fn put(&self, row: &ByteRecord, to: &mut Vec<u8>) -> Result<Cell, Unmade>
+        requires { IsPlaced self.now }
         ensures made { OnOk result (Puts (Makes self.now (fields_of row.now)) to.old.items to.new.items) }
-        ensures refused { IfErr result (Tells (λ column. bad_column self.now.places.sources (fields_of row.now) ≡ Some column)) }
+        ensures refused { IfErr result (Tells (λ column. bad_column self.now.places.sources.items (fields_of row.now) ≡ Some column)) }
         ensures kept { OnErr result (to.new.items ≡ to.old.items) }
     {
         if let Some(column) = bad_column(row, &self.places.sources) {

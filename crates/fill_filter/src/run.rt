@@ -10,7 +10,7 @@ use crate::pass::{How, pass};
 use crate::{Ended, Status};
 use fill_edge::Sink;
 use fill_rule::Rule;
-use fill_stream::{Counts, Fronted, RecordStream, Source, Start, Tap};
+use fill_stream::{Fronted, RecordStream, Source, Start, Tap, Watch};
 use std::alloc::Global;
 use std::marker::Brand;
 
@@ -18,12 +18,12 @@ use std::marker::Brand;
 ///
 /// A byte order mark in front is kept. Where the rule has names, the first record is the header, by which its columns are
 /// found, and nothing is written before they are. Of the records one is kept at a time, and 64 KB of what is to be written.
-pub fn filter_stream<'r, S: Source + Drop, K: Sink>(
+pub fn filter_stream<'r, S: Source + Drop, K: Sink, W: Watch>(
     alloc: Global,
     rule: &'r Rule,
     source: S,
     sink: &mut K,
-    counts: &mut Counts,
+    watch: &mut W,
 ) -> Ended<'r, S>
     requires { IsRule (rule_data rule.now) }
     ensures writes { RunWrites (rule_data rule.now) result.status (S.left source) (K.written sink.old) (K.written sink.new) }
@@ -33,7 +33,7 @@ pub fn filter_stream<'r, S: Source + Drop, K: Sink>(
 {
     let mut fronted = Fronted::new(source);
     match fronted.is_marked() {
-        Ok(marked) => filter_from::<S, K, Brand>(alloc, rule, marked, fronted, sink, counts),
+        Ok(marked) => filter_from::<S, K, W, Brand>(alloc, rule, marked, fronted, sink, watch),
         Err(_) => Ended {
             status: Status::ReadFault,
             source: fronted.into_inner(),
@@ -42,13 +42,13 @@ pub fn filter_stream<'r, S: Source + Drop, K: Sink>(
 }
 
 /// The same of a stream whose first bytes are, or are not, a byte order mark.
-fn filter_from<'r, S: Source + Drop, K: Sink, B: Start>(
+fn filter_from<'r, S: Source + Drop, K: Sink, W: Watch, B: Start>(
     alloc: Global,
     rule: &'r Rule,
     marked: bool,
     source: Fronted<S>,
     sink: &mut K,
-    counts: &mut Counts,
+    watch: &mut W,
 ) -> Ended<'r, S>
     requires rule { IsRule (rule_data rule.now) }
     requires marked { IsMarked (prepend_known source.front (S.left source.source)) marked }
@@ -60,7 +60,7 @@ fn filter_from<'r, S: Source + Drop, K: Sink, B: Start>(
     ensures sink { EndsSink result.status (K.faults sink.old) (K.faults sink.new) }
 {
     let mut records = RecordStream::new(alloc, Tap::<Fronted<S>, B>::new(source));
-    let how = pass(alloc, rule, marked, &mut records, sink, counts);
+    let how = pass(alloc, rule, marked, &mut records, sink, watch);
     let tap = records.into_inner();
     let status = status_of(how, tap.failed(), tap.ended());
     Ended {

@@ -16,7 +16,7 @@ pub enum Status<'r> {
     ReadFault,
     /// A write failed, and the sink counted it. What was written ends before the text of all records that were read.
     WriteFault,
-    /// Want of memory. What is made of some first records was written.
+    /// Out of memory. What is made of some first records was written.
     NoMemory,
 }
 

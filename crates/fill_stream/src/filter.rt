@@ -5,7 +5,7 @@ ghost use Rattle.csv.specs.Records.{fields_of};
 ghost use Rattle.fill_edge.specs.Outside.{AppendsPart, Rose};
 ghost use Rattle.fill_stream.specs.Filters.{Filtered, Held, IsCounted, Puts, Tells};
 
-use crate::RecordStream;
+use crate::{Cell, RecordStream, Watch};
 use csv::ByteRecord;
 use fill_edge::{Sink, WriteFault, write_all};
 use std::io::Read;
@@ -18,47 +18,8 @@ const FULL: usize = 65_536;
 pub enum Unmade {
     /// The field in this column, from 1, is refused.
     Refused { column: usize },
-    /// Want of memory.
+    /// Out of memory.
     NoMemory,
-}
-
-/// What a text shows in the place that a filter fills.
-#[derive(Clone, Copy, Debug, PartialEq, Eq)]
-pub enum Cell {
-    /// What the record has there.
-    Kept,
-    /// A value of the filter's.
-    Filled,
-    /// Nothing.
-    Empty,
-}
-
-/// How many records were filtered, and how many of them were filled or left empty. A count stands still at `u64::MAX`.
-#[derive(Clone, Copy, Debug, PartialEq, Eq)]
-pub struct Counts {
-    pub rows: u64,
-    pub filled: u64,
-    pub empty: u64,
-}
-
-impl Counts {
-    /// Nothing is counted yet.
-    pub fn new() -> Counts {
-        Counts {
-            rows: 0,
-            filled: 0,
-            empty: 0,
-        }
-    }
-
-    fn count(&mut self, cell: Cell) {
-        self.rows = self.rows.saturating_add(1);
-        match cell {
-            Cell::Kept => {}
-            Cell::Filled => self.filled = self.filled.saturating_add(1),
-            Cell::Empty => self.empty = self.empty.saturating_add(1),
-        }
-    }
 }
 
 /// How the filtering of a stream's records ended.
@@ -70,12 +31,15 @@ pub enum Ending {
     Refused { record: u64, column: usize },
     /// A write failed.
     WriteFault,
-    /// A read failed, or memory was wanting.
+    /// A read failed, or memory ran out.
     Broken,
 }
 
 /// What becomes of the records of a stream: a text of each, which depends on that record alone.
 pub trait Filter {
+    /// What `put` asks of the filter.
+    ghost valid: { Self → Type 0 };
+
     /// The text is one of a record with these fields.
     ghost makes: { Self → List (List ℕ) → List ℕ → Type 0 };
 
@@ -84,6 +48,7 @@ pub trait Filter {
 
     /// Puts the text of a record at the end, and tells what it shows.
     fn put(&self, row: &ByteRecord, to: &mut Vec<u8>) -> Result<Cell, Unmade>
+        requires { valid self.now }
         ensures made { OnOk result (Puts (makes self.now (fields_of row.now)) to.old.items to.new.items) }
         ensures refused { IfErr result (Tells (refuses self.now (fields_of row.now))) }
         ensures kept { OnErr result (to.new.items ≡ to.old.items) };
@@ -122,13 +87,14 @@ fn spill<K: Sink>(buffer: &mut Vec<u8>, sink: &mut K) -> Result<(), WriteFault>
 /// Reads record after record, and puts the text of each into the buffer, which is written when it is full.
 ///
 /// What is left in the buffer at the end is the caller's to write.
-pub fn filter_records<R: Read + Drop, F: Filter, K: Sink>(
+pub fn filter_records<R: Read + Drop, F: Filter, K: Sink, W: Watch>(
     records: &mut RecordStream<R>,
     filter: &F,
     buffer: &mut Vec<u8>,
     sink: &mut K,
-    counts: &mut Counts,
+    watch: &mut W,
 ) -> Ending
+    requires { F.valid filter.now }
     ensures filtered { Filtered (F.makes filter.now) (F.refuses filter.now) result records.old.rest (K.written sink.old) (K.written sink.new) buffer.old.items buffer.new.items }
     ensures later { K.faults sink.old ≤ K.faults sink.new }
     ensures counted { IsCounted result }
@@ -141,7 +107,7 @@ pub fn filter_records<R: Read + Drop, F: Filter, K: Sink>(
             Err(_) => return Ending::Broken,
         }
         match filter.put(records.row(), buffer) {
-            Ok(cell) => counts.count(cell),
+            Ok(cell) => watch.see(cell),
             Err(Unmade::Refused { column }) => return Ending::Refused { record, column },
             Err(Unmade::NoMemory) => return Ending::Broken,
         }

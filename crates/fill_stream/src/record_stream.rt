@@ -10,7 +10,7 @@ use std::io::Read;
 use std::marker::Model;
 use thiserror::Error;
 
-/// A read failed, or memory was wanting. No record follows.
+/// A read failed, or memory ran out. No record follows.
 #[derive(Clone, Copy, Debug, PartialEq, Eq, Error)]
 #[error("the records could not be read on")]
 pub struct Broken;
