@@ -7,10 +7,12 @@ use std::alloc::Global;
 use std::test::Fail;
 
 /// `Name (City)`, by names.
-const NAMED: &[u8] = b"rule,1\nheader\ninputs,1,2\noutput,3\nnames,Name,City,Label\nswitch,\"Switch(else=>Concat(Whole(Col(1)),Const(' ('),Whole(Col(2)),Const(')')))\"\n";
+const NAMED: &[u8] =
+    b"rule,1\nheader\ninputs,1,2\noutput,3\nnames,Name,City,Label\nswitch,\"Switch(else=>Concat(Whole(Col(1)),Const(' ('),Whole(Col(2)),Const(')')))\"\n";
 
 /// The same by numbers.
-const PLAIN: &[u8] = b"rule,1\ninputs,1,2\noutput,3\nswitch,\"Switch(else=>Concat(Whole(Col(1)),Const(' ('),Whole(Col(2)),Const(')')))\"\n";
+const PLAIN: &[u8] =
+    b"rule,1\ninputs,1,2\noutput,3\nswitch,\"Switch(else=>Concat(Whole(Col(1)),Const(' ('),Whole(Col(2)),Const(')')))\"\n";
 
 /// A run of a rule, and what it comes to.
 #[derive(Clone, Copy)]
