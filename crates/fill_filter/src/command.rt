@@ -3,7 +3,7 @@ ghost use Rattle.std.specs.Prelude.{◌≡◌, true};
 ghost use Rattle.fill_rule.specs.Rule.{IsRule, rule_data};
 ghost use Rattle.fill_filter.specs.Run.{RanAs, code_of};
 
-use crate::lines::{say_counts, say_why};
+use crate::lines::say_why;
 use crate::progress::Progress;
 use crate::run::filter_stream;
 use crate::{Ended, Status};
@@ -39,21 +39,14 @@ pub fn run_rule<S: Source + Drop, O: Sink, E: Sink>(
     ensures silent { quiet ≡ true → result.status ≡ 0 → err.new ≡ err.old }
 {
     if quiet {
-        let ended = filter_stream(alloc, rule, source, out, &mut Counts::new());
+        let mut counts = Counts::new();
+        let ended = filter_stream(alloc, rule, source, out, &mut counts);
         let _ = say_why(err, ended.status);
         left_by(ended)
     } else {
         let mut progress = Progress::new(err);
         let ended = filter_stream(alloc, rule, source, out, &mut progress);
-        let Progress { counts, err } = progress;
-        match ended.status {
-            Status::Done => {
-                let _ = say_counts(err, counts);
-            }
-            why => {
-                let _ = say_why(err, why);
-            }
-        }
+        let _ = progress.end(ended.status);
         left_by(ended)
     }
 }

@@ -58,7 +58,11 @@ pub(crate) fn pass<'r, R: Read + Drop, K: Sink, W: Watch>(
         Ok(begun) => begun,
         Err(how) => return how,
     };
-    let placed = PlacedRule::new(alloc, rule, places);
+    let placed = PlacedRule {
+        alloc,
+        rule,
+        places,
+    };
     match filter_records(records, &placed, &mut buffer, sink, watch) {
         Ending::WriteFault => How::WriteFault,
         ending => finish(ending, rule.names.is_some(), &mut buffer, sink),
@@ -77,10 +81,10 @@ fn begin<'r, R: Read + Drop>(
     ensures places { IfOk result (λ begun. ArePlaces (length rule.now.inputs.items) (places_data begun.0)) }
     ensures err { IfErr result (λ how. FailsFirst (rule_data rule.now) records.old.rest how) }
 {
-    let mut buffer = Vec::new(alloc);
-    if marked && buffer.extend_from_slice(MARK).is_err() {
-        return Err(How::Broken);
-    }
+    let mut buffer = match mark_of(alloc, marked) {
+        Ok(buffer) => buffer,
+        Err(NoMemory) => return Err(How::Broken),
+    };
     match &rule.names {
         Some(names) => match begin_named(alloc, names, records, &mut buffer) {
             Ok(places) => Ok((places, buffer)),
@@ -91,6 +95,17 @@ fn begin<'r, R: Read + Drop>(
             Err(NoMemory) => Err(How::Broken),
         },
     }
+}
+
+/// A byte order mark, or nothing.
+fn mark_of(alloc: Global, marked: bool) -> Result<Vec<u8>, NoMemory>
+    ensures { IfOk result (λ buffer. buffer.items ≡ mark_text marked) }
+{
+    let mut buffer = Vec::new(alloc);
+    if marked {
+        buffer.extend_from_slice(MARK)?;
+    }
+    Ok(buffer)
 }
 
 /// Finds the places by the names in the first record, and puts that record into the buffer.

@@ -24,24 +24,12 @@ use std::alloc::Global;
 /// A rule at its places in a stream.
 #[derive(Drop)]
 pub(crate) struct PlacedRule<'r> {
-    alloc: Global,
-    rule: &'r Rule,
-    places: Places,
+    pub(crate) alloc: Global,
+    pub(crate) rule: &'r Rule,
+    pub(crate) places: Places,
 }
 
-impl<'r> PlacedRule<'r> {
-    /// This rule at these places.
-    pub(crate) fn new(alloc: Global, rule: &'r Rule, places: Places) -> PlacedRule<'r>
-        ensures rule { result.rule.now ≡ rule.now }
-        ensures places { result.places ≡ places }
-    {
-        PlacedRule {
-            alloc,
-            rule,
-            places,
-        }
-    }
-
+impl PlacedRule<'_> {
     /// The value of the rule's program on a record, in UTF-8, if it has one.
     fn value(&self, row: &ByteRecord) -> Result<Option<List<u8>>, NoMemory>
         requires valid { IsPlaced self.now }
