@@ -3,7 +3,7 @@ use Rattle.std.proofs.Common.{◌≡◌, ℕ, zero, suc, ◌+◌, ◌<◌, ◌�
 use Rattle.std.specs.Prelude.{slice_get, if◌then◌else◌, option_map}
 use Rattle.std.specs.List.{AllZip, flat_map}
 use Rattle.std.proofs.Math.Seq.{take-length}
-use Rattle.std.specs.Io.KnownBytes.{Appends, IsAtEnd, Keeps}
+use Rattle.std.specs.Io.KnownBytes.{Appends, IsAtEnd, Keeps, prepend_known}
 use Rattle.std.proofs.KnownBytes.{Appends-trans, Appends-nil}
 use Rattle.fill_edge.specs.Outside.{AppendsPart, Rose}
 use Rattle.fill_records.specs.Records.{records_of}
@@ -22,7 +22,7 @@ use Rattle.fill_rule.specs.declared.rule.Names.{Names}
 use Rattle.fill_filter.specs.Filled.{AreMade, IsFilled, MakesText, named_head}
 use Rattle.fill_filter.specs.Passing.{Begins, BeginsBy, EndsPass, FailsFirst, Finishes, PassWrites, after, mark_text, status_after}
 use Rattle.fill_filter.specs.Places.{PlacesData, places_in, placed}
-use Rattle.fill_filter.specs.Run.{EndWrites, IsBad, IsTextOf, RunWrites, Writes, WritesPart, WritesSome, mark_of}
+use Rattle.fill_filter.specs.Run.{EndWrites, EndsSink, EndsSource, IsBad, IsTextOf, RunWrites, Writes, WritesPart, WritesSome, code_of, mark_of}
 use Rattle.fill_filter.specs.declared.pass.How.{How}
 use Rattle.fill_filter.specs.declared.pass.How.TheVariants as how
 use Rattle.fill_filter.specs.declared.status.Status.{Status}
@@ -210,3 +210,44 @@ pub run_kept : (r : RuleData) (how : Status) (left fronted old new : Option (Lis
 run_kept r how None fronted old new kept w = tt
 run_kept r how (Some bytes) None old new kept w = absurd kept
 run_kept r how (Some bytes) (Some same) old new kept w = subst (λ (b : List ℕ). EndWrites r how (mark_of b) (records_of b) old new) kept w
+
+-- a stream that is at its end with its first bytes is so without them
+pub end_behind : (front : List ℕ) (left : Option (List ℕ)) → IsAtEnd (prepend_known front left) → IsAtEnd left
+end_behind front None here = tt
+end_behind [] (Some xs) here = here
+end_behind (x ∷ front) (Some xs) here = cc
+
+-- what a run leaves of its source, by what was noted of it
+pub ends_source : (h : How) (failed ended : Bool) (left : Option (List ℕ)) (before now : ℕ) → before ≤ now → (failed ≡ true → Rose before now) → (failed ≡ false → now ≡ before)
+    → (ended ≡ true → IsAtEnd left) → EndsSource (status_after h failed ended) left before now
+ends_source (how.Missing name) failed ended left before now later rose same at_end = later
+ends_source (how.Ambiguous name) failed ended left before now later rose same at_end = later
+ends_source (how.NotText n column) failed ended left before now later rose same at_end = later
+ends_source how.WriteFault failed ended left before now later rose same at_end = later
+ends_source how.All true ended left before now later rose same at_end = rose refl
+ends_source how.All false true left before now later rose same at_end = (at_end refl, same refl)
+ends_source how.All false false left before now later rose same at_end = same refl
+ends_source how.Broken true ended left before now later rose same at_end = rose refl
+ends_source how.Broken false ended left before now later rose same at_end = same refl
+
+-- and of its sink
+pub ends_sink : (h : How) (failed ended : Bool) (before now : ℕ) → before ≤ now → (h ≡ how.WriteFault → Rose before now) → EndsSink (status_after h failed ended) before now
+ends_sink (how.Missing name) failed ended before now later rose = later
+ends_sink (how.Ambiguous name) failed ended before now later rose = later
+ends_sink (how.NotText n column) failed ended before now later rose = later
+ends_sink how.WriteFault failed ended before now later rose = rose refl
+ends_sink how.All true ended before now later rose = later
+ends_sink how.All false true before now later rose = later
+ends_sink how.All false false before now later rose = later
+ends_sink how.Broken true ended before now later rose = later
+ends_sink how.Broken false ended before now later rose = later
+
+-- only a run that did all has the status 0
+pub code_done : (s : Status) → code_of s ≡ 0 → s ≡ status.Done
+code_done status.Done is = refl
+code_done status.ReadFault is = cc
+code_done status.WriteFault is = cc
+code_done (status.Missing name) is = cc
+code_done (status.Ambiguous name) is = cc
+code_done (status.NotText n column) is = cc
+code_done status.NoMemory is = cc
