@@ -1,13 +1,21 @@
 -- What a record is made of.
-use Rattle.std.proofs.Common.{◌≡◌, ◌==◌, ℕ, List, [], ◌∷◌, ◌++◌, length, true, false, refl, sym, subst}
+use Rattle.std.proofs.Common.{◌≡◌, ◌==◌, ℕ, ◌<◌, List, [], ◌∷◌, ◌++◌, length, true, false, None, Result, Ok, Err, IfOk, refl, sym, ap, subst, arith}
+use Rattle.std.proofs.lemmas.Bool.Decides.{nat_tests}
+use Rattle.std.proofs.lemmas.List.Elements.{All-head}
 use Rattle.std.specs.Prelude.{Option, unwrap_or}
 use Rattle.fill_records.specs.Records.{field_of}
-use Rattle.fill_records.specs.Texts.{IsText}
+use Rattle.fill_records.specs.Texts.{IsText, bad_column, or_later}
+use Rattle.fill_records.proofs.Texts.{texts_from_no_bad}
+use Rattle.fill_tree.specs.Guard.{SwitchIs}
+use Rattle.fill_tree.specs.Switch.{SwitchTree}
+use Rattle.fill_tree.specs.Value.{IsValue}
+use Rattle.fill_apply.specs.Applied.{answer_field}
+use Rattle.fill_cells.specs.Row.{row_sheet}
 use Rattle.fill_sheet.specs.Report.{record_text}
 use Rattle.fill_columns.specs.Fields.{with_field}
 use Rattle.fill_stream.specs.Filters.{Puts}
 use Rattle.fill_rule.specs.Rule.{RuleData, rule_data}
-use Rattle.fill_filter.specs.Filled.{CellIs, GivesValue}
+use Rattle.fill_filter.specs.Filled.{CellIs, GivesValue, ValueIs}
 use Rattle.fill_filter.specs.Placed.{Makes}
 use Rattle.fill_filter.specs.declared.rows.PlacedRule.{PlacedRule}
 
@@ -31,4 +39,21 @@ made_value p fields value old new text empty gives put =
 
 pub no_field : (field : List ℕ) → (length field == 0) ≡ true → field ≡ []
 no_field [] is = refl
-no_field (c ∷ more) is = cc
+no_field (c ∷ more) is = let some : 0 < length (c ∷ more) = omega arith in absurd (grind (arith, nat_tests))
+
+-- where no column is bad, each field is text
+pub no_bad : (columns : List ℕ) (fields : List (List ℕ)) → bad_column columns fields ≡ None → IsText columns fields
+no_bad columns fields none =
+    All-head (IsText columns) fields [] (texts_from_no_bad columns 1 (fields ∷ []) (ap (λ (b : Option ℕ). or_later 1 b None) none))
+
+-- a value by equal inputs and cells
+pub value_by : (s : SwitchTree) (inputs inputs2 : List ℕ) (cells cells2 : List (List ℕ)) (value : Option (List ℕ)) → inputs2 ≡ inputs → cells2 ≡ cells
+    → IsValue (SwitchIs (row_sheet inputs2 cells2) [] 1 s) value → IsValue (SwitchIs (row_sheet inputs cells) [] 1 s) value
+value_by s inputs inputs2 cells cells2 value same alike is =
+    subst (λ (l : List ℕ). IsValue (SwitchIs (row_sheet l cells) [] 1 s) value) same (subst (λ (l : List (List ℕ)). IsValue (SwitchIs (row_sheet inputs2 l) [] 1 s) value) alike is)
+
+-- the bytes of a value are given
+pub gives : {E : Type 0} (r : RuleData) (sources : List ℕ) (fields : List (List ℕ)) (value : Option (List ℕ)) (result : Result (Option (List ℕ)) E) → ValueIs r sources fields value
+    → IfOk result (λ bytes. unwrap_or bytes [] ≡ answer_field value) → IfOk result (λ bytes. GivesValue r sources fields (unwrap_or bytes []))
+gives r sources fields value (Ok bytes) is made = (value, is, made)
+gives r sources fields value (Err e) is made = tt

@@ -8,13 +8,13 @@ use Rattle.fill_columns.specs.Columns.{named}
 use Rattle.fill_filter.specs.Places.{Misplaced, onward, source_in, sources_in}
 
 -- the columns of a name count from 1
+counted_one : (found : Bool) (n : ℕ) (more : List ℕ) → 0 < n → All (λ column. 0 < column) more → All (λ column. 0 < column) (if found then n ∷ more else more)
+counted_one true n more lt all = All-cons (λ column. 0 < column) n more lt all
+counted_one false n more lt all = all
+
 counted_from : (word : List ℕ) (n : ℕ) (names : List (List ℕ)) → 0 < n → All (λ column. 0 < column) (named word n names)
 counted_from word n [] lt = All-nil (λ column. 0 < column)
-counted_from word n (name ∷ more) lt = pick (bytes_eq name word)
-  where
-    pick : (b : Bool) → All (λ column. 0 < column) (if b then n ∷ named word (n + 1) more else named word (n + 1) more)
-    pick true = All-cons (λ column. 0 < column) n (named word (n + 1) more) lt (counted_from word (n + 1) more (omega arith))
-    pick false = counted_from word (n + 1) more (omega arith)
+counted_from word n (name ∷ more) lt = counted_one (bytes_eq name word) n (named word (n + 1) more) lt (counted_from word (n + 1) more (omega arith))
 
 pub named_counted : (word : List ℕ) (names : List (List ℕ)) → All (λ column. 0 < column) (named word 1 names)
 named_counted word names = counted_from word 1 names (omega arith)

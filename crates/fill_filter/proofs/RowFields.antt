@@ -1,7 +1,8 @@
 -- The fields of a record with another field in one column.
-use Rattle.std.proofs.Common.{◌≡◌, ◌≢◌, ℕ, zero, suc, ◌+◌, ◌-◌, ◌<◌, ◌≤◌, max, List, [], ◌∷◌, ◌++◌, length, length-append, length-replicate, take, map, get_or, set, replicate, Bor, Option, None, Some, refl, sym, ap, subst, ◌∙◌, arith}
+use Rattle.std.proofs.Common.{◌≡◌, ◌≢◌, ℕ, zero, suc, ◌+◌, ◌-◌, ◌<◌, ◌≤◌, max, List, [], ◌∷◌, ◌++◌, length, length-append, take, map, get_or, set, replicate, Bor, Option, None, Some, refl, sym, ap, subst, ◌∙◌, arith}
 use Rattle.std.specs.Prelude.{slice_get, unwrap_or}
-use Rattle.std.proofs.lemmas.List.{get_or-set_same, get_or-set_other, map_push, take_more}
+use Rattle.std.proofs.lemmas.List.{get_or-set_same, get_or-set_other, length-replicate, map_push, take_more}
+use Rattle.std.proofs.lemmas.Option.{slice_get-get_or}
 use Rattle.std.proofs.Math.ListN.{length-set}
 use Rattle.fill_columns.specs.Fields.{padded, with_field}
 
@@ -23,17 +24,18 @@ length-padded column fields =
 pub length-with_field : (column : ℕ) (field : List ℕ) (fields : List (List ℕ)) → length (with_field column field fields) ≡ max (length fields) column
 length-with_field column field fields = length-set (padded column fields) (column - 1) field ∙ length-padded column fields
 
-pub field_here : (column : ℕ) (field : List ℕ) (fields : List (List ℕ)) (i : ℕ) → i + 1 ≡ column → field ≡ get_or (with_field column field fields) i []
-field_here column field fields i is =
-    let at : column - 1 ≡ i = omega arith in
+pub field_here : (column : ℕ) (field : List ℕ) (fields : List (List ℕ)) (i : ℕ) → 0 < column → i ≡ column - 1 → field ≡ get_or (with_field column field fields) i []
+field_here column field fields i first is =
     let size = length-padded column fields in
     let lt : i < length (padded column fields) = omega (arith, size) in
-    rw at (sym (get_or-set_same (padded column fields) i field [] lt))
+    rw (← is) (sym (get_or-set_same (padded column fields) i field [] lt))
 
-pub field_there : (column : ℕ) (field : List ℕ) (fields : List (List ℕ)) (i : ℕ) → 0 < column → i + 1 ≢ column → unwrap_or (slice_get fields i) [] ≡ get_or (with_field column field fields) i []
-field_there column field fields i first other =
-    let differs : i ≢ column - 1 = λ same. other (omega arith) in
-    sym (get_or-set_other (padded column fields) (column - 1) i field [] differs ∙ padded-same fields (column - length fields) i)
+pub field_there : (column : ℕ) (field : List ℕ) (fields : List (List ℕ)) (i : ℕ) → i ≢ column - 1 → unwrap_or (slice_get fields i) [] ≡ get_or (with_field column field fields) i []
+field_there column field fields i other = sym (get_or-set_other (padded column fields) (column - 1) i field [] other ∙ padded-same fields (column - length fields) i)
+
+-- the field at a place of a record
+pub field_in : (fields : List (List ℕ)) (i : ℕ) → i < length fields → unwrap_or (slice_get fields i) [] ≡ get_or fields i []
+field_in fields i lt = ap (λ o. unwrap_or o []) (slice_get-get_or fields i [] lt)
 
 -- one field more is taken
 pub fields_more : (xs : List (List ℕ)) (done : List (Bor (List ℕ))) (i : ℕ) (r : Bor (List ℕ)) → i < length xs → map (λ (f : Bor (List ℕ)). f.now) done ≡ take i xs

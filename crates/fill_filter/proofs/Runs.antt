@@ -16,7 +16,7 @@ use Rattle.fill_stream.specs.Filters.{Filtered, Held, joined}
 use Rattle.fill_stream.specs.Fronts.{IsMarked, is_marked}
 use Rattle.fill_stream.specs.declared.filter.Ending.{Ending}
 use Rattle.fill_stream.specs.declared.filter.Ending.TheVariants as ending
-use Rattle.fill_stream.proofs.Filterings.{held_part}
+use Rattle.fill_stream.proofs.Filterings.{held_part, rose_later}
 use Rattle.fill_rule.specs.Rule.{RuleData}
 use Rattle.fill_rule.specs.declared.rule.Names.{Names}
 use Rattle.fill_filter.specs.Filled.{AreMade, IsFilled, MakesText, named_head}
@@ -47,6 +47,13 @@ made_of r places (fields ∷ rows) (t ∷ texts) all =
       text = ap (λ (x : List ℕ). x ++ joined texts) one.2 ∙ ap (λ (x : List ℕ). record_text one.0 ++ x) more.text;
     }
 
+-- the columns have their places, where the pass begins
+placed_by : (r : RuleData) (names : Option Names) → r.names ≡ names → (mark : List ℕ) (rows : Rows) (rest : Option Rows) (places : PlacesData) (buffer : List ℕ)
+    → BeginsBy names r.inputs r.output mark (Some rows) rest places buffer → places_in r rows ≡ Ok places
+placed_by r None named mark rows rest places buffer begun = ap (λ (o : Option Names). placed o r.inputs r.output rows) named ∙ ap Ok (sym begun.1)
+placed_by r (Some names) named mark rows rest places buffer begun =
+    ap (λ (o : Option Names). placed o r.inputs r.output rows) named ∙ ap (λ (l : Rows). placed (Some names) r.inputs r.output l) begun.2 ∙ begun.4
+
 -- the text of the first records, after a beginning
 text_by : (r : RuleData) (names : Option Names) → r.names ≡ names → (mark : List ℕ) (rows rest : Rows) (places : PlacesData) (buffer : List ℕ) (n : ℕ) (texts : List (List ℕ))
     → BeginsBy names r.inputs r.output mark (Some rows) (Some rest) places buffer → AllZip (MakesText r places) (take n rest) texts
@@ -57,7 +64,7 @@ text_by r None named mark rows rest places buffer n texts begun all =
     let count : n + 0 ≡ n = omega arith in
     record {
       places = places;
-      placed = ap (λ (o : Option Names). placed o r.inputs r.output rows) named ∙ ap Ok (sym begun.1);
+      placed = placed_by r None named mark rows (Some rest) places buffer begun;
       made = m.made;
       makes = subst (λ (o : Option Names). AreMade r places o (take (n + 0) rows) m.made) (sym named)
           (subst (λ (l : Rows). AllZip (IsFilled r places) l m.made) (ap (take n) same ∙ ap (λ k. take k rows) (sym count)) m.filled);
@@ -68,10 +75,10 @@ text_by r (Some names) named mark rows rest places buffer n texts begun all =
     let m = made_of r places (take n rest) texts all in
     let same : rest ≡ begun.1 = (let is : Some rest ≡ Some begun.1 = begun.3 in cc) in
     let split : rows ≡ header ∷ rest = begun.2 ∙ ap (λ (l : Rows). header ∷ l) (sym same) in
-    let front : take (n + 1) rows ≡ header ∷ take n rest = ap (take (n + 1)) split ∙ ap (λ k. take k (header ∷ rest)) add-one in
+    let front : take (n + 1) rows ≡ header ∷ take n rest = ap (take (n + 1)) split ∙ ap (λ k. take k (header ∷ rest)) (add-one n) in
     record {
       places = places;
-      placed = ap (λ (o : Option Names). placed o r.inputs r.output rows) named ∙ ap (λ (l : Rows). placed (Some names) r.inputs r.output l) split ∙ begun.4;
+      placed = placed_by r (Some names) named mark rows (Some rest) places buffer begun;
       made = named_head names places header ∷ m.made;
       makes = subst (λ (o : Option Names). AreMade r places o (take (n + 1) rows) (named_head names places header ∷ m.made)) (sym named)
           (subst (λ (l : Rows). AreMade r places (Some names) l (named_head names places header ∷ m.made)) (sym front) (refl, m.filled));
@@ -90,7 +97,7 @@ rows_by r (Some names) mark rows rest places buffer begun =
       begun.1,
       begun.3,
       omega (arith, size),
-      λ n. ap (λ (l : Rows). slice_get l (n + 1)) begun.2 ∙ ap (slice_get (begun.0 ∷ begun.1)) add-one,
+      λ n. ap (λ (l : Rows). slice_get l (n + 1)) begun.2 ∙ ap (slice_get (begun.0 ∷ begun.1)) (add-one n),
     )
 
 held_done : (old mid new : Option (List ℕ)) (buffer whole : List ℕ) → Held old mid buffer whole → Appends mid new buffer → Appends old new whole
@@ -147,20 +154,34 @@ module _ (r : RuleData) (mark : List ℕ) (places : PlacesData) (buffer now : Li
       elim fin [
         | inl part ↦ subst (λ (k : How). PassWrites r k mark (Some rows) old new) (sym part.0) (n + headers (is_some names), buffer ++ joined all.1, text, held_part old mid new now _ all.5 part.1)
         | inr done ↦ subst (λ (k : How). PassWrites r k mark (Some rows) old new) (sym done.0)
-            ((text.places, all.0, text.placed, place, all.3), (buffer ++ joined all.1, text, held_done old mid new now _ all.5 done.1))
+            ((places, all.0, placed_by r names named mark rows (Some rest) places buffer begun, place, all.3), (buffer ++ joined all.1, text, held_done old mid new now _ all.5 done.1))
       ]
 
-module _ (r : RuleData) (mark : List ℕ) (places : PlacesData) (buffer now : List ℕ) (old mid new : Option (List ℕ)) where
   pub finish_written : (e : Ending) (headed : Bool) (h : How) (rows rest : Option Rows) (before later : ℕ) → (e ≡ ending.WriteFault → ⊥) → headed ≡ is_some r.names
-      → Begins r mark rows rest places buffer → Filtered (makes r places) (refuses r places) e rest old mid buffer now → Finishes e headed h mid new now before later
+      → Begins r mark rows rest places buffer → Filtered makes refuses e rest old mid buffer now → Finishes e headed h mid new now before later
       → PassWrites r h mark rows old new
   finish_written e headed h None rest before later none is begun all fin = tt
   finish_written e headed h (Some rows) rest before later none is begun all fin =
       let own = rows_by r r.names mark rows rest places buffer begun in
-      finish_known r mark places buffer now old mid new r.names refl e h rows own.0 before later none
+      finish_known r.names refl e h rows own.0 before later none
       (subst (λ (o : Option Rows). BeginsBy r.names r.inputs r.output mark (Some rows) o places buffer) own.1 begun)
-      (subst (λ (o : Option Rows). Filtered (makes r places) (refuses r places) e o old mid buffer now) own.1 all)
+      (subst (λ (o : Option Rows). Filtered makes refuses e o old mid buffer now) own.1 all)
       (subst (λ (b : Bool). Finishes e b h mid new now before later) is fin)
+
+-- a pass that ends with a fault has one of its own, where the records were filtered without one
+pub finish_fault : (e : Ending) (headed : Bool) (h : How) (old new : Option (List ℕ)) (buffer : List ℕ) (first before now : ℕ) → (e ≡ ending.WriteFault → ⊥) → first ≤ before
+    → Finishes e headed h old new buffer before now → h ≡ how.WriteFault → Rose first now
+finish_fault e headed h old new buffer first before now none later fin is =
+    elim fin [
+      | inl part ↦ rose_later first before now later part.2
+      | inr done ↦ absurd (no_fault e headed none (sym done.0 ∙ is))
+    ]
+  where
+    no_fault : (e : Ending) (headed : Bool) → (e ≡ ending.WriteFault → ⊥) → after e headed ≡ how.WriteFault → ⊥
+    no_fault ending.All headed none is = cc
+    no_fault (ending.Refused n column) headed none is = cc
+    no_fault ending.WriteFault headed none is = none refl
+    no_fault ending.Broken headed none is = cc
 
 -- nothing was written where there are no places
 pub fails_written : (r : RuleData) (h : How) (mark : List ℕ) (rows : Option Rows) (old : Option (List ℕ)) → FailsFirst r rows h → PassWrites r h mark rows old old

@@ -40,7 +40,7 @@ TellsNoRule name why status Said = (told : NoRule) × ((told ≡ why) ⊎ (told 
 
 -- nothing of the stream was read and nothing was written
 pub record Untouched (first left : Option (List ℕ)) (before now : ℕ) (old new : Option (List ℕ)) (out_before out_now : ℕ) : Type 0 where
-  pub left : left ≡ first
+  pub stream : left ≡ first
   pub reads : now ≡ before
   pub written : new ≡ old
   pub writes : out_now ≡ out_before

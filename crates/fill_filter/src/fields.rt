@@ -1,5 +1,5 @@
 //! Fields of a record that was read.
-ghost use Rattle.std.specs.Prelude.{◌≡◌, ◌<◌, All, IfOk, IsTrue, map};
+ghost use Rattle.std.specs.Prelude.{◌≡◌, ◌<◌, [], All, IfOk, IsTrue, map, slice_get, unwrap_or};
 ghost use Rattle.std.specs.Str.{is_utf8};
 ghost use Rattle.csv.specs.Records.{fields_of};
 ghost use Rattle.fill_records.specs.Records.{field_of};
@@ -10,12 +10,19 @@ use fill_records::is_text;
 use fill_text::{NoMemory, Text, TextError};
 use std::alloc::Global;
 
-/// The bytes of the field in a column, none where the record ends before it.
+/// The bytes of the field at a place, none where the record ends before it.
+pub(crate) fn field_at(row: &ByteRecord, i: usize) -> &[u8]
+    ensures { result.now ≡ unwrap_or (slice_get (fields_of row.now) i) [] }
+{
+    row.get(i).unwrap_or(b"")
+}
+
+/// The same of the field in a column.
 pub(crate) fn field(row: &ByteRecord, column: usize) -> &[u8]
     requires { 0 < column }
     ensures { result.now ≡ field_of column (fields_of row.now) }
 {
-    row.get(column - 1).unwrap_or(b"")
+    field_at(row, column - 1)
 }
 
 /// The first of these columns whose field is not UTF-8.

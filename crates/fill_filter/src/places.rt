@@ -7,6 +7,7 @@ ghost use Rattle.fill_columns.specs.Columns.{named};
 ghost use Rattle.fill_filter.specs.Places.{one_or_new, only_one, places_by, source_in, sources_in, target_in};
 ghost use Rattle.fill_filter.specs.Placing.{ArePlaces, Refuses, places_data};
 
+use crate::fields::field_at;
 use csv::ByteRecord;
 use fill_rule::Names;
 use fill_text::{List, NoMemory};
@@ -31,11 +32,12 @@ pub(crate) enum Unplaced<'r> {
 }
 
 /// Whether the field at a place is this name.
+#[tactic(auto, using(crate::proofs::RowFields::field_in))]
 fn is_name(header: &ByteRecord, i: usize, name: &[u8]) -> bool
     requires { i < length (fields_of header.now) }
     ensures { result ≡ bytes_eq (get_or (fields_of header.now) i []) name.now }
 {
-    header.get(i).unwrap_or(b"") == name
+    field_at(header, i) == name
 }
 
 /// The columns of a name in a header.
@@ -99,8 +101,12 @@ fn target_in<'r>(alloc: Global, header: &ByteRecord, name: &'r [u8]) -> Result<u
     ensures err { IfErr result (Refuses (target_in (fields_of header.now) name.now)) }
     ensures counted { IfOk result (λ column. 0 < column) }
 {
+    // More fields than can be counted fit in no memory.
+    let Some(new) = header.len().checked_add(1) else {
+        return Err(Unplaced::NoMemory);
+    };
     match named(alloc, header, name) {
-        Ok(columns) => one_or_new(name, header.len() + 1, columns.as_slice()),
+        Ok(columns) => one_or_new(name, new, columns.as_slice()),
         Err(NoMemory) => Err(Unplaced::NoMemory),
     }
 }

@@ -12,7 +12,7 @@ ghost use Rattle.fill_rule.specs.Rule.{rule_data};
 ghost use Rattle.fill_filter.specs.Filled.{GivesValue};
 ghost use Rattle.fill_filter.specs.Placed.{IsPlaced, Makes};
 
-use crate::fields::{bad_column, field, texts};
+use crate::fields::{bad_column, field, field_at, texts};
 use crate::places::Places;
 use csv::{ByteRecord, WriterBuilder};
 use fill_cells::switch_value;
@@ -107,12 +107,12 @@ impl Filter for PlacedRule<'_> {
         ensures refused { IfErr result (Tells (λ column. bad_column self.now.places.sources.items (fields_of row.now) ≡ Some column)) }
         ensures kept { OnErr result (to.new.items ≡ to.old.items) }
     {
-        if let Some(column) = bad_column(row, &self.places.sources) {
-            return Err(Unmade::Refused { column });
-        }
-        match self.fill(row, to) {
-            Ok(cell) => Ok(cell),
-            Err(NoMemory) => Err(Unmade::NoMemory),
+        match bad_column(row, &self.places.sources) {
+            Some(column) => Err(Unmade::Refused { column }),
+            None => match self.fill(row, to) {
+                Ok(cell) => Ok(cell),
+                Err(NoMemory) => Err(Unmade::NoMemory),
+            },
         }
     }
 }
@@ -159,11 +159,8 @@ fn other_field<'a>(row: &'a ByteRecord, column: usize, field: &'a [u8], i: usize
     requires place { i < length (with_field column field.now (fields_of row.now)) }
     ensures { result.now ≡ get_or (with_field column field.now (fields_of row.now)) i [] }
 {
-    if i + 1 == column {
-        field
-    } else {
-        row.get(i).unwrap_or(b"")
-    }
+    let here = column - 1;
+    if i == here { field } else { field_at(row, i) }
 }
 
 /// The bytes of a record.
