@@ -2,6 +2,7 @@
 use Rattle.std.proofs.Common.{◌≡◌, ℕ, ◌≤◌, List, [], ◌∷◌, length, take, None, Some, Result, Ok, Err, refl, sym, ap, subst, ◌∙◌, arith}
 use Rattle.std.proofs.lemmas.List.{take_all}
 use Rattle.fill_records.specs.Records.{records_of}
+use Rattle.fill_tokens.specs.declared.token_set.TheConstants.TokenSet as set
 use Rattle.fill_tree.specs.Switch.{SwitchTree}
 use Rattle.fill_print.specs.Faults.{IsFault, IsTextOf}
 use Rattle.fill_print.proofs.Whole.{one_text}
@@ -11,17 +12,17 @@ use Rattle.fill_apply.specs.declared.error.ApplyError.{ApplyError}
 use Rattle.fill_apply.specs.declared.error.ApplyError.TheVariants as error
 use Rattle.fill_apply.proofs.FirstOthers.{none_other, one_other}
 
-one_fault : (text : List ℕ) (n m : ℕ) → IsFault text n → IsFault text m → n ≡ m
+one_fault : (text : List ℕ) (n m : ℕ) → IsFault set.SECOND text n → IsFault set.SECOND text m → n ≡ m
 one_fault text n m h k =
     let here = k.longest n h.within h.front in
     let there = h.longest m k.within k.front in
     omega arith
 
-one_tree : (text : List ℕ) (s t : SwitchTree) → IsTextOf text s → IsTextOf text t → s ≡ t
-one_tree text s t h k = one_text s t h.0 k.0 (sym h.1 ∙ k.1)
+one_tree : (text : List ℕ) (s t : SwitchTree) → IsTextOf set.SECOND text s → IsTextOf set.SECOND text t → s ≡ t
+one_tree text s t h k = one_text set.SECOND s t h.0 k.0 (sym h.1 ∙ k.1)
 
 -- a first column that is no input of the one tree that a text spells
-other_of : (inputs text : List ℕ) (s t : SwitchTree) (c : ℕ) → IsTextOf text s → IsTextOf text t → IsFirstOther inputs (columns_read t.cases) (Some c) → IsFirstOther inputs (columns_read s.cases) (Some c)
+other_of : (inputs text : List ℕ) (s t : SwitchTree) (c : ℕ) → IsTextOf set.SECOND text s → IsTextOf set.SECOND text t → IsFirstOther inputs (columns_read t.cases) (Some c) → IsFirstOther inputs (columns_read s.cases) (Some c)
 other_of inputs text s t c h k o = subst (λ (u : SwitchTree). IsFirstOther inputs (columns_read u.cases) (Some c)) (one_tree text t s k h) o
 
 module _ (inputs text : List ℕ) where

@@ -3,6 +3,7 @@ use Rattle.std.specs.Prelude.{◌≡◌, ℕ, ◌==◌, ◌&&◌, List, [], ◌�
 use Rattle.std.specs.List.{find, flat_map}
 use Rattle.std.specs.Str.{bytes_eq}
 use Rattle.fill_records.specs.Records.{field_of, records_of}
+use Rattle.fill_tokens.specs.declared.token_set.TheConstants.TokenSet as set
 use Rattle.fill_tree.specs.Switch.{CaseTree, SwitchTree}
 use Rattle.fill_print.specs.Faults.{IsFault, IsTextOf}
 use Rattle.fill_eval.specs.Columns.{IsFirstOther, guard_columns}
@@ -29,10 +30,10 @@ columns_read cases = flat_map (λ c. guard_columns c.guard) cases
 -- what comes of a text that is not empty, for sheets with these inputs: the conditional program that it spells and whose
 -- guards read inputs alone, or why there is none. Want of memory is of no text
 abbrev pub SpelledIs : List ℕ → List ℕ → Result SwitchTree ApplyError → Type 0
-SpelledIs inputs text (Ok s) = IsTextOf text s × IsFirstOther inputs (columns_read s.cases) None
+SpelledIs inputs text (Ok s) = IsTextOf set.SECOND text s × IsFirstOther inputs (columns_read s.cases) None
 SpelledIs inputs text (Err error.NoSwitch) = ⊥
-SpelledIs inputs text (Err (error.BadSwitch at)) = IsFault text at
-SpelledIs inputs text (Err (error.NoInput column)) = (s : SwitchTree) × IsTextOf text s × IsFirstOther inputs (columns_read s.cases) (Some column)
+SpelledIs inputs text (Err (error.BadSwitch at)) = IsFault set.SECOND text at
+SpelledIs inputs text (Err (error.NoInput column)) = (s : SwitchTree) × IsTextOf set.SECOND text s × IsFirstOther inputs (columns_read s.cases) (Some column)
 SpelledIs inputs text (Err error.NoMemory) = ⊥
 
 -- what comes of the text that a report shows

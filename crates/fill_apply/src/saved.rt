@@ -7,7 +7,7 @@ ghost use Rattle.fill_apply.specs.Saved.{SavedIs, SpelledIs, columns_read, is_sh
 
 use crate::ApplyError;
 use crate::columns::first_other;
-use fill_print::{ReadProgramError, read_switch};
+use fill_print::{Notation, ReadProgramError, read_switch};
 use fill_records::{Record, read_records, records_are_few};
 use fill_tree::Switch;
 use std::alloc::Global;
@@ -63,7 +63,7 @@ fn switch_in(alloc: Global, text: &[u8], inputs: &[u32]) -> Result<Switch, Apply
     ensures ok { IfOk result (λ s. SpelledIs inputs.now text.now (Ok (switch_tree s))) }
     ensures err { IfErr result (λ e. e ≢ ApplyError.NoMemory → SpelledIs inputs.now text.now (Err e)) }
 {
-    let switch = match read_switch(alloc, text) {
+    let switch = match read_switch(alloc, text, Notation::Second) {
         Ok(switch) => switch,
         Err(ReadProgramError::Bad { at }) => return Err(ApplyError::BadSwitch { at }),
         Err(ReadProgramError::NoMemory) => return Err(ApplyError::NoMemory),

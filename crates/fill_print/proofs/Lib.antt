@@ -4,6 +4,7 @@ pub mod Decimals
 pub mod Dispatch
 pub mod Encoding
 pub mod Folds
+pub mod Growth
 pub mod GuardRules
 pub mod LookupRules
 pub mod Names

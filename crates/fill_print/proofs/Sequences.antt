@@ -1,17 +1,18 @@
 -- Names of which none begins another.
-use Rattle.std.proofs.Common.{◌≡◌, ◌≢◌, ℕ, ◌<◌, ◌-◌, ◌⊎◌, inl, inr, Bool, true, false, ◌&&◌, eqb, not, List, [], ◌∷◌, ◌++◌, Option, None, Some, length, refl, sym, ap, subst, ◌∙◌, arith, codes}
+use Rattle.std.proofs.Common.{◌≡◌, ◌≢◌, ℕ, ◌<◌, inl, inr, Bool, true, false, ◌&&◌, not, List, [], ◌∷◌, ◌++◌, Option, None, Some, length, refl, sym, ap, subst, ◌∙◌, arith, codes}
 use Rattle.std.specs.Prelude.{◌==◌, nat_lt}
 use Rattle.std.proofs.lemmas.Bool.{and_parts, and_from, eq-eqb, eqb-true, ltb-true}
-use Rattle.std.proofs.lemmas.List.{append_assoc, append-nil}
-use Rattle.fill_print.specs.Reading.{Spells, Takes, Halts, Then, Plain, Gives, ManyFrom}
+use Rattle.fill_print.specs.Reading.{Takes, Halts, Then, Plain, Gives}
 use Rattle.fill_tokens.specs.Token.{token_name}
+use Rattle.fill_tokens.specs.TokenSet.{IsTokenOf}
 use Rattle.fill_tokens.specs.declared.token.Token.{Token}
 use Rattle.fill_tokens.specs.declared.token.Token.TheVariants.{Start, Digits}
 use Rattle.fill_tokens.specs.declared.token.TheConstants.Token.{ALL}
-use Rattle.fill_print.specs.Tokens.{may_stand, TokenFront, IsIn}
-use Rattle.fill_print.specs.Seqs.{Spot, room_after, after_token, gap, TokenStep, AtStart, Later, TokenSeq}
+use Rattle.fill_tokens.specs.declared.token_set.TokenSet.{TokenSet}
+use Rattle.fill_print.specs.Tokens.{TokenFront, IsIn}
+use Rattle.fill_print.specs.Seqs.{Spot, after_token, gap, TokenStep, AtStart, Later, TokenSeq}
 use Rattle.fill_print.proofs.Chains.{OneForm, IsSpelled, many_one, IsAt, HasText, Completes, link, halts_first, halts_empty}
-use Rattle.fill_print.proofs.TokenNames.{is_one}
+use Rattle.fill_print.proofs.TokenNames.{digits_come, is_one}
 
 -- one begins with the other
 abbrev related : List ℕ → List ℕ → Bool
@@ -66,14 +67,6 @@ cancel_name : (w x y : List ℕ) → w ++ x ≡ w ++ y → x ≡ y
 cancel_name [] x y e = e
 cancel_name (c ∷ w) x y e = let tails : w ++ x ≡ w ++ y = cc in cancel_name w x y tails
 
-pub token_one : (first last : Bool) → OneForm (TokenFront first last)
-token_one first last = record {
-  law = λ t u s k l p q.
-      let e : token_name t ++ k ≡ token_name u ++ l = sym p.1 ∙ q.1 in
-      let same = same_token t u ALL refl (is_one t) (is_one u) (related_from (token_name t) (token_name u) k l e) in
-      (same, cancel_name (token_name u) k l (ap (λ x. token_name x ++ k) (sym same) ∙ e));
-}
-
 -- a name begins with a letter
 abbrev is_letter_first : List ℕ → Bool
 is_letter_first [] = false
@@ -101,90 +94,99 @@ gap_cancel : (start : Bool) (x y : List ℕ) → gap start ++ x ≡ gap start ++
 gap_cancel true x y e = e
 gap_cancel false x y e = cc
 
-pub seq_step_one : (starts ends : Bool) (p : Spot) → OneForm (TokenStep starts ends p)
-seq_step_one starts ends p = record { law = go }
-  where
-    no_end : (start : Bool) (t : Token) (s m k l : List ℕ) → s ≡ 93 ∷ l → s ≡ gap start ++ m → m ≡ token_name t ++ k → ⊥
-    no_end true t s m k l e f g = no_name t 93 l k (omega arith) (sym e ∙ f ∙ g)
-    no_end false t s m k l e f g = let h : ◌≡◌ {A = ℕ} 93 32 = (let i : 93 ∷ l ≡ 32 ∷ m = sym e ∙ f in cc) in omega arith
+module _ (token_set : TokenSet) where
+  pub token_one : (first last : Bool) → OneForm (TokenFront token_set first last)
+  token_one first last = record {
+    law = λ t u s k l p q.
+        let e : token_name t ++ k ≡ token_name u ++ l = sym p.1 ∙ q.1 in
+        let same = same_token t u ALL refl (is_one t) (is_one u) (related_from (token_name t) (token_name u) k l e) in
+        (same, cancel_name (token_name u) k l (ap (λ x. token_name x ++ k) (sym same) ∙ e));
+  }
 
-    go : (o q : Option Token) (s k l : List ℕ) → TokenStep starts ends p o s k → TokenStep starts ends p q s l → (o ≡ q) × (k ≡ l)
-    go None None s k l h g = (refl, let e : 93 ∷ k ≡ 93 ∷ l = sym h.1 ∙ g.1 in cc)
-    go None (Some t) s k l h g = absurd (no_end p.start t s g.1 l k h.1 g.2 g.3.1)
-    go (Some t) None s k l h g = absurd (no_end p.start t s h.1 k l g.1 h.2 h.3.1)
-    go (Some t) (Some u) s k l h g =
-        let m : h.1 ≡ g.1 = gap_cancel p.start h.1 g.1 (sym h.2 ∙ g.2) in
-        let e = (token_one (p.start && starts) ends).law t u g.1 k l (subst (λ x. TokenFront (p.start && starts) ends t x k) m h.3) g.3 in
-        (ap Some e.0, e.1)
+  pub seq_step_one : (starts ends : Bool) (p : Spot) → OneForm (TokenStep token_set starts ends p)
+  seq_step_one starts ends p = record { law = go }
+    where
+      no_end : (start : Bool) (t : Token) (s m k l : List ℕ) → s ≡ 93 ∷ l → s ≡ gap start ++ m → m ≡ token_name t ++ k → ⊥
+      no_end true t s m k l e f g = no_name t 93 l k (omega arith) (sym e ∙ f ∙ g)
+      no_end false t s m k l e f g = let h : ◌≡◌ {A = ℕ} 93 32 = (let i : 93 ∷ l ≡ 32 ∷ m = sym e ∙ f in cc) in omega arith
 
-pub seq_completes : (starts ends : Bool) (p : Spot) → Completes (TokenStep starts ends) after_token p
-seq_completes starts ends p t text h = record { some = []; text = 93 ∷ []; spelled = λ k. (refl, refl) }
+      go : (o q : Option Token) (s k l : List ℕ) → TokenStep token_set starts ends p o s k → TokenStep token_set starts ends p q s l → (o ≡ q) × (k ≡ l)
+      go None None s k l h g = (refl, let e : 93 ∷ k ≡ 93 ∷ l = sym h.1 ∙ g.1 in cc)
+      go None (Some t) s k l h g = absurd (no_end p.start t s g.1 l k h.1 g.2 g.3.1)
+      go (Some t) None s k l h g = absurd (no_end p.start t s h.1 k l g.1 h.2 h.3.1)
+      go (Some t) (Some u) s k l h g =
+          let m : h.1 ≡ g.1 = gap_cancel p.start h.1 g.1 (sym h.2 ∙ g.2) in
+          let e = (token_one (p.start && starts) ends).law t u g.1 k l (subst (λ x. TokenFront token_set (p.start && starts) ends t x k) m h.3) g.3 in
+          (ap Some e.0, e.1)
 
--- at the start
-pub start_token : (starts ends : Bool) (room b : ℕ) (may_end : Bool) → 0 < room → b ≢ 93 → IsAt (TokenStep starts ends (AtStart room may_end)) (Then (TokenFront starts ends) (λ t. Gives (Some t))) b
-start_token starts ends room b may_end some ne = record {
-  forth = λ o s k h. subst (λ x. TokenStep starts ends (AtStart room may_end) x s k) (sym h.later.0) (some, s, refl, subst (λ x. TokenFront starts ends h.item s x) h.later.1 h.here);
-  back = λ o s k h. go o s k h;
-}
-  where
-    go : (o : Option Token) (s k : List ℕ) → TokenStep starts ends (AtStart room may_end) o (b ∷ s) k → Then (TokenFront starts ends) (λ t. Gives (Some t)) o (b ∷ s) k
-    go None s k h = absurd (ne (let e : b ∷ s ≡ 93 ∷ k = h.1 in cc))
-    go (Some t) s k h = link t k (subst (λ x. TokenFront starts ends t x k) (sym h.2) h.3) (refl, refl)
+  pub seq_completes : (starts ends : Bool) (p : Spot) → Completes (TokenStep token_set starts ends) after_token p
+  seq_completes starts ends p t text h = record { some = []; text = 93 ∷ []; spelled = λ k. (refl, refl) }
 
-start_text : (starts ends : Bool) (room : ℕ) (may_end : Bool) → 0 < room → HasText (TokenStep starts ends (AtStart room may_end))
-start_text starts ends room may_end some = (Some Digits, 68, codes "igits", λ k. (some, codes "Digits" ++ k, refl, (refl, refl)))
+  -- at the start
+  pub start_token : (starts ends : Bool) (room b : ℕ) (may_end : Bool) → 0 < room → b ≢ 93 → IsAt (TokenStep token_set starts ends (AtStart room may_end)) (Then (TokenFront token_set starts ends) (λ t. Gives (Some t))) b
+  start_token starts ends room b may_end some ne = record {
+    forth = λ o s k h. subst (λ x. TokenStep token_set starts ends (AtStart room may_end) x s k) (sym h.later.0) (some, s, refl, subst (λ x. TokenFront token_set starts ends h.item s x) h.later.1 h.here);
+    back = λ o s k h. go o s k h;
+  }
+    where
+      go : (o : Option Token) (s k : List ℕ) → TokenStep token_set starts ends (AtStart room may_end) o (b ∷ s) k → Then (TokenFront token_set starts ends) (λ t. Gives (Some t)) o (b ∷ s) k
+      go None s k h = absurd (ne (let e : b ∷ s ≡ 93 ∷ k = h.1 in cc))
+      go (Some t) s k h = link t k (subst (λ x. TokenFront token_set starts ends t x k) (sym h.2) h.3) (refl, refl)
 
-pub start_empty : (starts ends : Bool) (room : ℕ) (may_end : Bool) (bytes : List ℕ) → 0 < room → bytes ≡ [] → Halts (TokenStep starts ends (AtStart room may_end)) bytes 0
-start_empty starts ends room may_end bytes some e = halts_empty (TokenStep starts ends (AtStart room may_end)) (start_text starts ends room may_end some) bytes e (λ o k h. go o k h)
-  where
-    go : (o : Option Token) (k : List ℕ) → TokenStep starts ends (AtStart room may_end) o [] k → ⊥
-    go None k h = let f : ◌≡◌ {A = List ℕ} [] (93 ∷ k) = h.1 in let no_such : ⊥ = cc in no_such
-    go (Some t) k h =
-        let n = name_first t in
-        let f : ◌≡◌ {A = List ℕ} [] (n.0 ∷ (n.1 ++ k)) = h.2 ∙ h.3.1 ∙ ap (λ x. x ++ k) n.2 in
-        let no_such : ⊥ = cc in no_such
+  start_text : IsTokenOf token_set Digits → (starts ends : Bool) (room : ℕ) (may_end : Bool) → 0 < room → HasText (TokenStep token_set starts ends (AtStart room may_end))
+  start_text digits starts ends room may_end some = (Some Digits, 68, codes "igits", λ k. (some, codes "Digits" ++ k, refl, (digits_come token_set starts ends digits, refl)))
 
-pub start_closed : (starts ends : Bool) (room : ℕ) (may_end : Bool) (bytes after : List ℕ) → 0 < room → may_end ≡ false → bytes ≡ 93 ∷ after → Halts (TokenStep starts ends (AtStart room may_end)) bytes (length bytes)
-start_closed starts ends room may_end bytes after some shut e = halts_first (TokenStep starts ends (AtStart room may_end)) (start_text starts ends room may_end some) 93 bytes after e (λ o s k h. go o s k h)
-  where
-    go : (o : Option Token) (s k : List ℕ) → TokenStep starts ends (AtStart room may_end) o (93 ∷ s) k → ⊥
-    go None s k h = let bad : true ≡ false = sym h.0 ∙ shut in let no_such : ⊥ = cc in no_such
-    go (Some t) s k h = no_name t 93 s k (omega arith) (h.2 ∙ h.3.1)
+  pub start_empty : IsTokenOf token_set Digits → (starts ends : Bool) (room : ℕ) (may_end : Bool) (bytes : List ℕ) → 0 < room → bytes ≡ [] → Halts (TokenStep token_set starts ends (AtStart room may_end)) bytes 0
+  start_empty digits starts ends room may_end bytes some e = halts_empty (TokenStep token_set starts ends (AtStart room may_end)) (start_text digits starts ends room may_end some) bytes e (λ o k h. go o k h)
+    where
+      go : (o : Option Token) (k : List ℕ) → TokenStep token_set starts ends (AtStart room may_end) o [] k → ⊥
+      go None k h = let f : ◌≡◌ {A = List ℕ} [] (93 ∷ k) = h.1 in let no_such : ⊥ = cc in no_such
+      go (Some t) k h =
+          let n = name_first t in
+          let f : ◌≡◌ {A = List ℕ} [] (n.0 ∷ (n.1 ++ k)) = h.2 ∙ h.3.1 ∙ ap (λ x. x ++ k) n.2 in
+          let no_such : ⊥ = cc in no_such
 
-pub bracket : (starts ends : Bool) (p : Spot) (bytes after : List ℕ) → p.may_end ≡ true → bytes ≡ 93 ∷ after → Takes (TokenStep starts ends p) bytes None after
-bracket starts ends p bytes after may e = record { front = 93 ∷ []; is = e; spelled = λ k. (may, refl) }
+  pub start_closed : IsTokenOf token_set Digits → (starts ends : Bool) (room : ℕ) (may_end : Bool) (bytes after : List ℕ) → 0 < room → may_end ≡ false → bytes ≡ 93 ∷ after → Halts (TokenStep token_set starts ends (AtStart room may_end)) bytes (length bytes)
+  start_closed digits starts ends room may_end bytes after some shut e = halts_first (TokenStep token_set starts ends (AtStart room may_end)) (start_text digits starts ends room may_end some) 93 bytes after e (λ o s k h. go o s k h)
+    where
+      go : (o : Option Token) (s k : List ℕ) → TokenStep token_set starts ends (AtStart room may_end) o (93 ∷ s) k → ⊥
+      go None s k h = let bad : true ≡ false = sym h.0 ∙ shut in let no_such : ⊥ = cc in no_such
+      go (Some t) s k h = no_name t 93 s k (omega arith) (h.2 ∙ h.3.1)
 
--- later
-pub later_at : (starts ends : Bool) (room : ℕ) → 0 < room → IsAt (TokenStep starts ends (Later room)) (Then (Plain (codes " ")) (λ u. Then (TokenFront false ends) (λ t. Gives (Some t)))) 32
-later_at starts ends room some = record {
-  forth = λ o s k h. subst (λ x. TokenStep starts ends (Later room) x s k) (sym h.later.later.0) (some, h.middle, h.here, subst (λ x. TokenFront false ends h.later.item h.middle x) h.later.later.1 h.later.here);
-  back = λ o s k h. go o s k h;
-}
-  where
-    go : (o : Option Token) (s k : List ℕ) → TokenStep starts ends (Later room) o (32 ∷ s) k → Then (Plain (codes " ")) (λ u. Then (TokenFront false ends) (λ t. Gives (Some t))) o (32 ∷ s) k
-    go None s k h = let bad : ◌≡◌ {A = ℕ} 32 93 = (let e : 32 ∷ s ≡ 93 ∷ k = h.1 in cc) in absurd (omega arith)
-    go (Some t) s k h = link tt h.1 h.2 (link t k h.3 (refl, refl))
+  pub bracket : (starts ends : Bool) (p : Spot) (bytes after : List ℕ) → p.may_end ≡ true → bytes ≡ 93 ∷ after → Takes (TokenStep token_set starts ends p) bytes None after
+  bracket starts ends p bytes after may e = record { front = 93 ∷ []; is = e; spelled = λ k. (may, refl) }
 
-later_text : (starts ends : Bool) (room : ℕ) → HasText (TokenStep starts ends (Later room))
-later_text starts ends room = (None, 93, [], λ k. (refl, refl))
+  -- later
+  pub later_at : (starts ends : Bool) (room : ℕ) → 0 < room → IsAt (TokenStep token_set starts ends (Later room)) (Then (Plain (codes " ")) (λ u. Then (TokenFront token_set false ends) (λ t. Gives (Some t)))) 32
+  later_at starts ends room some = record {
+    forth = λ o s k h. subst (λ x. TokenStep token_set starts ends (Later room) x s k) (sym h.later.later.0) (some, h.middle, h.here, subst (λ x. TokenFront token_set false ends h.later.item h.middle x) h.later.later.1 h.later.here);
+    back = λ o s k h. go o s k h;
+  }
+    where
+      go : (o : Option Token) (s k : List ℕ) → TokenStep token_set starts ends (Later room) o (32 ∷ s) k → Then (Plain (codes " ")) (λ u. Then (TokenFront token_set false ends) (λ t. Gives (Some t))) o (32 ∷ s) k
+      go None s k h = let bad : ◌≡◌ {A = ℕ} 32 93 = (let e : 32 ∷ s ≡ 93 ∷ k = h.1 in cc) in absurd (omega arith)
+      go (Some t) s k h = link tt h.1 h.2 (link t k h.3 (refl, refl))
 
-pub later_empty : (starts ends : Bool) (room : ℕ) (bytes : List ℕ) → bytes ≡ [] → Halts (TokenStep starts ends (Later room)) bytes 0
-later_empty starts ends room bytes e = halts_empty (TokenStep starts ends (Later room)) (later_text starts ends room) bytes e (λ o k h. go o k h)
-  where
-    go : (o : Option Token) (k : List ℕ) → TokenStep starts ends (Later room) o [] k → ⊥
-    go None k h = let f : ◌≡◌ {A = List ℕ} [] (93 ∷ k) = h.1 in let no_such : ⊥ = cc in no_such
-    go (Some t) k h = let f : ◌≡◌ {A = List ℕ} [] (32 ∷ h.1) = h.2 in let no_such : ⊥ = cc in no_such
+  later_text : (starts ends : Bool) (room : ℕ) → HasText (TokenStep token_set starts ends (Later room))
+  later_text starts ends room = (None, 93, [], λ k. (refl, refl))
 
-pub later_halts : (starts ends : Bool) (room b : ℕ) (bytes after : List ℕ) → bytes ≡ b ∷ after → b ≢ 93 → (b ≡ 32 → room ≡ 0) → Halts (TokenStep starts ends (Later room)) bytes (length bytes)
-later_halts starts ends room b bytes after e no_end no_more = halts_first (TokenStep starts ends (Later room)) (later_text starts ends room) b bytes after e (λ o s k h. go o s k h)
-  where
-    go : (o : Option Token) (s k : List ℕ) → TokenStep starts ends (Later room) o (b ∷ s) k → ⊥
-    go None s k h = no_end (let f : b ∷ s ≡ 93 ∷ k = h.1 in cc)
-    go (Some t) s k h = let f : b ≡ 32 = (let g : b ∷ s ≡ 32 ∷ h.1 = h.2 in cc) in let z = no_more f in omega (arith, h.0)
+  pub later_empty : (starts ends : Bool) (room : ℕ) (bytes : List ℕ) → bytes ≡ [] → Halts (TokenStep token_set starts ends (Later room)) bytes 0
+  later_empty starts ends room bytes e = halts_empty (TokenStep token_set starts ends (Later room)) (later_text starts ends room) bytes e (λ o k h. go o k h)
+    where
+      go : (o : Option Token) (k : List ℕ) → TokenStep token_set starts ends (Later room) o [] k → ⊥
+      go None k h = let f : ◌≡◌ {A = List ℕ} [] (93 ∷ k) = h.1 in let no_such : ⊥ = cc in no_such
+      go (Some t) k h = let f : ◌≡◌ {A = List ℕ} [] (32 ∷ h.1) = h.2 in let no_such : ⊥ = cc in no_such
 
-pub token_seq_one : (starts ends : Bool) (p : Spot) → OneForm (TokenSeq starts ends p)
-token_seq_one starts ends p = many_one (TokenStep starts ends) after_token (seq_step_one starts ends) p
+  pub later_halts : (starts ends : Bool) (room b : ℕ) (bytes after : List ℕ) → bytes ≡ b ∷ after → b ≢ 93 → (b ≡ 32 → room ≡ 0) → Halts (TokenStep token_set starts ends (Later room)) bytes (length bytes)
+  later_halts starts ends room b bytes after e no_end no_more = halts_first (TokenStep token_set starts ends (Later room)) (later_text starts ends room) b bytes after e (λ o s k h. go o s k h)
+    where
+      go : (o : Option Token) (s k : List ℕ) → TokenStep token_set starts ends (Later room) o (b ∷ s) k → ⊥
+      go None s k h = no_end (let f : b ∷ s ≡ 93 ∷ k = h.1 in cc)
+      go (Some t) s k h = let f : b ≡ 32 = (let g : b ∷ s ≡ 32 ∷ h.1 = h.2 in cc) in let z = no_more f in omega (arith, h.0)
 
-pub token_seq_spelled : (starts ends may_end : Bool) (room : ℕ) → 0 < room → IsSpelled (TokenSeq starts ends (AtStart room may_end))
-token_seq_spelled starts ends true room some = record { some = []; text = 93 ∷ []; spelled = λ k. (refl, refl) }
-token_seq_spelled starts ends false room some = record { some = Digits ∷ []; text = codes "Digits]"; spelled = λ k. (93 ∷ k, (some, codes "Digits]" ++ k, refl, (refl, refl)), (refl, refl)) }
+  pub token_seq_one : (starts ends : Bool) (p : Spot) → OneForm (TokenSeq token_set starts ends p)
+  token_seq_one starts ends p = many_one (TokenStep token_set starts ends) after_token (seq_step_one starts ends) p
+
+  pub token_seq_spelled : IsTokenOf token_set Digits → (starts ends may_end : Bool) (room : ℕ) → 0 < room → IsSpelled (TokenSeq token_set starts ends (AtStart room may_end))
+  token_seq_spelled digits starts ends true room some = record { some = []; text = 93 ∷ []; spelled = λ k. (refl, refl) }
+  token_seq_spelled digits starts ends false room some = record { some = Digits ∷ []; text = codes "Digits]"; spelled = λ k. (93 ∷ k, (some, codes "Digits]" ++ k, refl, (digits_come token_set starts ends digits, refl)), (refl, refl)) }

@@ -1,14 +1,18 @@
 -- Which tokens stand in a sequence, token by token and by their places.
-use Rattle.std.proofs.Common.{◌≡◌, ◌≢◌, ℕ, zero, suc, ◌+◌, ◌-◌, ◌<◌, ◌≤◌, Bool, true, false, ◌&&◌, List, [], ◌∷◌, ◌++◌, length, Option, None, Some, slice_get, refl, sym, ap, subst, ◌∙◌, arith, codes}
+use Rattle.std.proofs.Common.{◌≡◌, ◌≢◌, ℕ, zero, suc, ◌+◌, ◌<◌, ◌≤◌, Bool, true, false, ◌&&◌, List, [], ◌∷◌, ◌++◌, length, Option, Some, slice_get, refl, sym, ap, ◌∙◌, arith}
 use Rattle.std.proofs.lemmas.List.{append_assoc}
+use Rattle.std.proofs.lemmas.Bool.{and_from, and_parts}
+use Rattle.std.proofs.lemmas.List.Elements.{All-nil, All-cons, All-head, All-tail}
 use Rattle.std.proofs.lemmas.Option.{same_Some}
 use Rattle.fill_tokens.specs.Token.{token_name}
+use Rattle.fill_tokens.specs.TokenSet.{AreTokensOf, IsTokenOf, has_token}
 use Rattle.fill_tokens.specs.PlaceGrammar.{OnlyFirst, OnlyLast, Nowhere}
 use Rattle.fill_tokens.specs.declared.token.Token.{Token}
 use Rattle.fill_tokens.specs.declared.token.Token.TheVariants.{Start, End}
+use Rattle.fill_tokens.specs.declared.token_set.TokenSet.{TokenSet}
 use Rattle.fill_print.specs.Notation.{names, more_names}
-use Rattle.fill_print.specs.Seqs.{Spot, room_after, after_token, gap, TokenStep, TokenSeq}
-use Rattle.fill_print.specs.Tokens.{may_stand, TokenFront}
+use Rattle.fill_print.specs.Seqs.{Spot, room_after, after_token, gap, TokenSeq}
+use Rattle.fill_print.specs.Tokens.{may_stand}
 
 -- each token may stand where it does
 abbrev pub IsSide : Bool → Bool → Bool → List Token → Type 0
@@ -129,39 +133,44 @@ no_text : (start : Bool) (k : List ℕ) → text_of start [] ++ k ≡ k
 no_text true k = refl
 no_text false k = refl
 
-pub record IsSpelledSeq (starts ends : Bool) (p : Spot) (ts : List Token) (s k : List ℕ) : Type 0 where
+pub record IsSpelledSeq (token_set : TokenSet) (starts ends : Bool) (p : Spot) (ts : List Token) (s k : List ℕ) : Type 0 where
   pub side : IsSide starts ends p.start ts
+  pub own : AreTokensOf token_set ts
   pub few : length ts ≤ p.room
   pub filled : ts ≡ [] → p.may_end ≡ true
   pub text : s ≡ text_of p.start ts ++ 93 ∷ k
 
-pub seq_forth : (starts ends : Bool) (ts : List Token) (p : Spot) (s k : List ℕ) → TokenSeq starts ends p ts s k → IsSpelledSeq starts ends p ts s k
-seq_forth starts ends [] p s k h = record { side = tt; few = omega arith; filled = λ e. h.0; text = h.1 ∙ sym (no_text p.start (93 ∷ k)) }
-seq_forth starts ends (t ∷ ts) p s k h =
-    let step = h.1 in
-    let rest = seq_forth starts ends ts (after_token p t) h.0 k h.2 in
-    let less = room_less p.room t step.0 in
-    record {
-      side = (step.3.0, (λ e. empty_list ts (let f = rest.few in let g : room_after p.room t ≡ 0 = ap (room_after p.room) e in omega (arith, f, g))), rest.side);
-      few = (let f = rest.few in omega (arith, f, less));
-      filled = λ e. (let no_such : ⊥ = cc in absurd no_such);
-      text = step.2 ∙ ap (λ x. gap p.start ++ x) (step.3.1 ∙ ap (λ x. token_name t ++ x) (later rest.text)) ∙ first_text p.start t ts (93 ∷ k);
-    }
-  where
-    later : {m : List ℕ} → m ≡ text_of false ts ++ 93 ∷ k → m ≡ more_names ts ++ 93 ∷ k
-    later e = e
+module _ (token_set : TokenSet) where
+  pub seq_forth : (starts ends : Bool) (ts : List Token) (p : Spot) (s k : List ℕ) → TokenSeq token_set starts ends p ts s k → IsSpelledSeq token_set starts ends p ts s k
+  seq_forth starts ends [] p s k h = record { side = tt; own = All-nil (IsTokenOf token_set); few = omega arith; filled = λ e. h.0; text = h.1 ∙ sym (no_text p.start (93 ∷ k)) }
+  seq_forth starts ends (t ∷ ts) p s k h =
+      let step = h.1 in
+      let rest = seq_forth starts ends ts (after_token p t) h.0 k h.2 in
+      let less = room_less p.room t step.0 in
+      let comes = and_parts (has_token token_set t) (may_stand (p.start && starts) ends t) step.3.0 in
+      record {
+        side = (comes.1, (λ e. empty_list ts (let f = rest.few in let g : room_after p.room t ≡ 0 = ap (room_after p.room) e in omega (arith, f, g))), rest.side);
+        own = All-cons (IsTokenOf token_set) t ts comes.0 rest.own;
+        few = (let f = rest.few in omega (arith, f, less));
+        filled = λ e. (let no_such : ⊥ = cc in absurd no_such);
+        text = step.2 ∙ ap (λ x. gap p.start ++ x) (step.3.1 ∙ ap (λ x. token_name t ++ x) (later rest.text)) ∙ first_text p.start t ts (93 ∷ k);
+      }
+    where
+      later : {m : List ℕ} → m ≡ text_of false ts ++ 93 ∷ k → m ≡ more_names ts ++ 93 ∷ k
+      later e = e
 
-pub seq_back : (starts ends : Bool) (ts : List Token) (p : Spot) (s k : List ℕ) → IsSpelledSeq starts ends p ts s k → TokenSeq starts ends p ts s k
-seq_back starts ends [] p s k h = (h.filled refl, h.text ∙ no_text p.start (93 ∷ k))
-seq_back starts ends (t ∷ ts) p s k h =
-    let some : 0 < p.room = (let f = h.few in omega arith) in (
-      more_names ts ++ 93 ∷ k,
-      (some, token_name t ++ (more_names ts ++ 93 ∷ k), h.text ∙ sym (first_text p.start t ts (93 ∷ k)), (h.side.0, refl)),
-      seq_back starts ends ts (after_token p t) (more_names ts ++ 93 ∷ k) k (record { side = h.side.2; few = room_enough p.room t ts (let f = h.few in omega arith) h.side.1; filled = λ e. refl; text = later }),
-    )
-  where
-    later : more_names ts ++ 93 ∷ k ≡ text_of false ts ++ 93 ∷ k
-    later = refl
+  pub seq_back : (starts ends : Bool) (ts : List Token) (p : Spot) (s k : List ℕ) → IsSpelledSeq token_set starts ends p ts s k → TokenSeq token_set starts ends p ts s k
+  seq_back starts ends [] p s k h = (h.filled refl, h.text ∙ no_text p.start (93 ∷ k))
+  seq_back starts ends (t ∷ ts) p s k h =
+      let some : 0 < p.room = (let f = h.few in omega arith) in
+      let comes = and_from (has_token token_set t) (may_stand (p.start && starts) ends t) (All-head (IsTokenOf token_set) t ts h.own) h.side.0 in (
+        more_names ts ++ 93 ∷ k,
+        (some, token_name t ++ (more_names ts ++ 93 ∷ k), h.text ∙ sym (first_text p.start t ts (93 ∷ k)), (comes, refl)),
+        seq_back starts ends ts (after_token p t) (more_names ts ++ 93 ∷ k) k (record { side = h.side.2; own = All-tail (IsTokenOf token_set) t ts h.own; few = room_enough p.room t ts (let f = h.few in omega arith) h.side.1; filled = λ e. refl; text = later }),
+      )
+    where
+      later : more_names ts ++ 93 ∷ k ≡ text_of false ts ++ 93 ∷ k
+      later = refl
 
 -- short lists by their items
 pub one_token : (ts : List Token) (a : Token) → length ts ≡ 1 → slice_get ts 0 ≡ Some a → ts ≡ a ∷ []

@@ -1,14 +1,12 @@
 -- Reading signed numbers.
-use Rattle.std.proofs.Common.{◌≡◌, ◌≢◌, ℕ, zero, suc, ◌+◌, ◌-◌, ◌<◌, ◌≤◌, ◌^◌, ◌⊎◌, inl, inr, Bool, true, false, List, [], ◌∷◌, ◌++◌, length, length-append, get_or, refl, sym, ap, subst, ◌∙◌, arith, codes}
+use Rattle.std.proofs.Common.{◌≡◌, ◌≢◌, ℕ, suc, ◌-◌, ◌<◌, ◌^◌, ◌⊎◌, inl, inr, Bool, true, false, List, [], ◌∷◌, ◌++◌, length, length-append, get_or, refl, sym, ap, subst, ◌∙◌, arith, codes}
 use Rattle.std.specs.Prelude.{ℤ, pos, negsuc, FitsSigned}
 use Rattle.std.specs.Int.{w32}
 use Rattle.std.proofs.lemmas.Bool.{cases_eq}
-use Rattle.std.proofs.lemmas.List.{append_assoc}
 use Rattle.std.proofs.lemmas.Int.{ints}
 use Rattle.std.proofs.lemmas.Fmt.{decimal_digit, first_decimal, decimal_nonempty}
 use Rattle.std.specs.Fmt.{decimal, signed_decimal}
-use Rattle.fill_print.specs.Reading.{Takes, Halts, Then, Plain, Gives}
-use Rattle.fill_print.specs.Numbers.{Number}
+use Rattle.fill_print.specs.Reading.{Halts}
 use Rattle.fill_print.specs.Ints.{Int, Negative, Zero, Positive}
 use Rattle.fill_print.proofs.Chains.{OneForm, IsSpelled, IsAt, HasText, link, both_one, plain_one, gives_one, at_one, halts_empty, halts_first}
 use Rattle.fill_print.proofs.Decimals.{number_one, one_is}

@@ -2,15 +2,19 @@
 use Rattle.std.proofs.Common.{◌≡◌, ℕ, zero, suc, ◌+◌, ◌-◌, ◌<◌, ◌≤◌, ◌⊎◌, inl, inr, Bool, true, false, List, [], ◌∷◌, ◌++◌, length, min, take, get_or, slice_get, Some, refl, sym, ap, subst, ◌∙◌, arith, codes, length-append}
 use Rattle.std.proofs.lemmas.List.{append_assoc, take_more}
 use Rattle.std.proofs.lemmas.Grind.{common_steps}
-use Rattle.std.proofs.lemmas.Bool.{cases_lt}
+use Rattle.std.proofs.lemmas.Bool.{and_from, cases_lt}
 use Rattle.std.proofs.lemmas.Option.{same_Some}
 use Rattle.fill_print.specs.Reading.{SameHead, Takes, Halts, Plain}
 use Rattle.fill_tokens.specs.Token.{token_name, token_number}
+use Rattle.fill_tokens.specs.TokenSet.{IsTokenOf, has_token}
 use Rattle.fill_tokens.specs.declared.token.Token.{Token}
 use Rattle.fill_tokens.specs.declared.token.Token.TheVariants.{Digits}
 use Rattle.fill_tokens.specs.declared.token.TheConstants.Token.{ALL}
+use Rattle.fill_tokens.specs.declared.token_set.TokenSet.{TokenSet}
 use Rattle.fill_tokens.proofs.TokenLaws.{listed}
-use Rattle.fill_print.specs.Tokens.{may_stand, TokenFront, IsIn, TokenOf}
+use Rattle.fill_print.specs.declared.notation.Notation.{Notation}
+use Rattle.fill_print.specs.declared.notation.Notation.TheVariants as notation
+use Rattle.fill_print.specs.Tokens.{may_come, tokens_of, TokenFront, IsIn, TokenOf}
 use Rattle.fill_print.proofs.Chains.{same_head}
 
 -- of two ways to cut a list, the one with the shorter rest has the longer front
@@ -79,38 +83,6 @@ is_in_right : (t : Token) (ts us : List Token) → IsIn t us → IsIn t (ts ++ u
 is_in_right t [] us h = h
 is_in_right t (u ∷ ts) us h = inr (is_in_right t ts us h)
 
--- one token more was looked for
-pub token_more : (first last : Bool) (ts : List Token) (t : Token) (bytes : List ℕ) (left other : ℕ) → may_stand first last t ≡ true → Halts (TokenOf first last ts) bytes left → Halts (Plain (token_name t)) bytes other
-    → Halts (TokenOf first last (ts ++ t ∷ [])) bytes (min left other)
-token_more first last ts t bytes left other may h g =
-    either_halts (TokenOf first last (ts ++ t ∷ [])) (TokenOf first last ts) (Plain (token_name t)) bytes left other (λ u. t)
-    (λ a s k p. (is_in_left a ts (t ∷ []) p.0, p.1))
-    (λ u s k p. (is_in_right t ts (t ∷ []) (inl refl), (may, p)))
-    (λ a s k p. elim (is_in_append a ts (t ∷ []) p.0) [
-      | inl q ↦ inl (q, p.1)
-      | inr q ↦ elim q [ inl same ↦ inr (tt, p.1.1 ∙ ap (λ x. token_name x ++ k) same) | inr no_such ↦ absurd no_such ]
-    ]) h g
-
--- a token that may not stand here is none
-pub token_passed : (first last : Bool) (ts : List Token) (t : Token) (bytes : List ℕ) (left : ℕ) → may_stand first last t ≡ false → Halts (TokenOf first last ts) bytes left → Halts (TokenOf first last (ts ++ t ∷ [])) bytes left
-token_passed first last ts t bytes left barred h = record {
-  front = h.front;
-  rest = h.rest;
-  is = h.is;
-  size = h.size;
-  some = h.some;
-  next = h.next;
-  more = h.more;
-  viable = λ k. let v = h.viable k in (is_in_left h.some ts (t ∷ []) v.0, v.1);
-  wrong = λ a r k same found. elim (is_in_append a ts (t ∷ []) found.0) [
-    | inl q ↦ h.wrong a r k same (q, found.1)
-    | inr q ↦ elim q [
-      | inl e ↦ let bad : true ≡ false = sym found.1.0 ∙ ap (may_stand first last) e ∙ barred in let no_such : ⊥ = cc in no_such
-      | inr no_such ↦ no_such
-    ]
-  ];
-}
-
 is_at : (ts : List Token) (i : ℕ) (t : Token) → slice_get ts i ≡ Some t → IsIn t ts
 is_at [] i t e = let no_such : ⊥ = cc in absurd no_such
 is_at (u ∷ ts) zero t e = inl (sym (same_Some u t e))
@@ -119,47 +91,91 @@ is_at (u ∷ ts) (suc i) t e = inr (is_at ts i t e)
 pub is_one : (t : Token) → IsIn t ALL
 is_one t = is_at ALL (token_number t - 1) t (listed t)
 
-pub token_start : (first last : Bool) (bytes : List ℕ) (left : ℕ) → Halts (Plain (codes "Digits")) bytes left → Halts (TokenOf first last (Digits ∷ [])) bytes left
-token_start first last bytes left h = record {
-  front = h.front;
-  rest = h.rest;
-  is = h.is;
-  size = h.size;
-  some = Digits;
-  next = h.next;
-  more = h.more;
-  viable = λ k. (inl refl, (refl, h.viable k));
-  wrong = λ a r k same found. elim found.0 [ inl e ↦ h.wrong tt r k same (found.1.1 ∙ ap (λ x. token_name x ++ k) e) | inr no_such ↦ no_such ];
-}
-
-pub token_all : (first last : Bool) (bytes : List ℕ) (left : ℕ) → Halts (TokenOf first last (Digits ∷ ALL)) bytes left → Halts (TokenFront first last) bytes left
-token_all first last bytes left h = record {
-  front = h.front;
-  rest = h.rest;
-  is = h.is;
-  size = h.size;
-  some = h.some;
-  next = h.next;
-  more = h.more;
-  viable = λ k. (h.viable k).1;
-  wrong = λ a r k same found. h.wrong a r k same (inr (is_one a), found);
-}
-
 token_step : (xs : List Token) (i : ℕ) (d : Token) → i < length xs → take (i + 1) xs ≡ take i xs ++ get_or xs i d ∷ []
 token_step xs i d h = take_more xs i d h
 
-pub next_more : (first last : Bool) (xs : List Token) (d : Token) (i : ℕ) (bytes : List ℕ) (left other : ℕ) → i < length xs → may_stand first last (get_or xs i d) ≡ true → Halts (TokenOf first last (Digits ∷ take i xs)) bytes left
-    → Halts (Plain (token_name (get_or xs i d))) bytes other → Halts (TokenOf first last (Digits ∷ take (i + 1) xs)) bytes (min left other)
-next_more first last xs d i bytes left other lt may h g =
-    subst (λ ts. Halts (TokenOf first last (Digits ∷ ts)) bytes (min left other)) (sym (token_step xs i d lt)) (token_more first last (Digits ∷ take i xs) (get_or xs i d) bytes left other may h g)
+pub digits_of : (n : Notation) → IsTokenOf (tokens_of n) Digits
+digits_of notation.Second = refl
+digits_of notation.Third = refl
+digits_of notation.All = refl
 
-pub next_passed : (first last : Bool) (xs : List Token) (d : Token) (i : ℕ) (bytes : List ℕ) (left : ℕ) → i < length xs → may_stand first last (get_or xs i d) ≡ false → Halts (TokenOf first last (Digits ∷ take i xs)) bytes left
-    → Halts (TokenOf first last (Digits ∷ take (i + 1) xs)) bytes left
-next_passed first last xs d i bytes left lt barred h =
-    subst (λ ts. Halts (TokenOf first last (Digits ∷ ts)) bytes left) (sym (token_step xs i d lt)) (token_passed first last (Digits ∷ take i xs) (get_or xs i d) bytes left barred h)
+module _ (token_set : TokenSet) where
+  -- one token more was looked for
+  pub token_more : (first last : Bool) (ts : List Token) (t : Token) (bytes : List ℕ) (left other : ℕ) → may_come token_set first last t ≡ true → Halts (TokenOf token_set first last ts) bytes left → Halts (Plain (token_name t)) bytes other
+      → Halts (TokenOf token_set first last (ts ++ t ∷ [])) bytes (min left other)
+  token_more first last ts t bytes left other may h g =
+      either_halts (TokenOf token_set first last (ts ++ t ∷ [])) (TokenOf token_set first last ts) (Plain (token_name t)) bytes left other (λ u. t)
+      (λ a s k p. (is_in_left a ts (t ∷ []) p.0, p.1))
+      (λ u s k p. (is_in_right t ts (t ∷ []) (inl refl), (may, p)))
+      (λ a s k p. elim (is_in_append a ts (t ∷ []) p.0) [
+        | inl q ↦ inl (q, p.1)
+        | inr q ↦ elim q [ inl same ↦ inr (tt, p.1.1 ∙ ap (λ x. token_name x ++ k) same) | inr no_such ↦ absurd no_such ]
+      ]) h g
 
-pub token_end : (first last : Bool) (i : ℕ) (bytes : List ℕ) (left : ℕ) → length ALL ≤ i → Halts (TokenOf first last (Digits ∷ take i ALL)) bytes left → Halts (TokenFront first last) bytes left
-token_end first last i bytes left le h = token_all first last bytes left (subst (λ ts. Halts (TokenOf first last (Digits ∷ ts)) bytes left) (every ALL i le) h)
-  where
-    every : (xs : List Token) (i : ℕ) → length xs ≤ i → take i xs ≡ xs
-    every xs i le = grind (arith, common_steps)
+  -- a token that may not stand here is none
+  pub token_passed : (first last : Bool) (ts : List Token) (t : Token) (bytes : List ℕ) (left : ℕ) → may_come token_set first last t ≡ false → Halts (TokenOf token_set first last ts) bytes left → Halts (TokenOf token_set first last (ts ++ t ∷ [])) bytes left
+  token_passed first last ts t bytes left barred h = record {
+    front = h.front;
+    rest = h.rest;
+    is = h.is;
+    size = h.size;
+    some = h.some;
+    next = h.next;
+    more = h.more;
+    viable = λ k. let v = h.viable k in (is_in_left h.some ts (t ∷ []) v.0, v.1);
+    wrong = λ a r k same found. elim (is_in_append a ts (t ∷ []) found.0) [
+      | inl q ↦ h.wrong a r k same (q, found.1)
+      | inr q ↦ elim q [
+        | inl e ↦ let bad : true ≡ false = sym found.1.0 ∙ ap (may_come token_set first last) e ∙ barred in let no_such : ⊥ = cc in no_such
+        | inr no_such ↦ no_such
+      ]
+    ];
+  }
+
+  pub digits_come : (first last : Bool) → IsTokenOf token_set Digits → may_come token_set first last Digits ≡ true
+  digits_come first last digits = and_from (has_token token_set Digits) true digits refl
+
+  pub token_takes : (first last : Bool) (t : Token) (bytes rest : List ℕ) → may_come token_set first last t ≡ true → Takes (Plain (token_name t)) bytes tt rest → Takes (TokenFront token_set first last) bytes t rest
+  token_takes first last t bytes rest may h = record { front = h.front; is = h.is; spelled = λ k. (may, h.spelled k) }
+
+  pub token_start : IsTokenOf token_set Digits → (first last : Bool) (bytes : List ℕ) (left : ℕ) → Halts (Plain (codes "Digits")) bytes left → Halts (TokenOf token_set first last (Digits ∷ [])) bytes left
+  token_start digits first last bytes left h = record {
+    front = h.front;
+    rest = h.rest;
+    is = h.is;
+    size = h.size;
+    some = Digits;
+    next = h.next;
+    more = h.more;
+    viable = λ k. (inl refl, (digits_come first last digits, h.viable k));
+    wrong = λ a r k same found. elim found.0 [ inl e ↦ h.wrong tt r k same (found.1.1 ∙ ap (λ x. token_name x ++ k) e) | inr no_such ↦ no_such ];
+  }
+
+  pub token_all : (first last : Bool) (bytes : List ℕ) (left : ℕ) → Halts (TokenOf token_set first last (Digits ∷ ALL)) bytes left → Halts (TokenFront token_set first last) bytes left
+  token_all first last bytes left h = record {
+    front = h.front;
+    rest = h.rest;
+    is = h.is;
+    size = h.size;
+    some = h.some;
+    next = h.next;
+    more = h.more;
+    viable = λ k. (h.viable k).1;
+    wrong = λ a r k same found. h.wrong a r k same (inr (is_one a), found);
+  }
+
+  pub next_more : (first last : Bool) (xs : List Token) (d : Token) (i : ℕ) (bytes : List ℕ) (left other : ℕ) → i < length xs → may_come token_set first last (get_or xs i d) ≡ true → Halts (TokenOf token_set first last (Digits ∷ take i xs)) bytes left
+      → Halts (Plain (token_name (get_or xs i d))) bytes other → Halts (TokenOf token_set first last (Digits ∷ take (i + 1) xs)) bytes (min left other)
+  next_more first last xs d i bytes left other lt may h g =
+      subst (λ ts. Halts (TokenOf token_set first last (Digits ∷ ts)) bytes (min left other)) (sym (token_step xs i d lt)) (token_more first last (Digits ∷ take i xs) (get_or xs i d) bytes left other may h g)
+
+  pub next_passed : (first last : Bool) (xs : List Token) (d : Token) (i : ℕ) (bytes : List ℕ) (left : ℕ) → i < length xs → may_come token_set first last (get_or xs i d) ≡ false → Halts (TokenOf token_set first last (Digits ∷ take i xs)) bytes left
+      → Halts (TokenOf token_set first last (Digits ∷ take (i + 1) xs)) bytes left
+  next_passed first last xs d i bytes left lt barred h =
+      subst (λ ts. Halts (TokenOf token_set first last (Digits ∷ ts)) bytes left) (sym (token_step xs i d lt)) (token_passed first last (Digits ∷ take i xs) (get_or xs i d) bytes left barred h)
+
+  pub token_end : (first last : Bool) (i : ℕ) (bytes : List ℕ) (left : ℕ) → length ALL ≤ i → Halts (TokenOf token_set first last (Digits ∷ take i ALL)) bytes left → Halts (TokenFront token_set first last) bytes left
+  token_end first last i bytes left le h = token_all first last bytes left (subst (λ ts. Halts (TokenOf token_set first last (Digits ∷ ts)) bytes left) (every ALL i le) h)
+    where
+      every : (xs : List Token) (i : ℕ) → length xs ≤ i → take i xs ≡ xs
+      every xs i le = grind (arith, common_steps)

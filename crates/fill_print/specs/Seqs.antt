@@ -2,6 +2,7 @@
 use Rattle.std.specs.Prelude.{◌≡◌, ℕ, ◌-◌, ◌<◌, Bool, true, false, ◌&&◌, List, [], ◌∷◌, ◌++◌, Option, Some, None}
 use Rattle.fill_tokens.specs.declared.token.Token.{Token}
 use Rattle.fill_tokens.specs.declared.token.Token.TheVariants.{End}
+use Rattle.fill_tokens.specs.declared.token_set.TokenSet.{TokenSet}
 use Rattle.fill_print.specs.Reading.{ManyFrom}
 use Rattle.fill_print.specs.Tokens.{TokenFront}
 
@@ -25,12 +26,12 @@ gap true = []
 gap false = 32 ∷ []
 
 -- the next token, or the bracket: Start may come first if the sequence may have it, and End last
-abbrev pub TokenStep : Bool → Bool → Spot → Option Token → List ℕ → List ℕ → Type 0
-TokenStep starts ends p None s k = (p.may_end ≡ true) × (s ≡ 93 ∷ k)
-TokenStep starts ends p (Some t) s k = (0 < p.room) × (m : List ℕ) × (s ≡ gap p.start ++ m) × TokenFront (p.start && starts) ends t m k
+abbrev pub TokenStep : TokenSet → Bool → Bool → Spot → Option Token → List ℕ → List ℕ → Type 0
+TokenStep token_set starts ends p None s k = (p.may_end ≡ true) × (s ≡ 93 ∷ k)
+TokenStep token_set starts ends p (Some t) s k = (0 < p.room) × (m : List ℕ) × (s ≡ gap p.start ++ m) × TokenFront token_set (p.start && starts) ends t m k
 
-abbrev pub TokenSeq : Bool → Bool → Spot → List Token → List ℕ → List ℕ → Type 0
-TokenSeq starts ends = ManyFrom (TokenStep starts ends) after_token
+abbrev pub TokenSeq : TokenSet → Bool → Bool → Spot → List Token → List ℕ → List ℕ → Type 0
+TokenSeq token_set starts ends = ManyFrom (TokenStep token_set starts ends) after_token
 
 abbrev pub AtStart : ℕ → Bool → Spot
 AtStart room may_end = record { room = room; start = true; may_end = may_end }

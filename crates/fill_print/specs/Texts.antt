@@ -1,5 +1,5 @@
 -- Texts between quotes, character by character.
-use Rattle.std.specs.Prelude.{◌≡◌, ◌⊎◌, ℕ, ◌<◌, Bool, true, List, ◌∷◌, ◌++◌, Option, Some, None}
+use Rattle.std.specs.Prelude.{◌≡◌, ◌⊎◌, ℕ, Bool, true, List, ◌∷◌, ◌++◌, Option, Some, None}
 use Rattle.std.specs.Char.{IsScalar}
 use Rattle.fill_print.specs.Reading.{ManyFrom}
 use Rattle.fill_print.specs.Notation.{char_text}

@@ -4,10 +4,14 @@
 #![tactic(auto)]
 
 mod guards;
+mod laws;
+mod notation;
 mod pieces;
 mod read;
 mod trees;
 
 pub use guards::{print_guard, print_switch};
-pub use read::{ReadProgramError, read_switch, spellings_differ};
+pub use laws::{larger_sets_have_more_programs, spellings_differ};
+pub use notation::Notation;
+pub use read::{ReadProgramError, read_switch};
 pub use trees::print_program;

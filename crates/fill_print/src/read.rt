@@ -14,4 +14,4 @@ mod texts;
 mod tokens;
 
 pub use error::ReadProgramError;
-pub use switch::{read_switch, spellings_differ};
+pub use switch::read_switch;

@@ -58,7 +58,7 @@ module _ (g : Ground) (kept : IsKept g) where
       (first, (omega arith))
 
   mutual
-    source_spelled : (x : SourceTree) → grammar.IsSource g.settings g.sheet g.tables x → IsSource x
+    source_spelled : (x : SourceTree) → grammar.IsSource g.settings g.sheet g.tables x → IsSource g.settings.profile.tokens x
     source_spelled (col c) h = input_number c h.0
     source_spelled (select column table key conditions) h =
         let numbers : AreNumbersOf g.tables column table key (number_of_atoms conditions) = h.0 in
@@ -67,28 +67,28 @@ module _ (g : Ground) (kept : IsKept g) where
         let sized : length numbers.0 ≡ number_of_atoms conditions = numbers.4 in
         ((numbers.5, numbers.8), (small.0, numbers.9), (small.1, numbers.10), (omega arith), h.1, conditions_spelled conditions h.2)
 
-    condition_spelled : (a : AtomTree) → grammar.IsCondition g.settings g.sheet g.tables a → IsCondition a
+    condition_spelled : (a : AtomTree) → grammar.IsCondition g.settings g.sheet g.tables a → IsCondition g.settings.profile.tokens a
     condition_spelled (constant t) h = h
     condition_spelled (whole x) h = source_spelled x h
-    condition_spelled (sub x p q) h = (source_spelled x h.0, h.1.0, h.2.0)
+    condition_spelled (sub x p q) h = (source_spelled x h.0, h.1, h.2)
 
-    conditions_spelled : (cs : Atoms) → grammar.AreConditions g.settings g.sheet g.tables cs → AreConditions cs
+    conditions_spelled : (cs : Atoms) → grammar.AreConditions g.settings g.sheet g.tables cs → AreConditions g.settings.profile.tokens cs
     conditions_spelled end h = tt
     conditions_spelled (more a rest) h = (condition_spelled a h.0, conditions_spelled rest h.1)
 
   depth_spelled : (x : SourceTree) → source_depth x ≤ g.settings.depth → source_depth x ≤ 3
   depth_spelled x h = let all : g.settings.depth ≤ 3 = depth_small g.settings kept.settings in omega arith
 
-  atom_spelled : (a : AtomTree) → grammar.IsAtom g.settings g.sheet g.tables a → IsAtom a
+  atom_spelled : (a : AtomTree) → grammar.IsAtom g.settings g.sheet g.tables a → IsAtom g.settings.profile.tokens a
   atom_spelled (constant t) h = (h.0, h.1)
   atom_spelled (whole x) h = (source_spelled x h.0, depth_spelled x h.1)
-  atom_spelled (sub x p q) h = (source_spelled x h.0, depth_spelled x h.1, h.2.0, h.3.0)
+  atom_spelled (sub x p q) h = (source_spelled x h.0, depth_spelled x h.1, h.2, h.3)
 
-  program_spelled : (p : Atoms) → InGrammar g.settings g.sheet g.tables p → IsProgram p
+  program_spelled : (p : Atoms) → InGrammar g.settings g.sheet g.tables p → IsProgram g.settings.profile.tokens p
   program_spelled end h = tt
   program_spelled (more a rest) h = (atom_spelled a h.0, program_spelled rest h.1)
 
-  literal_spelled : (l : Literal) → separate.IsLiteral g.settings g.sheet l → IsLiteral l
+  literal_spelled : (l : Literal) → separate.IsLiteral g.settings g.sheet l → IsLiteral g.settings.profile.tokens l
   literal_spelled l h =
       let tested : separate.IsTested g.settings.profile.tokens l.seq = h.tested in
       let some : 0 < length l.seq = tested.some in
@@ -98,44 +98,45 @@ module _ (g : Ground) (kept : IsKept g) where
         few = tested.few;
         start = tested.start;
         finish = tested.last;
+        tokens = tested.tokens;
         least = h.some;
         most = h.few;
       }
 
   second_spelled : (first : Literal) (o : Option Literal)
-      → IfSome o (λ l. separate.IsLiteral g.settings g.sheet l × (separate.literal_cmp first l ≡ Less)) → IfSome o IsLiteral
+      → IfSome o (λ l. separate.IsLiteral g.settings g.sheet l × (separate.literal_cmp first l ≡ Less)) → IfSome o (IsLiteral g.settings.profile.tokens)
   second_spelled first None h = tt
   second_spelled first (Some l) h = literal_spelled l h.0
 
-  guard_spelled : (h : Guard) → separate.IsGuard g.settings g.sheet h → IsGuard h
+  guard_spelled : (h : Guard) → separate.IsGuard g.settings g.sheet h → IsGuard g.settings.profile.tokens h
   guard_spelled h is = (literal_spelled h.first is.0, second_spelled h.first h.second is.1)
 
   -- one branch more, which has a guard
   branch_more : (b c : BranchData) (later : List BranchData) (t : SwitchTree) → AreGuarded g (b ∷ c ∷ later)
-      → (length t.cases ≡ length later) × AreCases t.cases × IsProgram t.last
-      → (length (with_branch b t).cases ≡ suc (length later)) × AreCases (with_branch b t).cases × IsProgram t.last
+      → (length t.cases ≡ length later) × AreCases g.settings.profile.tokens t.cases × IsProgram g.settings.profile.tokens t.last
+      → (length (with_branch b t).cases ≡ suc (length later)) × AreCases g.settings.profile.tokens (with_branch b t).cases × IsProgram g.settings.profile.tokens t.last
   branch_more b c later t h rest =
-      let program : IsProgram b.program = program_spelled b.program ((h.1).has).in_grammar in
-      let guard : IsGuard h.0.0 = guard_spelled h.0.0 ((h.0.2).separates).is in
-      subst (λ (o : Option Guard). (length (cases_of o b.program ++ t.cases) ≡ suc (length later)) × AreCases (cases_of o b.program ++ t.cases) × IsProgram t.last)
+      let program : IsProgram g.settings.profile.tokens b.program = program_spelled b.program ((h.1).has).in_grammar in
+      let guard : IsGuard g.settings.profile.tokens h.0.0 = guard_spelled h.0.0 ((h.0.2).separates).is in
+      subst (λ (o : Option Guard). (length (cases_of o b.program ++ t.cases) ≡ suc (length later)) × AreCases g.settings.profile.tokens (cases_of o b.program ++ t.cases) × IsProgram g.settings.profile.tokens t.last)
       (sym h.0.1) (ap suc rest.0, ((guard, program), rest.1), rest.2)
 
   -- the conditional program of these branches
   branches_spelled : (b : BranchData) (later : List BranchData) (s : SwitchTree) → AreGuarded g (b ∷ later) → switch_of (b ∷ later) ≡ Some s
-      → (length s.cases ≡ length later) × AreCases s.cases × IsProgram s.last
+      → (length s.cases ≡ length later) × AreCases g.settings.profile.tokens s.cases × IsProgram g.settings.profile.tokens s.last
   branches_spelled b [] s h is =
       let same : (record { cases = []; last = b.program }) ≡ s = same_Some (record { cases = []; last = b.program }) s is in
-      subst (λ (x : SwitchTree). (length x.cases ≡ 0) × AreCases x.cases × IsProgram x.last) same
+      subst (λ (x : SwitchTree). (length x.cases ≡ 0) × AreCases g.settings.profile.tokens x.cases × IsProgram g.settings.profile.tokens x.last) same
       (refl, tt, program_spelled b.program ((h.1).has).in_grammar)
   branches_spelled b (c ∷ later) s h is =
-      elim (switch_of (c ∷ later)) as (λ found. switch_of (c ∷ later) ≡ found → option_map (with_branch b) found ≡ Some s → (length s.cases ≡ suc (length later)) × AreCases s.cases × IsProgram s.last) [
+      elim (switch_of (c ∷ later)) as (λ found. switch_of (c ∷ later) ≡ found → option_map (with_branch b) found ≡ Some s → (length s.cases ≡ suc (length later)) × AreCases g.settings.profile.tokens s.cases × IsProgram g.settings.profile.tokens s.last) [
         | None ↦ λ _ none. absurd (let f : ⊥ = cc in f)
         | Some t ↦ λ there found.
-            subst (λ (x : SwitchTree). (length x.cases ≡ suc (length later)) × AreCases x.cases × IsProgram x.last) (same_Some (with_branch b t) s found)
+            subst (λ (x : SwitchTree). (length x.cases ≡ suc (length later)) × AreCases g.settings.profile.tokens x.cases × IsProgram g.settings.profile.tokens x.last) (same_Some (with_branch b t) s found)
             (branch_more b c later t h (branches_spelled c later t h.2 there))
       ] refl is
 
-pub switch_spelled : (g : Ground) (examples : List Example) (branches : List BranchData) (s : SwitchTree) → IsKept g → AreBranches g examples branches → switch_of branches ≡ Some s → IsSwitch s
+pub switch_spelled : (g : Ground) (examples : List Example) (branches : List BranchData) (s : SwitchTree) → IsKept g → AreBranches g examples branches → switch_of branches ≡ Some s → IsSwitch g.settings.profile.tokens s
 switch_spelled g examples [] s kept are is = absurd (let f : ⊥ = cc in f)
 switch_spelled g examples (b ∷ later) s kept are is =
     let found = branches_spelled g kept b later s are.guarded is in

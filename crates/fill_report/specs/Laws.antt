@@ -31,7 +31,7 @@ pub record IsKept (g : Ground) : Type 0 where
   pub sheet : IsSheet g.sheet
   pub tables : AreTables g.tables
 
--- the conditional program of branches is one that the notation has
+-- the conditional program of branches is one that the notation has by the tokens of the profile
 abbrev pub SwitchIsSpelled : Type 0
 SwitchIsSpelled = (g : Ground) (examples : List Example) (branches : List BranchData) (s : SwitchTree) →
-    IsKept g → AreBranches g examples branches → switch_of branches ≡ Some s → IsSwitch s
+    IsKept g → AreBranches g examples branches → switch_of branches ≡ Some s → IsSwitch g.settings.profile.tokens s

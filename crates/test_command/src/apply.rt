@@ -49,7 +49,7 @@ fn refusal(alloc: Global, report: &[u8]) -> Option<ApplyError> {
 
 #[test]
 fn refusals_come_in_their_order(rt: HostRuntime) -> Result<(), Fail> {
-    let reports: [(&[u8], Option<ApplyError>); 9] = [
+    let reports: [(&[u8], Option<ApplyError>); 10] = [
         (b"", Some(ApplyError::NoSwitch)),
         (b"ok,add,1\nswitch\n", Some(ApplyError::NoSwitch)),
         (
@@ -63,6 +63,10 @@ fn refusals_come_in_their_order(rt: HostRuntime) -> Result<(), Fail> {
         (
             b"switch,\"Switch(Match(2,[Digits],1)=>Concat();else=>Concat()\"",
             Some(ApplyError::BadSwitch { at: 51 }),
+        ),
+        (
+            b"switch,\"Switch(Match(1,[Equals],1)=>Concat();else=>Concat())\"",
+            Some(ApplyError::BadSwitch { at: 17 }),
         ),
         (
             b"switch,\"Switch(Match(3,[Dot],1)&Match(2,[Dot],1)=>Concat();Match(4,[Dot],1)=>Concat();else=>Concat())\"",

@@ -2,7 +2,7 @@
 ghost use Rattle.fill_arena.specs.Contents.{IsGraph};
 
 use fill_arena::{Arena, GraphId};
-use fill_print::read_switch;
+use fill_print::{Notation, read_switch};
 use fill_tree::Switch;
 use std::alloc::Global;
 use std::test::Fail;
@@ -11,7 +11,7 @@ use std::test::Fail;
 fn only(alloc: Global, atoms: &str) -> Result<Switch, Fail> {
     let mut spelled = String::new(alloc);
     write!(spelled, "Switch(else=>Concat({atoms}))")?;
-    Ok(read_switch(alloc, spelled.as_bytes())?)
+    Ok(read_switch(alloc, spelled.as_bytes(), Notation::All)?)
 }
 
 /// Whether the program of these atoms stands in the graph.

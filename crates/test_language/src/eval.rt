@@ -3,7 +3,7 @@ use crate::notation::only;
 use Asked::{Atoms, Column, Lookup, Row};
 use Token::{Digits, Upper};
 use fill_eval::*;
-use fill_print::read_switch;
+use fill_print::{Notation, read_switch};
 use fill_sheet::Sheet;
 use fill_tables::Tables;
 use fill_text::{List, NoMemory, Text};
@@ -87,7 +87,7 @@ const SWITCH: &[u8] =
 
 /// Whether it gives this text on this row.
 fn row_gives(on: On, row: u32, expected: &str) -> Result<bool, Fail> {
-    let switch = read_switch(on.alloc, SWITCH)?;
+    let switch = read_switch(on.alloc, SWITCH, Notation::All)?;
     switch_gives(on, &switch, row, expected)
 }
 
@@ -283,7 +283,7 @@ fn values_of_a_switch(rt: HostRuntime) -> Result<(), Fail> {
 
 /// Whether the switch reads inputs alone, and the first other column that it reads.
 fn reads(alloc: Global, sheet: &Sheet) -> Result<(bool, Option<u32>), Fail> {
-    let switch = read_switch(alloc, SWITCH)?;
+    let switch = read_switch(alloc, SWITCH, Notation::All)?;
     Ok((
         switch_reads_inputs(&switch, sheet),
         first_other_column(&switch, sheet),

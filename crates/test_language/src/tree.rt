@@ -2,7 +2,7 @@
 mod grammar;
 
 use crate::notation::only;
-use fill_print::read_switch;
+use fill_print::{Notation, read_switch};
 use fill_text::{List, Text};
 use fill_tree::*;
 use std::alloc::Global;
@@ -138,7 +138,7 @@ fn is_like(copied: &Switch, switch: &Switch, cost: u64) -> bool {
 
 /// Whether a copy of the switch has its one case, of this cost, and its last program.
 fn switch_is_copied(alloc: Global, spelled: &[u8], cost: u64) -> Result<bool, Fail> {
-    let switch = read_switch(alloc, spelled)?;
+    let switch = read_switch(alloc, spelled, Notation::All)?;
     let copied = switch.copy(alloc)?;
     Ok(is_like(&copied, &switch, cost))
 }

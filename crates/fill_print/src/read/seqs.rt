@@ -2,7 +2,9 @@
 ghost use Rattle.std.specs.Prelude.{◌≡◌, ◌<◌, ◌≤◌, [], ◌∷◌, ◌++◌, length};
 ghost use Rattle.fill_print.specs.Reading.{Reads};
 ghost use Rattle.fill_print.specs.Seqs.{AtStart, Later, Spot, TokenSeq, TokenStep, room_after};
+ghost use Rattle.fill_print.specs.Tokens.{tokens_of};
 
+use crate::notation::Notation;
 use crate::read::bytes::first;
 use crate::read::error::ReadError;
 use crate::read::tokens::read_token;
@@ -38,13 +40,14 @@ fn with_token(tokens: &Seq, token: Token) -> Seq
 
 fn first_token(
     bytes: &[u8],
+    notation: Notation,
     starts: bool,
     ends: bool,
     room: u32,
     may_end: bool,
 ) -> Result<(Option<Token>, &[u8]), ReadError>
     requires { 0 < room }
-    ensures { Reads (λ x. x.0) (λ x. x.1.now) (TokenStep starts ends (AtStart room may_end)) bytes.now result }
+    ensures { Reads (λ x. x.0) (λ x. x.1.now) (TokenStep (tokens_of notation) starts ends (AtStart room may_end)) bytes.now result }
 {
     match first(bytes) {
         None => Err(ReadError::Bad(0)),
@@ -55,7 +58,7 @@ fn first_token(
                 }
                 return Err(ReadError::Bad(bytes.len()));
             }
-            let (token, rest) = read_token(bytes, starts, ends)?;
+            let (token, rest) = read_token(bytes, notation, starts, ends)?;
             Ok((Some(token), rest))
         }
     }
@@ -63,11 +66,12 @@ fn first_token(
 
 fn later_token(
     bytes: &[u8],
+    notation: Notation,
     starts: bool,
     ends: bool,
     room: u32,
 ) -> Result<(Option<Token>, &[u8]), ReadError>
-    ensures { Reads (λ x. x.0) (λ x. x.1.now) (TokenStep starts ends (Later room)) bytes.now result }
+    ensures { Reads (λ x. x.0) (λ x. x.1.now) (TokenStep (tokens_of notation) starts ends (Later room)) bytes.now result }
 {
     match first(bytes) {
         None => Err(ReadError::Bad(0)),
@@ -79,7 +83,7 @@ fn later_token(
                 if room == 0 {
                     return Err(ReadError::Bad(bytes.len()));
                 }
-                let (token, rest) = read_token(after, false, ends)?;
+                let (token, rest) = read_token(after, notation, false, ends)?;
                 return Ok((Some(token), rest));
             }
             Err(ReadError::Bad(bytes.len()))
@@ -90,6 +94,7 @@ fn later_token(
 /// At most so many tokens up to the bracket, and the bytes after it. Start may stand first if `starts`, End last if `ends`.
 pub(crate) fn seq(
     bytes: &[u8],
+    notation: Notation,
     room: u32,
     starts: bool,
     ends: bool,
@@ -97,9 +102,9 @@ pub(crate) fn seq(
 ) -> Result<(Seq, &[u8]), ReadError>
     requires some { 0 < room }
     requires few { room ≤ 3 }
-    ensures { Reads (λ x. x.0) (λ x. x.1.now) (TokenSeq starts ends (AtStart room may_be_empty)) bytes.now result }
+    ensures { Reads (λ x. x.0) (λ x. x.1.now) (TokenSeq (tokens_of notation) starts ends (AtStart room may_be_empty)) bytes.now result }
 {
-    let (next, after) = first_token(bytes, starts, ends, room, may_be_empty)?;
+    let (next, after) = first_token(bytes, notation, starts, ends, room, may_be_empty)?;
     let Some(token) = next else {
         return Ok((Seq::empty(), after));
     };
@@ -107,7 +112,7 @@ pub(crate) fn seq(
     let mut rest = after;
     let mut left = room_with(room, token);
     loop {
-        let (next, after) = later_token(rest, starts, ends, left)?;
+        let (next, after) = later_token(rest, notation, starts, ends, left)?;
         let Some(token) = next else {
             return Ok((tokens, after));
         };

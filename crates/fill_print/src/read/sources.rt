@@ -5,7 +5,9 @@ ghost use Rattle.fill_tree.specs.Meaning.{source_tree, atom_tree};
 ghost use Rattle.fill_print.specs.Conditions.{Room, ConditionFront, ConditionStep, Conditions, IsRoom, PartFront, SourceFront, at_start};
 ghost use Rattle.fill_print.specs.Grammar.{Column, Constant, FirstCondition, LaterCondition, Lookup, NoAtom, SubPart, WholePart};
 ghost use Rattle.fill_print.specs.Reading.{Reads};
+ghost use Rattle.fill_print.specs.Tokens.{tokens_of};
 
+use crate::notation::Notation;
 use crate::read::bytes::{after, word};
 use crate::read::error::ReadError;
 use crate::read::numbers::number;
@@ -39,27 +41,37 @@ pub(crate) fn constant(
 
 /// A source of at most so many lookups inside each other, and the bytes after it.
 #[cycle(sources)]
-fn source(alloc: Global, bytes: &[u8], depth: u32) -> Result<(Source, &[u8]), ReadError>
-    ensures { Reads (λ x. source_tree x.0) (λ x. x.1.now) (SourceFront depth) bytes.now result }
+fn source(
+    alloc: Global,
+    bytes: &[u8],
+    notation: Notation,
+    depth: u32,
+) -> Result<(Source, &[u8]), ReadError>
+    ensures { Reads (λ x. source_tree x.0) (λ x. x.1.now) (SourceFront (tokens_of notation) depth) bytes.now result }
 {
     if depth == 0 {
         return column(bytes);
     }
     match after(bytes, b'S') {
-        Some(_rest) => lookup(alloc, bytes, depth - 1),
+        Some(_rest) => lookup(alloc, bytes, notation, depth - 1),
         None => column(bytes),
     }
 }
 
 #[cycle(sources)]
-fn lookup(alloc: Global, bytes: &[u8], depth: u32) -> Result<(Source, &[u8]), ReadError>
-    ensures { Reads (λ x. source_tree x.0) (λ x. x.1.now) (Lookup depth) bytes.now result }
+fn lookup(
+    alloc: Global,
+    bytes: &[u8],
+    notation: Notation,
+    depth: u32,
+) -> Result<(Source, &[u8]), ReadError>
+    ensures { Reads (λ x. source_tree x.0) (λ x. x.1.now) (Lookup (tokens_of notation) depth) bytes.now result }
 {
     let rest = word(bytes, b"Select(")?;
     let (column, rest) = number(rest, u32::MAX, b',')?;
     let (table, rest) = number(rest, u32::MAX, b',')?;
     let (key, rest) = number(rest, u32::MAX, b',')?;
-    let (conditions, rest) = conditions(alloc, rest, depth)?;
+    let (conditions, rest) = conditions(alloc, rest, notation, depth)?;
     let select = Select {
         column,
         table,
@@ -74,15 +86,20 @@ fn lookup(alloc: Global, bytes: &[u8], depth: u32) -> Result<(Source, &[u8]), Re
 
 /// The conditions up to the bracket, and the bytes after it.
 #[cycle(sources)]
-fn conditions(alloc: Global, bytes: &[u8], depth: u32) -> Result<(List<Atom>, &[u8]), ReadError>
-    ensures { Reads (λ x. map atom_tree x.0) (λ x. x.1.now) (Conditions depth at_start) bytes.now result }
+fn conditions(
+    alloc: Global,
+    bytes: &[u8],
+    notation: Notation,
+    depth: u32,
+) -> Result<(List<Atom>, &[u8]), ReadError>
+    ensures { Reads (λ x. map atom_tree x.0) (λ x. x.1.now) (Conditions (tokens_of notation) depth at_start) bytes.now result }
 {
     let mut conditions = List::new(alloc);
     let mut rest = bytes;
     let mut room = 3;
     let mut seen = false;
     loop {
-        let (next, after) = next_condition(alloc, rest, depth, room, seen)?;
+        let (next, after) = next_condition(alloc, rest, notation, depth, room, seen)?;
         let Some(condition) = next else {
             return Ok((conditions, after));
         };
@@ -110,24 +127,25 @@ fn seen_with(seen: bool, atom: &Atom) -> bool
 fn next_condition(
     alloc: Global,
     bytes: &[u8],
+    notation: Notation,
     depth: u32,
     room: u32,
     seen: bool,
 ) -> Result<(Option<Atom>, &[u8]), ReadError>
     requires { IsRoom (record { room = room; seen = seen }) }
-    ensures { Reads (λ x. option_map atom_tree x.0) (λ x. x.1.now) (ConditionStep depth (record { room = room; seen = seen })) bytes.now result }
+    ensures { Reads (λ x. option_map atom_tree x.0) (λ x. x.1.now) (ConditionStep (tokens_of notation) depth (record { room = room; seen = seen })) bytes.now result }
 {
     if room == 3 {
-        return first_condition(alloc, bytes, depth);
+        return first_condition(alloc, bytes, notation, depth);
     }
     if !seen {
-        return later_condition(alloc, bytes, depth, room == 1);
+        return later_condition(alloc, bytes, notation, depth, room == 1);
     }
     if room == 0 {
         return no_condition(bytes);
     }
     match after(bytes, b',') {
-        Some(_rest) => later_condition(alloc, bytes, depth, false),
+        Some(_rest) => later_condition(alloc, bytes, notation, depth, false),
         None => no_condition(bytes),
     }
 }
@@ -144,11 +162,12 @@ fn no_condition(bytes: &[u8]) -> Result<(Option<Atom>, &[u8]), ReadError>
 fn first_condition(
     alloc: Global,
     bytes: &[u8],
+    notation: Notation,
     depth: u32,
 ) -> Result<(Option<Atom>, &[u8]), ReadError>
-    ensures { Reads (λ x. option_map atom_tree x.0) (λ x. x.1.now) (FirstCondition depth) bytes.now result }
+    ensures { Reads (λ x. option_map atom_tree x.0) (λ x. x.1.now) (FirstCondition (tokens_of notation) depth) bytes.now result }
 {
-    let (atom, rest) = condition(alloc, bytes, depth, false)?;
+    let (atom, rest) = condition(alloc, bytes, notation, depth, false)?;
     Ok((Some(atom), rest))
 }
 
@@ -157,13 +176,14 @@ fn first_condition(
 fn later_condition(
     alloc: Global,
     bytes: &[u8],
+    notation: Notation,
     depth: u32,
     only_part: bool,
 ) -> Result<(Option<Atom>, &[u8]), ReadError>
-    ensures { Reads (λ x. option_map atom_tree x.0) (λ x. x.1.now) (LaterCondition depth only_part) bytes.now result }
+    ensures { Reads (λ x. option_map atom_tree x.0) (λ x. x.1.now) (LaterCondition (tokens_of notation) depth only_part) bytes.now result }
 {
     let rest = word(bytes, b",")?;
-    let (atom, rest) = condition(alloc, rest, depth, only_part)?;
+    let (atom, rest) = condition(alloc, rest, notation, depth, only_part)?;
     Ok((Some(atom), rest))
 }
 
@@ -172,54 +192,70 @@ fn later_condition(
 fn condition(
     alloc: Global,
     bytes: &[u8],
+    notation: Notation,
     depth: u32,
     only_part: bool,
 ) -> Result<(Atom, &[u8]), ReadError>
-    ensures { Reads (λ x. atom_tree x.0) (λ x. x.1.now) (ConditionFront depth only_part) bytes.now result }
+    ensures { Reads (λ x. atom_tree x.0) (λ x. x.1.now) (ConditionFront (tokens_of notation) depth only_part) bytes.now result }
 {
     if only_part {
-        return part(alloc, bytes, depth);
+        return part(alloc, bytes, notation, depth);
     }
     match after(bytes, b'C') {
         Some(_rest) => constant(alloc, bytes, true),
-        None => part(alloc, bytes, depth),
+        None => part(alloc, bytes, notation, depth),
     }
 }
 
 /// An atom that is no constant, and the bytes after it.
 #[cycle(sources)]
-pub(crate) fn part(alloc: Global, bytes: &[u8], depth: u32) -> Result<(Atom, &[u8]), ReadError>
-    ensures { Reads (λ x. atom_tree x.0) (λ x. x.1.now) (PartFront depth) bytes.now result }
+pub(crate) fn part(
+    alloc: Global,
+    bytes: &[u8],
+    notation: Notation,
+    depth: u32,
+) -> Result<(Atom, &[u8]), ReadError>
+    ensures { Reads (λ x. atom_tree x.0) (λ x. x.1.now) (PartFront (tokens_of notation) depth) bytes.now result }
 {
     match after(bytes, b'S') {
-        Some(_rest) => sub(alloc, bytes, depth),
-        None => whole(alloc, bytes, depth),
+        Some(_rest) => sub(alloc, bytes, notation, depth),
+        None => whole(alloc, bytes, notation, depth),
     }
 }
 
 #[cycle(sources)]
-fn whole(alloc: Global, bytes: &[u8], depth: u32) -> Result<(Atom, &[u8]), ReadError>
-    ensures { Reads (λ x. atom_tree x.0) (λ x. x.1.now) (WholePart depth) bytes.now result }
+fn whole(
+    alloc: Global,
+    bytes: &[u8],
+    notation: Notation,
+    depth: u32,
+) -> Result<(Atom, &[u8]), ReadError>
+    ensures { Reads (λ x. atom_tree x.0) (λ x. x.1.now) (WholePart (tokens_of notation) depth) bytes.now result }
 {
     let rest = word(bytes, b"Whole(")?;
-    let (source, rest) = source(alloc, rest, depth)?;
+    let (source, rest) = source(alloc, rest, notation, depth)?;
     let rest = word(rest, b")")?;
     Ok((Atom::Whole(source), rest))
 }
 
 #[cycle(sources)]
-fn sub(alloc: Global, bytes: &[u8], depth: u32) -> Result<(Atom, &[u8]), ReadError>
-    ensures { Reads (λ x. atom_tree x.0) (λ x. x.1.now) (SubPart depth) bytes.now result }
+fn sub(
+    alloc: Global,
+    bytes: &[u8],
+    notation: Notation,
+    depth: u32,
+) -> Result<(Atom, &[u8]), ReadError>
+    ensures { Reads (λ x. atom_tree x.0) (λ x. x.1.now) (SubPart (tokens_of notation) depth) bytes.now result }
 {
     let rest = word(bytes, b"Sub(")?;
-    let (source, rest) = source(alloc, rest, depth)?;
+    let (source, rest) = source(alloc, rest, notation, depth)?;
     let rest = word(rest, b",")?;
-    let (left, rest) = match place(rest) {
+    let (left, rest) = match place(rest, notation) {
         Ok(read) => read,
         Err(e) => return Err(e),
     };
     let rest = word(rest, b",")?;
-    let (right, rest) = match place(rest) {
+    let (right, rest) = match place(rest, notation) {
         Ok(read) => read,
         Err(e) => return Err(e),
     };

@@ -1,14 +1,15 @@
 //! Conditional programs read, and texts that are none.
-use fill_print::{ReadProgramError, print_switch, read_switch};
+use fill_print::{Notation, ReadProgramError, print_switch, read_switch};
 use fill_text::{List, NoMemory};
 use std::alloc::Global;
 use std::test::Fail;
 
 const READ: usize = 1_000_000_000;
 
-/// How many bytes begin a conditional program, or `READ` where the bytes are one that is printed again as they are.
-fn fault(alloc: Global, bytes: &[u8]) -> Result<usize, Fail> {
-    match read_switch(alloc, bytes) {
+/// How many bytes begin a conditional program of the notation, or `READ` where the bytes are one that is printed again as
+/// they are.
+fn fault(alloc: Global, bytes: &[u8], notation: Notation) -> Result<usize, Fail> {
+    match read_switch(alloc, bytes, notation) {
         Ok(switch) => {
             let printed = print_switch(alloc, &switch)?;
             Ok(if printed.as_slice() == bytes { READ } else { 0 })
@@ -18,9 +19,9 @@ fn fault(alloc: Global, bytes: &[u8]) -> Result<usize, Fail> {
     }
 }
 
-/// Whether this is that fault.
+/// Whether this is that fault, by the tokens of saved programs.
 fn is_fault(alloc: Global, bytes: &[u8], expected: usize) -> Result<bool, Fail> {
-    Ok(fault(alloc, bytes)? == expected)
+    Ok(fault(alloc, bytes, Notation::Second)? == expected)
 }
 
 #[test]
@@ -85,6 +86,19 @@ fn hostile_texts_are_refused_at_the_first_wrong_byte(rt: HostRuntime) -> Result<
     for (text, at) in texts {
         assert!(rt; is_fault(rt.alloc(), text, at)?, "{at}");
     }
+    Ok(())
+}
+
+#[test]
+fn a_notation_has_names_for_its_own_tokens(rt: HostRuntime) -> Result<(), Fail> {
+    let equals = b"Switch(else=>Concat(Sub(Col(1),Pos([Equals],[],1),CPos(0))))";
+    assert!(rt; fault(rt.alloc(), equals, Notation::Second)? == 36);
+    assert!(rt; fault(rt.alloc(), equals, Notation::Third)? == READ);
+    assert!(rt; fault(rt.alloc(), equals, Notation::All)? == READ);
+    let no_digit = b"Switch(Match(1,[NonDigit],1)=>Concat();else=>Concat())";
+    assert!(rt; fault(rt.alloc(), no_digit, Notation::Second)? == READ);
+    assert!(rt; fault(rt.alloc(), no_digit, Notation::Third)? == 19);
+    assert!(rt; fault(rt.alloc(), no_digit, Notation::All)? == READ);
     Ok(())
 }
 

@@ -1,13 +1,11 @@
-use Rattle.std.proofs.Common.{codes, true, false, rules, arith, sym, subst, to_z, of_z, w32, FitsSigned}
+use Rattle.std.proofs.Common.{codes, true, rules, sym, subst, w32, FitsSigned}
 use Rattle.std.proofs.lemmas.Int.{to_z-of_z}
-use Rattle.fill_tokens.specs.declared.place.Place.TheVariants.{CPos, Pos}
-use Rattle.fill_print.specs.Grammar.{AtCount, Between, not_empty}
+use Rattle.fill_tokens.specs.declared.place.Place.TheVariants.{CPos}
+use Rattle.fill_print.specs.Grammar.{AtCount}
 use Rattle.fill_print.specs.Ints.{Int}
 use Rattle.fill_print.specs.Reading.{Plain, Takes}
-use Rattle.fill_print.specs.Seqs.{TokenSeq, AtStart}
-use Rattle.fill_print.proofs.Chains.{exit, fails_in, both, done, in_first, in_rest, both_spelled, gives_spelled, plain_one, plain_spelled}
-use Rattle.fill_print.proofs.Sequences.{token_seq_one, token_seq_spelled}
-use Rattle.fill_print.proofs.Signs.{int_one, int_spelled}
+use Rattle.fill_print.proofs.Chains.{exit, both, done, in_first, in_rest, both_spelled, gives_spelled, plain_one}
+use Rattle.fill_print.proofs.Signs.{int_spelled}
 use Rattle.fill_print.proofs.read.places.at_count.Goals as goal
 
 pub returns-in_err-rest : goal.returns-in_err-rest

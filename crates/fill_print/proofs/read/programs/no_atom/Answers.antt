@@ -1,8 +1,6 @@
-use Rattle.std.proofs.Common.{codes, true, false, arith}
-use Rattle.fill_print.specs.Programs.{ProgramAtom, ProgramAtoms}
+use Rattle.std.proofs.Common.{codes}
 use Rattle.fill_print.specs.Reading.{Plain}
-use Rattle.fill_print.proofs.Chains.{exit, fails_in, both, done, in_first, in_rest, both_spelled, gives_spelled, plain_one, plain_spelled}
-use Rattle.fill_print.proofs.ProgramRules.{atoms_spelled, atom_step_one}
+use Rattle.fill_print.proofs.Chains.{exit, both, done, in_first, gives_spelled}
 use Rattle.fill_print.proofs.read.programs.no_atom.Goals as goal
 
 pub returns-in_err-rest : goal.returns-in_err-rest

@@ -1,4 +1,4 @@
-use Rattle.std.proofs.Common.{◌≡◌, ◌∷◌, ◌++◌, [], ap, sym, ◌∙◌, arith}
+use Rattle.std.proofs.Common.{◌∷◌, ◌++◌, [], ap, sym, ◌∙◌, arith}
 use Rattle.fill_print.proofs.Sides.{one_token, two_tokens}
 use Rattle.fill_print.proofs.read.seqs.with_token.Goals as goal
 

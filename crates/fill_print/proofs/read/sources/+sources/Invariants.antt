@@ -2,6 +2,7 @@ use Rattle.std.proofs.Common.{◌+◌, ◌*◌, map}
 use Rattle.fill_tree.specs.Meaning.{atom_tree}
 use Rattle.fill_print.specs.Conditions.{Conditions, IsRoom, at_start}
 use Rattle.fill_print.proofs.Chains.{Leads}
+use Rattle.fill_print.specs.Tokens.{tokens_of}
 use Rattle.fill_print.proofs.read.sources.+sources.Given as goal
 
 abbrev pub decreases-lookup : goal.decreases-lookup
@@ -36,7 +37,7 @@ decreases-source l = 8 * l.depth
 
 abbrev pub invariant-conditions-loop-conditions : goal.invariant-conditions-loop-conditions
 invariant-conditions-loop-conditions l = record {
-  read : Leads (Conditions l.depth at_start) (Conditions l.depth (record { room = l.room; seen = l.seen })) (map atom_tree l.conditions) l.bytes l.rest;
+  read : Leads (Conditions (tokens_of l.notation) l.depth at_start) (Conditions (tokens_of l.notation) l.depth (record { room = l.room; seen = l.seen })) (map atom_tree l.conditions) l.bytes l.rest;
   room : IsRoom (record { room = l.room; seen = l.seen });
 }
 

@@ -1,13 +1,10 @@
-use Rattle.std.proofs.Common.{codes, true, false, arith}
-use Rattle.fill_print.specs.Conditions.{at_start, Conditions, ConditionFront, PlaceFront, SourceFront}
+use Rattle.std.proofs.Common.{codes, arith}
 use Rattle.fill_print.specs.Grammar.{greatest}
 use Rattle.fill_print.specs.Numbers.{Number}
 use Rattle.fill_print.specs.Reading.{Plain}
-use Rattle.fill_print.specs.Texts.{Quoted}
-use Rattle.fill_print.proofs.Chains.{exit, fails_in, both, done, in_first, in_rest, both_spelled, gives_spelled, plain_one, plain_spelled}
-use Rattle.fill_print.proofs.Decimals.{number_one, number_spelled}
-use Rattle.fill_print.proofs.Folds.{column_tree, constant_tree}
-use Rattle.fill_print.proofs.Quotes.{quoted_one, quoted_spelled}
+use Rattle.fill_print.proofs.Chains.{exit, both, done, in_first, in_rest, both_spelled, gives_spelled, plain_one}
+use Rattle.fill_print.proofs.Decimals.{number_spelled}
+use Rattle.fill_print.proofs.Folds.{column_tree}
 use Rattle.fill_print.proofs.read.sources.column.Goals as goal
 
 pub returns-in_err-rest : goal.returns-in_err-rest

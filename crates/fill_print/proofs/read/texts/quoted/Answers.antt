@@ -1,5 +1,5 @@
-use Rattle.std.proofs.Common.{rules, ◌≡◌, true, [], ◌++◌, arith, ◌∷◌, sym, subst, ap, ◌∙◌, Some, None, refl}
-use Rattle.std.specs.Prelude.{encode_utf8, string_bytes, IsUtf8}
+use Rattle.std.proofs.Common.{rules, ◌≡◌, true, [], ◌++◌, arith, ◌∷◌, sym, subst, ap, ◌∙◌, Some}
+use Rattle.std.specs.Prelude.{encode_utf8, string_bytes}
 use Rattle.std.specs.Str.{chars}
 use Rattle.std.proofs.lemmas.Grind.{common_steps}
 use Rattle.fill_print.specs.Reading.{Takes}
