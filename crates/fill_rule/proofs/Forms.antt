@@ -12,7 +12,8 @@ use Rattle.fill_records.specs.Records.{field_of, records_of}
 use Rattle.fill_sheet.specs.Columns.{IsColumn}
 use Rattle.fill_script.specs.Line.{before, has_form, is_word, number_between, numbers_in}
 use Rattle.fill_script.proofs.Lines.{if_some, then_some, number-within}
-use Rattle.fill_apply.specs.Saved.{SavedIs, columns_read}
+use Rattle.fill_tokens.specs.declared.token_set.TheConstants.TokenSet as set
+use Rattle.fill_apply.specs.Saved.{SavedBy, columns_read}
 use Rattle.fill_tree.specs.Switch.{SwitchTree}
 use Rattle.fill_rule.specs.File.{FileIs, Form, ended, form_in, from_line, if_apart, if_rising, inputs_in, is_first, is_header, is_rising, named_form, names_in, output_in, plain_form, says}
 use Rattle.fill_rule.specs.Rule.{AreNamesOf, IsRule, RuleData}
@@ -213,7 +214,7 @@ rule-of-form f s is reads = record {
 
 -- the rule that a file's lines say
 pub file_is : (bytes : List ℕ) (f : Form) (s : SwitchTree) (lines : List (List (List ℕ))) → form_in lines ≡ Ok f → lines ≡ take (length bytes) (records_of bytes)
-    → 2 * length (records_of bytes) ≤ length bytes + 1 → SavedIs f.inputs bytes (Ok s) → FileIs bytes (Ok (record { names = f.names; inputs = f.inputs; output = f.output; switch = s }))
+    → 2 * length (records_of bytes) ≤ length bytes + 1 → SavedBy set.ALL f.inputs bytes (Ok s) → FileIs bytes (Ok (record { names = f.names; inputs = f.inputs; output = f.output; switch = s }))
 file_is bytes f s lines is read few saved =
     let all : take (length bytes) (records_of bytes) ≡ records_of bytes = take_all (length bytes) (records_of bytes) (omega arith) in
     (f, ap form_in (sym (read ∙ all)) ∙ is, saved, refl)

@@ -5,7 +5,8 @@ use Rattle.std.specs.Str.{bytes_eq}
 use Rattle.fill_text.specs.Data.{nth}
 use Rattle.fill_records.specs.Records.{field_of, records_of}
 use Rattle.fill_script.specs.Line.{has_form, is_word, number_between, numbers_in}
-use Rattle.fill_apply.specs.Saved.{SavedIs, is_shown}
+use Rattle.fill_tokens.specs.declared.token_set.TheConstants.TokenSet as set
+use Rattle.fill_apply.specs.Saved.{SavedBy, is_shown}
 use Rattle.fill_apply.specs.declared.error.ApplyError.{ApplyError}
 use Rattle.fill_tree.specs.Switch.{SwitchTree}
 use Rattle.fill_rule.specs.Rule.{RuleData}
@@ -86,11 +87,11 @@ says is (Some line) = is line
 abbrev pub form_in : List (List (List ℕ)) → Result Form ℕ
 form_in lines = if says is_first (nth lines 1) then (if says is_header (nth lines 2) then named_form lines else plain_form lines) else Err 1
 
--- what comes of a file's bytes: the rule that its lines say, with the conditional program that it saves and whose guards read
--- inputs alone, or the number of the first bad line. Want of memory is of no file
+-- what comes of a file's bytes: the rule that its lines say, with the conditional program that it saves, by all
+-- tokens, and whose guards read inputs alone, or the number of the first bad line. Out of memory is of no file
 abbrev pub FileIs : List ℕ → Result RuleData RuleError → Type 0
-FileIs bytes (Ok r) = (form : Form) × (form_in (records_of bytes) ≡ Ok form) × SavedIs form.inputs bytes (Ok r.switch)
+FileIs bytes (Ok r) = (form : Form) × (form_in (records_of bytes) ≡ Ok form) × SavedBy set.ALL form.inputs bytes (Ok r.switch)
     × (r ≡ record { names = form.names; inputs = form.inputs; output = form.output; switch = r.switch })
 FileIs bytes (Err (error.BadLine number)) = (form_in (records_of bytes) ≡ Err number)
-    ⊎ ((form : Form) × (why : ApplyError) × (form_in (records_of bytes) ≡ Ok form) × SavedIs form.inputs bytes (Err why) × (number ≡ length (records_of bytes)))
+    ⊎ ((form : Form) × (why : ApplyError) × (form_in (records_of bytes) ≡ Ok form) × SavedBy set.ALL form.inputs bytes (Err why) × (number ≡ length (records_of bytes)))
 FileIs bytes (Err error.NoMemory) = ⊥
