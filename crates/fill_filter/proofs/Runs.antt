@@ -144,7 +144,7 @@ module _ (r : RuleData) (mark : List ℕ) (places : PlacesData) (buffer now : Li
       elim fin [
         | inl part ↦ subst (λ (k : How). PassWrites r k mark (Some rows) old new) (sym part.0) (all.0 + headers (is_some names), buffer ++ joined all.1, text, held_part old mid new now _ all.3 part.1)
         | inr done ↦ subst (λ (k : How). PassWrites r k mark (Some rows) old new) (sym done.0)
-            (inr (all.0 + headers (is_some names), buffer ++ joined all.1, text, held_done old mid new now _ all.3 done.1))
+            (inr (all.0 + headers (is_some names), (buffer ++ joined all.1, text, held_done old mid new now _ all.3 done.1)))
       ]
   finish_known names named (ending.Refused n column) h rows rest before later none begun all fin =
       let own = rows_by r names mark rows (Some rest) places buffer begun in

@@ -14,6 +14,10 @@ const NAMED: &[u8] =
 const PLAIN: &[u8] =
     b"rule,1\ninputs,1,2\noutput,3\nswitch,\"Switch(else=>Concat(Whole(Col(1)),Const(' ('),Whole(Col(2)),Const(')')))\"\n";
 
+/// What follows a sign that the third profile alone has, up to one that it lacks.
+const SIGNS: &[u8] =
+    b"rule,1\ninputs,1\noutput,2\nswitch,\"Switch(else=>Concat(Sub(Col(1),Pos([Equals],[],1),Pos([NonDigit],[End],1))))\"\n";
+
 /// A run of a rule, and what it comes to.
 #[derive(Clone, Copy)]
 struct Row<'a> {
@@ -39,7 +43,7 @@ fn runs(alloc: Global, row: &Row) -> Result<bool, Fail> {
 
 #[test]
 fn rows_are_filled(rt: HostRuntime) -> Result<(), Fail> {
-    let rows: [Row; 5] = [
+    let rows: [Row; 6] = [
         // The columns stand elsewhere; a filled cell stays, a short record is filled up, and so is a quoted one.
         Row {
             rule: NAMED,
@@ -65,6 +69,14 @@ fn rows_are_filled(rt: HostRuntime) -> Result<(), Fail> {
             status: 0,
             output: b"Ada,London,Ada (London)\nEmmy,Erlangen,x\n",
             line: b"fillcsv: 2 rows, 1 filled\n",
+        },
+        Row {
+            rule: SIGNS,
+            bytes: b"a=bc\n",
+            failing: (0, 0),
+            status: 0,
+            output: b"a=bc,bc\n",
+            line: b"fillcsv: 1 rows, 1 filled\n",
         },
         Row {
             rule: NAMED,
@@ -134,7 +146,7 @@ fn a_run_ends_where_it_must(rt: HostRuntime) -> Result<(), Fail> {
 
 #[test]
 fn a_rule_is_written_as_it_was_read(rt: HostRuntime) -> Result<(), Fail> {
-    for bytes in [NAMED, PLAIN] {
+    for bytes in [NAMED, PLAIN, SIGNS] {
         let rule = read_rule(rt.alloc(), bytes)?;
         let text = rule_text(rt.alloc(), &rule)?;
         assert!(rt; text.as_slice() == bytes);
