@@ -17,7 +17,7 @@ import flashfill  # noqa: E402
 
 EXAMPLES = {it.name: it.read_bytes() for it in sorted((HERE.parent / "examples").glob("*.csv"))}
 SESSIONS = [it for it in EXAMPLES if it.endswith("-session.csv")]
-COLUMNS = ["Label", "Name", "Mail", "City", "1", "4", "5", "", "no", "Name,City", "1,2,3", "Name,Name"]
+COLUMNS = ["Label", "Name", "Mail", "City", "1", "4", "5", "Month", "2", "", "no", "Name,City", "1,2,3", "Name,Name"]
 
 
 def taken(request, count):
@@ -111,10 +111,11 @@ def session(random):
 
 
 def filled(random):
-    words = [random.choice(["people.csv"] * 8 + ["phones.csv", "gone.csv"])]
+    words = [random.choice(["people.csv"] * 6 + ["sales.csv"] * 3 + ["phones.csv", "gone.csv"])]
     words += ["--to", random.choice(COLUMNS)] if random.random() < 0.95 else []
     words += ["--from", random.choice(COLUMNS)] if random.random() < 0.5 else []
-    words += [it for it in ("--state", "--no-header", "--only=sure", "--profile=2", "--help", "--what") if random.random() < 0.2]
+    words += [it for it in ("--state", "--no-header", "--only=sure", "--profile=2", "--explain", "--help", "--what") if random.random() < 0.2]
+    words += random.choice([[]] * 2 + [["--table=months=months.csv", "--key=months:1"], ["--table=m=gone.csv"], ["--key=m:1,1"], ["--key=m:2"]])
     files = dict(EXAMPLES)
     if random.random() < 0.5:
         files["people.csv"] = damaged(random, files["people.csv"], random.randrange(1, 5))

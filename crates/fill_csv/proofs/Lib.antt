@@ -1,3 +1,4 @@
 pub mod Endings
 pub mod Pages
 pub mod Rows
+pub mod Steps

@@ -70,22 +70,22 @@ is_wanting strict refused states = list_any counts refused || (strict && list_an
 -- the words opened a sheet, and all of it was written with its column filled; the flag tells whether something is left to do
 abbrev pub WritesFilled : Bool → AskedData → Files → Option (List ℕ) → Option (List ℕ) → Type 0
 WritesFilled flag asked files old new = (read : SheetRead) × (examples : List Example) × (refused : List RefusedText) × (states : List RowState)
-    × Opens asked files read × AreLearned read.typed (ground_of asked read.sheet) examples refused
-    × AreCellStates read.typed (ground_of asked read.sheet) examples (length (rows_of asked read)) states
+    × Opens asked files read × AreLearned read.typed (ground_of asked read) examples refused
+    × AreCellStates read.typed (ground_of asked read) examples (length (rows_of asked read)) states
     × (flag ≡ is_wanting asked.strict refused states)
-    × WritesRows (form_of asked read) read.typed (ground_of asked read.sheet) examples (rows_of asked read) (head_of asked read) (length (rows_of asked read)) old new
+    × WritesRows (form_of asked read) read.typed (ground_of asked read) examples (rows_of asked read) (head_of asked read) (length (rows_of asked read)) old new
 
 -- the words opened a sheet, and a part of what is to be written was written: a proper prefix of the head and the first rows
 abbrev pub WritesFilledPart : AskedData → Files → Option (List ℕ) → Option (List ℕ) → Type 0
 WritesFilledPart asked files old new = (read : SheetRead) × (examples : List Example) × (refused : List RefusedText) × (n : ℕ)
-    × Opens asked files read × AreLearned read.typed (ground_of asked read.sheet) examples refused × (n ≤ length (rows_of asked read))
-    × WritesPart (form_of asked read) read.typed (ground_of asked read.sheet) examples (rows_of asked read) (head_of asked read) n old new
+    × Opens asked files read × AreLearned read.typed (ground_of asked read) examples refused × (n ≤ length (rows_of asked read))
+    × WritesPart (form_of asked read) read.typed (ground_of asked read) examples (rows_of asked read) (head_of asked read) n old new
 
 -- the words opened a sheet, and the head and the first rows were written whole
 abbrev pub WritesFilledRows : AskedData → Files → Option (List ℕ) → Option (List ℕ) → Type 0
 WritesFilledRows asked files old new = (read : SheetRead) × (examples : List Example) × (refused : List RefusedText) × (n : ℕ)
-    × Opens asked files read × AreLearned read.typed (ground_of asked read.sheet) examples refused × (n ≤ length (rows_of asked read))
-    × WritesRows (form_of asked read) read.typed (ground_of asked read.sheet) examples (rows_of asked read) (head_of asked read) n old new
+    × Opens asked files read × AreLearned read.typed (ground_of asked read) examples refused × (n ≤ length (rows_of asked read))
+    × WritesRows (form_of asked read) read.typed (ground_of asked read) examples (rows_of asked read) (head_of asked read) n old new
 
 -- how the filling of a sheet ends, by its status: what its output got, what it said, and why
 pub record EndsFilled (asked : AskedData) (files : Files) (status : ℕ) (before now : Counts) (old new : Option (List ℕ)) (Said : List ℕ → Type 0) : Type 0 where

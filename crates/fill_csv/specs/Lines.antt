@@ -3,22 +3,13 @@ use Rattle.std.specs.Prelude.{◌≡◌, ℕ, List, ◌++◌, codes}
 use Rattle.std.specs.Fmt.{decimal}
 use Rattle.fill_sheet.specs.declared.error.SheetError.{SheetError}
 use Rattle.fill_sheet.specs.declared.error.SheetError.TheVariants as sheet
+use Rattle.fill_lookups.specs.Lines.{line_of, memory_line}
 use Rattle.fill_columns.specs.declared.error.ChoiceError.{ChoiceError}
 use Rattle.fill_columns.specs.declared.error.ChoiceError.TheVariants as choice
 use Rattle.fill_columns.specs.Choice.{Refusal, Missing, Ambiguous, Filled, Again, Present, Full, TooMany, Nothing}
 
--- the line of a file's name and of a text, which has the line's end
-abbrev pub line_of : List ℕ → List ℕ → List ℕ
-line_of name text = codes "fillcsv: " ++ (name ++ (codes ": " ++ text))
-
 abbrev pub unread_line : List ℕ → List ℕ
 unread_line name = line_of name (codes "cannot be read\n")
-
-abbrev pub long_line : List ℕ → List ℕ
-long_line name = line_of name (codes "more than 16777216 bytes\n")
-
-abbrev pub memory_line : List ℕ
-memory_line = codes "fillcsv: out of memory\n"
 
 abbrev pub output_line : List ℕ
 output_line = codes "fillcsv: output cannot be written\n"

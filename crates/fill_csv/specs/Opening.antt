@@ -1,7 +1,7 @@
--- From the file of a sheet to what is learned from: the steps, and what each one may stop at.
+-- From the files of a sheet and its tables to what is learned from: the steps, and what each one may stop at.
 use Rattle.std.specs.Prelude.{ℕ, ◌+◌, ◌-◌, ◌&&◌, List, [], ◌∷◌, length, map, nat_le, min, take, Bool, true, false, if◌then◌else◌, nat_lt, Option, None, Some, Result, Ok, Err}
 use Rattle.std.specs.Str.{bytes_eq, chars}
-use Rattle.fill_text.specs.Data.{SheetData}
+use Rattle.fill_text.specs.Data.{SheetData, TableData}
 use Rattle.fill_records.specs.Records.{records_of}
 use Rattle.fill_sheet.specs.Sheet.{headers, read_sheet}
 use Rattle.fill_sheet.specs.declared.error.SheetError.{SheetError}
@@ -10,24 +10,18 @@ use Rattle.fill_columns.specs.Columns.{names_of, width}
 use Rattle.fill_columns.specs.Choice.{ChoiceData, Refusal, choice_after, choice_in}
 use Rattle.fill_tree.specs.declared.user.Example.{Example}
 use Rattle.fill_words.specs.Words.{AskedData, New, TargetData, There, TypedData}
-use Rattle.fill_csv.specs.Lines.{choice_line, long_line, row_line, sheet_line}
+use Rattle.fill_lookups.specs.Files.{file_opens}
+use Rattle.fill_csv.specs.Lines.{choice_line, row_line, sheet_line}
+use Rattle.fill_lookups.specs.Tables.{lookups_open}
 
--- the bytes of a file that is there and not too long
-abbrev pub bytes_of : List ℕ → Option (List ℕ) → Opened (List ℕ)
-bytes_of name None = Unread name
-bytes_of name (Some bytes) = if nat_lt 16777216 (length bytes) then Refused (long_line name) else Passed bytes
-
--- the file of this name is read
-abbrev pub file_opens : Held → List ℕ → Opening (List ℕ)
-file_opens held name = record { reads = name ∷ []; outcome = bytes_of name (held name) }
-
--- a sheet that was read: its bytes, the columns that were chosen in it, its rows in these columns, and the texts that are
--- typed for rows
+-- a sheet that was read: its bytes, the columns that were chosen in it, its rows in these columns, the texts that are
+-- typed for rows, and the tables in which rules may look up
 pub record SheetRead : Type 0 where
   pub bytes : List ℕ
   pub choice : ChoiceData
   pub sheet : SheetData
   pub typed : List Example
+  pub tables : List TableData
 
 -- the records that are read: a sheet has 20,000 at most
 abbrev pub records_in : List ℕ → List (List (List ℕ))
@@ -82,7 +76,7 @@ abbrev pub with_examples : List ℕ → ChoiceData → SheetData → Opened (Lis
 with_examples bytes choice sheet NotACommand = NotACommand
 with_examples bytes choice sheet (Unread name) = Unread name
 with_examples bytes choice sheet (Refused line) = Refused line
-with_examples bytes choice sheet (Passed typed) = Passed (record { bytes = bytes; choice = choice; sheet = sheet; typed = typed })
+with_examples bytes choice sheet (Passed typed) = Passed (record { bytes = bytes; choice = choice; sheet = sheet; typed = typed; tables = [] })
 
 -- the rows in the chosen columns with the texts for them, or why there are none
 abbrev pub with_rows : AskedData → List ℕ → ChoiceData → Result SheetData SheetError → Opened SheetRead
@@ -100,9 +94,21 @@ with_choice asked bytes (Err e) = Refused (choice_line asked.file e)
 abbrev pub sheet_in : AskedData → List ℕ → Opened SheetRead
 sheet_in asked bytes = with_choice asked bytes (choice_of asked (records_in bytes))
 
--- the file is read and checked
+-- a sheet with tables
+abbrev pub with_tables : SheetRead → List TableData → SheetRead
+with_tables read tables = record read { tables = tables }
+
+-- a sheet, and then its tables and their keys
+abbrev pub from_sheet : AskedData → Held → SheetRead → Opening SheetRead
+from_sheet asked held read = and_then (lookups_open held [] asked.lookups) (λ tables. at_once (Passed (with_tables read tables)))
+
+-- the bytes of a sheet's file are checked, and then come its tables
+abbrev pub from_bytes : AskedData → Held → List ℕ → Opening SheetRead
+from_bytes asked held bytes = and_then (at_once (sheet_in asked bytes)) (from_sheet asked held)
+
+-- the sheet's file is read and checked, and then those of its tables
 abbrev pub sheet_opens : AskedData → Held → Opening SheetRead
-sheet_opens asked held = and_then (file_opens held asked.file) (λ bytes. at_once (sheet_in asked bytes))
+sheet_opens asked held = and_then (file_opens held asked.file) (from_bytes asked held)
 
 -- the byte order mark
 abbrev pub mark : List ℕ

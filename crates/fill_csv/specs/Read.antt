@@ -9,7 +9,7 @@ use Rattle.fill_csv.specs.declared.opening.SheetRead.{SheetRead as Code}
 
 -- what it stands for
 abbrev pub read_data : Code → SheetRead
-read_data r = record { bytes = r.bytes; choice = choice_data r.choice; sheet = r.sheet; typed = r.typed }
+read_data r = record { bytes = r.bytes; choice = choice_data r.choice; sheet = r.sheet; typed = r.typed; tables = r.tables }
 
 -- its parts are those of its bytes: the records that were read, one for each row of the sheet, and a column that counts from 1
 pub record AreParts (asked : AskedData) (r : Code) : Type 0 where

@@ -4,7 +4,8 @@ use Rattle.std.specs.Io.KnownBytes.{Appends}
 use Rattle.fill_edge.specs.Outside.{Rose, AppendsPart}
 use Rattle.fill_open.specs.declared.stop.Stop.{Stop}
 use Rattle.fill_open.specs.declared.stop.Stop.TheVariants as stop
-use Rattle.fill_csv.specs.Lines.{memory_line, unread_line}
+use Rattle.fill_lookups.specs.Lines.{memory_line}
+use Rattle.fill_csv.specs.Lines.{unread_line}
 
 -- the status of a stop
 abbrev pub status_of : Stop → ℕ

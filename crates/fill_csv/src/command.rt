@@ -3,7 +3,8 @@ ghost use Rattle.std.specs.Prelude.{◌≡◌, ◌⊎◌, ◌≤◌, map, string
 ghost use Rattle.fill_edge.specs.Outside.{Rose};
 ghost use Rattle.fill_words.specs.Words.{AskedData, Asks, Shows, Wrong, asked_in};
 ghost use Rattle.fill_csv.specs.Ends.{EndsFilled};
-ghost use Rattle.fill_csv.specs.Lines.{memory_line, output_line};
+ghost use Rattle.fill_lookups.specs.Lines.{memory_line};
+ghost use Rattle.fill_csv.specs.Lines.{output_line};
 ghost use Rattle.fill_csv.specs.Said.{Says};
 
 use crate::fill::fill;

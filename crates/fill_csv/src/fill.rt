@@ -1,5 +1,5 @@
 //! Filling a sheet.
-ghost use Rattle.std.specs.Prelude.{◌≡◌, ◌⊎◌, ◌≤◌, ℕ, List as Listed, [], IfOk, IfSome, IsErrOf, drop, length, true};
+ghost use Rattle.std.specs.Prelude.{◌≡◌, ◌⊎◌, ◌≤◌, ℕ, List as Listed, [], All, IfOk, IfSome, IsErrOf, drop, length, map, true};
 ghost use Rattle.std.specs.List.{list_any};
 ghost use Rattle.std.specs.Io.KnownBytes.{Keeps};
 ghost use Rattle.fill_edge.specs.Outside.{Rose};
@@ -9,13 +9,15 @@ ghost use Rattle.fill_tree.specs.declared.user.Example.{Example};
 ghost use Rattle.fill_report.specs.declared.rows.RowState.{RowState};
 ghost use Rattle.fill_filled.specs.Filled.{AreCellStates, WritesPart, WritesRows, is_unsure};
 ghost use Rattle.fill_filled.specs.Learned.{AreLearned};
-ghost use Rattle.fill_words.specs.Words.{data_of};
+ghost use Rattle.fill_words.specs.Words.{IsLookup, data_of, lookup_data};
 ghost use Rattle.fill_csv.specs.Ends.{EndsFilled, form_of, head_of, rows_of};
-ghost use Rattle.fill_csv.specs.Lines.{memory_line, output_line};
+ghost use Rattle.fill_lookups.specs.Lines.{memory_line};
+ghost use Rattle.fill_csv.specs.Lines.{output_line};
 ghost use Rattle.fill_csv.specs.Ground.{ground_of, profile_of, settings_of};
 ghost use Rattle.fill_csv.specs.Said.{Says};
 ghost use Rattle.fill_csv.specs.Read.{AreParts, read_data};
 
+use crate::explain::Spoken;
 use crate::head;
 use crate::opening::{SheetRead, open_sheet};
 use crate::stop::{MEMORY_LINE, OUTPUT_LINE, say, tell};
@@ -25,7 +27,6 @@ use fill_filled::{Filling, Form, Refused, Summary, learn, write_filled};
 use fill_records::Record;
 use fill_report::Halt;
 use fill_session::Session;
-use fill_tables::Tables;
 use fill_text::{List, NoMemory};
 use fill_tree::{Constants, Example, Profile, Settings};
 use fill_words::Asked;
@@ -40,6 +41,7 @@ pub(crate) fn fill<C: Cabinet, O: Sink, E: Sink, L: Ledger>(
     err: &mut E,
     steps: &mut Steps<L>,
 ) -> u8
+    requires { All IsLookup (map lookup_data asked.now.lookups.items) }
     ensures ends { EndsFilled (data_of asked.now) (C.files cabinet.old) result (C.faults cabinet.old) (C.faults cabinet.new) (O.written out.old) (O.written out.new)
         (Says (E.written err.old) (E.written err.new) (E.faults err.old) (E.faults err.new)) }
     ensures fault { result ≡ 4 → Rose (O.faults out.old) (O.faults out.new) }
@@ -79,22 +81,22 @@ fn tell_of<E: Sink>(alloc: Global, asked: &Asked, told: &Told, err: &mut E)
     told.say(alloc, asked.header, err);
 }
 
-/// The settings that words ask for, by the number of the profile.
-fn settings_of(profile: u8) -> Settings
-    ensures value { result ≡ settings_of profile }
+/// The settings that words ask for, by the number of the profile and how many lookups may stand inside each other.
+fn settings_of(profile: u8, depth: u8) -> Settings
+    ensures value { result ≡ settings_of profile depth }
     ensures bounded { AreSettings result }
 {
+    let profile = profile_of(profile);
     Settings {
-        depth: 1,
+        depth: depth.min(profile.depth),
         constants: Constants::Any,
-        profile: profile_of(profile),
+        profile,
     }
 }
 
 /// The profile of a number.
 fn profile_of(number: u8) -> Profile
     ensures value { result ≡ profile_of number }
-    ensures deep { 1 ≤ result.depth }
     ensures bounded { result.depth ≤ 3 }
 {
     match number {
@@ -114,30 +116,35 @@ fn write<O: Sink, L: Ledger>(
 ) -> Result<Told, Halt>
     requires { AreParts (data_of asked.now) read }
     ensures done { IfOk result (λ told. (examples : Listed Example) × (states : Listed RowState)
-        × AreLearned read.typed (ground_of (data_of asked.now) read.sheet) examples told.refused
-        × AreCellStates read.typed (ground_of (data_of asked.now) read.sheet) examples (length (rows_of (data_of asked.now) (read_data read))) states
+        × AreLearned read.typed (ground_of (data_of asked.now) (read_data read)) examples told.refused
+        × AreCellStates read.typed (ground_of (data_of asked.now) (read_data read)) examples (length (rows_of (data_of asked.now) (read_data read))) states
         × (told.summary.unsure ≡ list_any is_unsure states)
-        × (let d = data_of asked.now in let r = read_data read in WritesRows (form_of d r) read.typed (ground_of d read.sheet) examples (rows_of d r) (head_of d r) (length (rows_of d r)) (O.written out.old) (O.written out.new))) }
-    ensures part { IsErrOf result Halt.Fault → ((examples : Listed Example) × (refused : Listed Refused) × (n : ℕ) × AreLearned read.typed (ground_of (data_of asked.now) read.sheet) examples refused
-        × (let d = data_of asked.now in let r = read_data read in (n ≤ length (rows_of d r)) × WritesPart (form_of d r) read.typed (ground_of d read.sheet) examples (rows_of d r) (head_of d r) n (O.written out.old) (O.written out.new))) }
+        × (let d = data_of asked.now in let r = read_data read in WritesRows (form_of d r) read.typed (ground_of d r) examples (rows_of d r) (head_of d r) (length (rows_of d r)) (O.written out.old) (O.written out.new))) }
+    ensures part { IsErrOf result Halt.Fault → ((examples : Listed Example) × (refused : Listed Refused) × (n : ℕ) × AreLearned read.typed (ground_of (data_of asked.now) (read_data read)) examples refused
+        × (let d = data_of asked.now in let r = read_data read in (n ≤ length (rows_of d r)) × WritesPart (form_of d r) read.typed (ground_of d r) examples (rows_of d r) (head_of d r) n (O.written out.old) (O.written out.new))) }
     ensures fault { IsErrOf result Halt.Fault → Rose (O.faults out.old) (O.faults out.new) }
-    ensures memory { IsErrOf result Halt.NoMemory → Keeps (O.written out.old) (O.written out.new) ⊎ ((examples : Listed Example) × (refused : Listed Refused) × (n : ℕ) × AreLearned read.typed (ground_of (data_of asked.now) read.sheet) examples refused
-        × (let d = data_of asked.now in let r = read_data read in (n ≤ length (rows_of d r)) × WritesRows (form_of d r) read.typed (ground_of d read.sheet) examples (rows_of d r) (head_of d r) n (O.written out.old) (O.written out.new))) }
+    ensures memory { IsErrOf result Halt.NoMemory → Keeps (O.written out.old) (O.written out.new) ⊎ ((examples : Listed Example) × (refused : Listed Refused) × (n : ℕ) × AreLearned read.typed (ground_of (data_of asked.now) (read_data read)) examples refused
+        × (let d = data_of asked.now in let r = read_data read in (n ≤ length (rows_of d r)) × WritesRows (form_of d r) read.typed (ground_of d r) examples (rows_of d r) (head_of d r) n (O.written out.old) (O.written out.new))) }
 {
     let form = head::form_of(asked, &read);
     let head = head::head_of(alloc, asked, &read, &form)?;
+    let spoken = Spoken::of(alloc, asked, &read)?;
     let SheetRead {
         records,
         sheet,
         typed,
+        tables,
         ..
     } = read;
-    let mut session = Session::new(alloc, settings_of(asked.profile), sheet, Tables::new(alloc))?;
+    let settings = settings_of(asked.profile, asked.depth);
+    let mut session = Session::new(alloc, settings, sheet, tables)?;
     let page = Page {
         rows: rows_after(asked.header, records.as_slice()),
         typed: typed.as_slice(),
         form,
         head: head.as_slice(),
+        spoken: &spoken,
+        explain: asked.explain,
     };
     write_page(alloc, &page, &mut session, out, steps)
 }
@@ -153,6 +160,10 @@ struct Page<'a> {
     form: Form,
     /// What stands before the records of rows.
     head: &'a [u8],
+    /// By which names rules are told.
+    spoken: &'a Spoken,
+    /// Whether it is told what else the first cells in doubt could be.
+    explain: bool,
 }
 
 /// The records after the header, where there is one.
@@ -161,6 +172,28 @@ fn rows_after(header: bool, records: &[Record]) -> &[Record]
 {
     let start = if header { records.len().min(1) } else { 0 };
     &records[start..]
+}
+
+/// What else the cells of the first rows in doubt could be, as far as memory goes. Rows count from 1, and 0 ends them.
+fn doubts_of(alloc: Global, page: &Page<'_>, session: &Session, rows: &[u32]) -> Vec<String>
+    requires { let p = page.now in length p.rows.now ≡ length session.now.spaces.ground.sheet.rows }
+{
+    let mut doubts = Vec::new(alloc);
+    if !page.explain {
+        return doubts;
+    }
+    for row in rows {
+        if *row == 0 || *row as usize > page.rows.len() {
+            break;
+        }
+        let Ok(doubt) = page.spoken.doubt_of(alloc, session, *row) else {
+            break;
+        };
+        if doubts.push(doubt).is_err() {
+            break;
+        }
+    }
+    doubts
 }
 
 /// Learns from the sheet's column, and writes the sheet with it filled.
@@ -196,7 +229,15 @@ fn write_page<O: Sink, L: Ledger>(
         head: page.head,
     };
     match write_filled(alloc, &filling, &mut summary, out) {
-        Ok(()) => Ok(Told { refused, summary }),
+        Ok(()) => Ok(Told {
+            refused,
+            summary,
+            rule: page
+                .spoken
+                .rule_of(alloc, session)
+                .unwrap_or(Vec::new(alloc)),
+            doubts: doubts_of(alloc, page, session, &summary.counts.doubtful),
+        }),
         Err(halt) => Err(halt),
     }
 }

@@ -2,6 +2,7 @@
 #![tactic(auto)]
 
 mod command;
+mod explain;
 mod fill;
 mod head;
 mod lines;

@@ -1,28 +1,30 @@
 //! Opening a sheet: its file, the columns that words choose, and its rows.
-ghost use Rattle.std.specs.Prelude.{◌≡◌, ◌≢◌, ◌≤◌, ℕ, List as Listed, IfOk, IfErr, MatchResult, Ok, Err, Some, length, map, option_copied, string_bytes};
+ghost use Rattle.std.specs.Prelude.{◌≡◌, ◌≢◌, ◌≤◌, ℕ, List as Listed, [], All, IfOk, IfErr, Ok, Err, Some, length, map, option_copied, string_bytes};
 ghost use Rattle.fill_edge.specs.Outside.{NoneFell};
 ghost use Rattle.fill_open.specs.Opened.{Told, Passed};
 ghost use Rattle.fill_open.specs.Stops.{Refuses as IsRefusedBy, Stops};
 ghost use Rattle.fill_records.specs.Records.{records_of};
 ghost use Rattle.fill_sheet.specs.Columns.{AreInputs, IsOutput};
 ghost use Rattle.fill_sheet.specs.Sheet.{read_sheet, row_records};
-ghost use Rattle.fill_words.specs.Words.{data_of, target_data};
+ghost use Rattle.fill_words.specs.Words.{IsLookup, data_of, lookup_data, target_data};
 ghost use Rattle.fill_columns.specs.Choice.{Refuses, choice_data};
 ghost use Rattle.fill_columns.specs.Columns.{names_of};
-ghost use Rattle.fill_csv.specs.Opening.{choice_for, choice_of, file_opens, header_of, output_of, records_in, rows_in, sheet_in, sheet_opens, with_choice, with_rows};
+ghost use Rattle.fill_csv.specs.Opening.{choice_for, choice_of, header_of, output_of, records_in, rows_in, sheet_in, sheet_opens, with_choice, with_rows};
 ghost use Rattle.fill_csv.specs.Read.{AreParts, read_data};
 
-use crate::lines::{choice_line, long_line, sheet_line};
+use crate::lines::{choice_line, sheet_line};
 use crate::typed::examples_in;
 use fill_columns::{Choice, ChoiceError, choose, choose_new, width};
-use fill_edge::{Cabinet, LARGEST_FILE, ReadError, read_all};
+use fill_edge::Cabinet;
+use fill_lookups::{open_file, open_tables, refused};
 use fill_open::Stop;
 use fill_records::{Record, read_records};
 use fill_sheet::Sheet;
+use fill_tables::Tables;
 use fill_text::{List, NoMemory};
 use fill_tree::Example;
 use fill_words::{Asked, Target};
-use std::alloc::{AllocError, Global};
+use std::alloc::Global;
 
 /// The most records that are read, the header among them.
 const MOST_RECORDS: usize = 20_000;
@@ -40,51 +42,37 @@ pub(crate) struct SheetRead {
     pub sheet: Sheet,
     /// The texts that are typed for rows.
     pub typed: List<Example>,
+    /// The tables in which rules may look up.
+    pub tables: Tables,
 }
 
-/// Reads the file that the words name, and chooses their columns in it.
+/// Reads the sheet that the words name, chooses their columns in it, and reads its tables.
 pub(crate) fn open_sheet<C: Cabinet>(
     alloc: Global,
     cabinet: &mut C,
     asked: &Asked,
 ) -> Result<SheetRead, Stop>
+    requires { All IsLookup (map lookup_data asked.now.lookups.items) }
     ensures ready { IfOk result (λ read. Told (C.files cabinet.old) (λ held. (sheet_opens (data_of asked.now) held).outcome ≡ Passed (read_data read))) }
     ensures parts { IfOk result (AreParts (data_of asked.now)) }
     ensures stopped { IfErr result (Stops (sheet_opens (data_of asked.now)) (C.files cabinet.old) (C.faults cabinet.old) (C.faults cabinet.new)) }
     ensures files { C.files cabinet.new ≡ C.files cabinet.old }
     ensures later { NoneFell (C.faults cabinet.old) (C.faults cabinet.new) }
 {
-    match open_file(alloc, cabinet, asked.file.as_str()) {
-        Ok(bytes) => sheet_in(alloc, asked, bytes),
+    let bytes = match open_file(alloc, cabinet, asked.file.as_str()) {
+        Ok(bytes) => bytes,
+        Err(stop) => return Err(stop),
+    };
+    let mut read = match sheet_in(alloc, asked, bytes) {
+        Ok(read) => read,
+        Err(stop) => return Err(stop),
+    };
+    match open_tables(alloc, cabinet, &asked.lookups) {
+        Ok(tables) => {
+            read.tables = tables;
+            Ok(read)
+        }
         Err(stop) => Err(stop),
-    }
-}
-
-/// The bytes of a file.
-fn open_file<C: Cabinet>(alloc: Global, cabinet: &mut C, name: &str) -> Result<List<u8>, Stop>
-    ensures ready { IfOk result (λ bytes. Told (C.files cabinet.old) (λ held. (file_opens held name.now).outcome ≡ Passed bytes)) }
-    ensures stopped { IfErr result (Stops (λ held. file_opens held name.now) (C.files cabinet.old) (C.faults cabinet.old) (C.faults cabinet.new)) }
-    ensures files { C.files cabinet.new ≡ C.files cabinet.old }
-    ensures later { NoneFell (C.faults cabinet.old) (C.faults cabinet.new) }
-{
-    match read_all(alloc, cabinet, name, LARGEST_FILE) {
-        Ok(bytes) => Ok(bytes),
-        Err(ReadError::NoMemory) => Err(Stop::NoMemory),
-        Err(ReadError::TooLong { .. }) => Err(refused(long_line(alloc, name))),
-        Err(_) => match String::from_str(alloc, name) {
-            Ok(name) => Err(Stop::Unread(name)),
-            Err(_) => Err(Stop::NoMemory),
-        },
-    }
-}
-
-/// The refusal with this line, or want of memory where there was none for the line.
-pub(crate) fn refused(line: Result<String, AllocError>) -> Stop
-    ensures { MatchResult line (λ text. result ≡ Stop.Refused text) (λ _. result ≡ Stop.NoMemory) }
-{
-    match line {
-        Ok(line) => Stop::Refused(line),
-        Err(AllocError) => Stop::NoMemory,
     }
 }
 
@@ -112,6 +100,7 @@ fn sheet_in(alloc: Global, asked: &Asked, bytes: List<u8>) -> Result<SheetRead, 
         choice,
         sheet,
         typed,
+        tables: Tables::new(alloc),
     })
 }
 
@@ -167,7 +156,7 @@ fn rows_in(alloc: Global, asked: &Asked, choice: &Choice, bytes: &[u8]) -> Resul
     requires inputs { AreInputs choice.now.from.items }
     requires output { IsOutput choice.now.from.items (Some choice.now.to) }
     ensures ready { IfOk result (λ made. rows_in (data_of asked.now) bytes.now (choice_data choice.now)
-        ≡ Passed (record { bytes = bytes.now; choice = choice_data choice.now; sheet = made.sheet; typed = made.typed })) }
+        ≡ Passed (record { bytes = bytes.now; choice = choice_data choice.now; sheet = made.sheet; typed = made.typed; tables = [] })) }
     ensures whole { IfOk result (λ made. length made.sheet.rows ≡ length (row_records asked.now.header (records_of bytes.now))) }
     ensures stopped { IfErr result (IsRefusedBy (rows_in (data_of asked.now) bytes.now (choice_data choice.now))) }
 {

@@ -1,7 +1,7 @@
 //! Why there is no filled sheet, told on `err`.
 ghost use Rattle.std.specs.Prelude.{◌≡◌, ◌≢◌, ◌⊎◌, IfOk, string_bytes};
 ghost use Rattle.fill_csv.specs.Said.{Says, status_of, stop_line};
-ghost use Rattle.fill_csv.specs.Lines.{memory_line};
+ghost use Rattle.fill_lookups.specs.Lines.{memory_line};
 
 use crate::lines::unread_line;
 use fill_edge::{Sink, write_all};

@@ -17,6 +17,10 @@ pub(crate) struct Told {
     pub refused: List<Refused>,
     /// How many cells have each state.
     pub summary: Summary,
+    /// The rule that was learned, a line for each of its cases.
+    pub rule: Vec<String>,
+    /// What else the cells of the first rows in doubt could be.
+    pub doubts: Vec<String>,
 }
 
 impl Told {
@@ -31,8 +35,8 @@ impl Told {
         strict && self.summary.unsure
     }
 
-    /// Tells on `err` which given texts are no examples, how many cells have each state, and the first rows in doubt.
-    /// Rows are numbered as a spreadsheet shows them, the header among them. Want of memory and failed writes are passed
+    /// Tells on `err` which given texts are no examples, how many cells have each state, the rule, and the first rows in
+    /// doubt. Rows are numbered as a spreadsheet shows them, the header among them. Want of memory and failed writes are passed
     /// over.
     pub(crate) fn say<E: Sink>(&self, alloc: Global, header: bool, err: &mut E) {
         let above = if header { 1 } else { 0 };
@@ -59,7 +63,19 @@ impl Told {
             );
         }
         say_line(err, counts_text(alloc, &self.summary.counts));
-        say_line(err, doubtful_text(alloc, above, &self.summary.counts));
+        for line in &self.rule {
+            say_line(err, rule_text(alloc, line.as_str()));
+        }
+        if self.doubts.is_empty() {
+            say_line(err, doubtful_text(alloc, above, &self.summary.counts));
+        }
+        for (i, doubt) in self.doubts.iter().enumerate() {
+            let row = self.summary.counts.doubtful.get(i).copied().unwrap_or(0);
+            say_line(
+                err,
+                doubt_text(alloc, row.saturating_add(above), doubt.as_str()),
+            );
+        }
     }
 }
 
@@ -78,6 +94,16 @@ fn say_line<E: Sink>(err: &mut E, line: Result<String, AllocError>) {
     if let Ok(line) = line {
         let _ = write_all(err, line.as_bytes());
     }
+}
+
+/// A case of the rule.
+fn rule_text(alloc: Global, line: &str) -> Result<String, AllocError> {
+    format!(in alloc; "fillcsv: rule: {line}\n")
+}
+
+/// What else the cell of a row could be.
+fn doubt_text(alloc: Global, row: u32, doubt: &str) -> Result<String, AllocError> {
+    format!(in alloc; "fillcsv: row {row}: {doubt}\n")
 }
 
 /// How many cells have each state.

@@ -7,7 +7,7 @@ ghost use Rattle.fill_words.specs.Words.{data_of, typed_data};
 ghost use Rattle.fill_csv.specs.Opening.{example_of, examples_in, is_there, missing_row, with_missing};
 
 use crate::lines::row_line;
-use crate::opening::refused;
+use fill_lookups::refused;
 use fill_open::Stop;
 use fill_text::{List, NoMemory, Text};
 use fill_tree::Example;

@@ -1,5 +1,5 @@
 -- From what a run promises of its sinks to what is answered.
-use Rattle.std.proofs.Common.{◌≡◌, ◌⊎◌, ◌≤◌, ℕ, List, [], Some, inl, inr, arith}
+use Rattle.std.proofs.Common.{◌≡◌, ◌⊎◌, ◌≤◌, ℕ, List, [], Some, true, inl, inr, arith}
 use Rattle.fill_edge.specs.Outside.{Files, Rose}
 use Rattle.fill_open.specs.Apply.{Names}
 use Rattle.fill_open.specs.Asked.{application_in, keys_file_in}
@@ -11,7 +11,7 @@ use Rattle.fill_command.specs.Applied.{EndsApplied}
 use Rattle.fill_command.specs.Keys.{EndsKeys}
 use Rattle.fill_command.specs.Sessions.{EndsSession}
 use Rattle.fill_csv.specs.Ends.{EndsFilled}
-use Rattle.fill_csv.specs.Lines.{memory_line as filled_memory_line}
+use Rattle.fill_lookups.specs.Lines.{memory_line as filled_memory_line}
 use Rattle.fill_csv.specs.Said.{Says as SaysFilled}
 use Rattle.fill_engine.specs.Answer.{AnswerData}
 use Rattle.fill_engine.specs.Programs.{EndsFillcsv, EndsFlashfill, IsNoCommand, no_faults}
@@ -63,6 +63,7 @@ pub record RanFillcsv (words : List (List ℕ)) (files : Files) (r : ℕ) (old n
   pub filled : (asked : AskedData) → asked_in words ≡ Asks asked → EndsFilled asked files r no_faults no_faults (Some old) (Some new) (SaysFilled (Some quiet) (Some said) ago lately)
   pub wrong : asked_in words ≡ Wrong → ((r ≡ 2) ⊎ (r ≡ 6)) × (new ≡ old)
   pub shown : asked_in words ≡ Shows → (r ≡ 0) ⊎ (r ≡ 4) ⊎ (r ≡ 6)
+  pub silent : (asked : AskedData) → asked_in words ≡ Asks asked → asked.quiet ≡ true → r ≤ 1 → said ≡ quiet
   pub memory : r ≡ 6 → SaysFilled (Some quiet) (Some said) ago lately filled_memory_line
   pub fault : r ≡ 4 → Rose before now
   pub statuses : r ≤ 6
@@ -73,6 +74,7 @@ fillcsv_answers words files a ran = record {
   filled = ran.filled;
   wrong = ran.wrong;
   shown = λ is. not_second (a.status ≡ 0) (a.status ≡ 4) (a.status ≡ 6) (λ four. no_rise (ran.fault four)) (ran.shown is);
+  silent = ran.silent;
   memory = ran.memory;
   written = λ four. no_rise (ran.fault four);
   statuses = ran.statuses;

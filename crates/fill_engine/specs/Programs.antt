@@ -1,5 +1,5 @@
 -- What answers a request.
-use Rattle.std.specs.Prelude.{◌≡◌, ◌≢◌, ◌⊎◌, ◌≤◌, ℕ, List, [], Option, None, Some}
+use Rattle.std.specs.Prelude.{◌≡◌, ◌≢◌, ◌⊎◌, ◌≤◌, ℕ, List, [], Option, None, Some, true}
 use Rattle.fill_edge.specs.Memory.{held}
 use Rattle.fill_edge.specs.Outside.{Files}
 use Rattle.fill_open.specs.Apply.{Names}
@@ -13,7 +13,7 @@ use Rattle.fill_command.specs.Applied.{EndsApplied}
 use Rattle.fill_command.specs.Keys.{EndsKeys}
 use Rattle.fill_command.specs.Sessions.{EndsSession}
 use Rattle.fill_csv.specs.Ends.{EndsFilled}
-use Rattle.fill_csv.specs.Lines.{memory_line as filled_memory_line}
+use Rattle.fill_lookups.specs.Lines.{memory_line as filled_memory_line}
 use Rattle.fill_csv.specs.Said.{Says as SaysFilled}
 use Rattle.fill_engine.specs.declared.request.Program.{Program}
 use Rattle.fill_engine.specs.declared.request.Program.TheVariants.{Flashfill, Fillcsv}
@@ -59,6 +59,8 @@ pub record EndsFillcsv (words : List (List ℕ)) (files : Files) (a : AnswerData
   pub filled : (asked : AskedData) → asked_in words ≡ Asks asked → EndsFilled asked files a.status no_faults no_faults (Some []) (Some a.out) (SaysFilled (Some []) (Some a.err) 0 0)
   pub wrong : asked_in words ≡ Wrong → ((a.status ≡ 2) ⊎ (a.status ≡ 6)) × (a.out ≡ [])
   pub shown : asked_in words ≡ Shows → (a.status ≡ 0) ⊎ (a.status ≡ 6)
+  -- where they ask for quiet, nothing is said of a sheet that was written
+  pub silent : (asked : AskedData) → asked_in words ≡ Asks asked → asked.quiet ≡ true → a.status ≤ 1 → a.err ≡ []
   pub memory : a.status ≡ 6 → SaysFilled (Some []) (Some a.err) 0 0 filled_memory_line
   -- no write fails
   pub written : a.status ≢ 4

@@ -1,3 +1,4 @@
 mod OneKind
 pub mod Parts
+mod Proper
 pub mod Rules

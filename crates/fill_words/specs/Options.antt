@@ -16,25 +16,28 @@ flag_rule name = record (plain_rule name) { long = Some name; action = Some SetT
 abbrev pub file_rule : Rule
 file_rule = record (plain_rule (codes "FILE")) { required = true; parser = Some NonEmptyString }
 
-abbrev pub new_rule : Rule
-new_rule = record (value_rule (codes "new")) { parser = Some NonEmptyString }
+-- an option whose value is not empty
+abbrev pub text_rule : Text → Rule
+text_rule name = record (value_rule name) { parser = Some NonEmptyString }
+
+-- an option that may stand several times
+abbrev pub several_rule : Text → Rule
+several_rule name = record (value_rule name) { action = Some Append }
 
 abbrev pub from_rule : Rule
-from_rule = record (value_rule (codes "from")) { action = Some Append; parser = Some NonEmptyString }
-
-abbrev pub example_rule : Rule
-example_rule = record (value_rule (codes "example")) { action = Some Append }
-
-abbrev pub profile_rule : Rule
-profile_rule = record (value_rule (codes "profile")) { defaults = codes "3" ∷ [] }
+from_rule = record (text_rule (codes "from")) { action = Some Append }
 
 -- the words that say what is read
 abbrev pub inputs : List Rule
-inputs = file_rule ∷ value_rule (codes "to") ∷ new_rule ∷ from_rule ∷ flag_rule (codes "no-header") ∷ example_rule ∷ flag_rule (codes "replace") ∷ []
+inputs = file_rule ∷ value_rule (codes "to") ∷ text_rule (codes "new") ∷ from_rule ∷ flag_rule (codes "no-header") ∷ several_rule (codes "example") ∷ flag_rule (codes "replace") ∷ []
+
+-- the words that say in which tables is looked up, and which language the rules have
+abbrev pub rules : List Rule
+rules = several_rule (codes "table") ∷ several_rule (codes "key") ∷ value_rule (codes "depth") ∷ value_rule (codes "profile") ∷ []
 
 -- the words that say what is written
 abbrev pub outputs : List Rule
-outputs = flag_rule (codes "state") ∷ value_rule (codes "only") ∷ flag_rule (codes "strict") ∷ flag_rule (codes "quiet") ∷ profile_rule ∷ []
+outputs = flag_rule (codes "state") ∷ value_rule (codes "only") ∷ flag_rule (codes "strict") ∷ flag_rule (codes "quiet") ∷ flag_rule (codes "explain") ∷ []
 
 -- a command with further rules
 abbrev pub with_rules : App → List Rule → App
@@ -42,4 +45,4 @@ with_rules a rules = on_top (λ s. record s { rules = s.rules ++ rules }) a
 
 -- the words that the program takes: beside these `--help` and `--version`, and `--` before a FILE that begins with `-`
 unfoldable pub app : App
-app = with_rules (with_rules (on_top (λ s. record s { no_binary_name = true; has_version = true }) (new_app (codes "fillcsv"))) inputs) outputs
+app = with_rules (with_rules (with_rules (on_top (λ s. record s { no_binary_name = true; has_version = true }) (new_app (codes "fillcsv"))) inputs) rules) outputs

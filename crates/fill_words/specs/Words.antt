@@ -7,8 +7,12 @@ use Rattle.std.specs.Borrow.{Bor}
 use Rattle.clap.specs.Words.{Kinds, Row, Text, all_of, fault_of, first_of, matches_of}
 use Rattle.clap.specs.declared.error.kind.ErrorKind.{ErrorKind}
 use Rattle.clap.specs.declared.error.kind.ErrorKind.TheVariants.{DisplayHelp, DisplayVersion}
+use Rattle.fill_script.specs.Line.{columns_in as numbers_of_columns}
 use Rattle.fill_script.specs.Number.{number_in}
+use Rattle.fill_tables.specs.Keys.{AreKeyColumns}
 use Rattle.fill_words.specs.declared.asked.Asked.{Asked}
+use Rattle.fill_words.specs.declared.asked.Lookup.{Lookup}
+use Rattle.fill_words.specs.declared.asked.Lookup.TheVariants as lookup
 use Rattle.fill_words.specs.declared.asked.Target.{Target}
 use Rattle.fill_words.specs.declared.asked.Target.TheVariants as target
 use Rattle.fill_words.specs.declared.asked.Typed.{Typed}
@@ -34,6 +38,20 @@ pub record TypedData : Type 0 where
 abbrev pub typed_data : Typed → TypedData
 typed_data e = record { row = e.row; text = string_bytes e.text }
 
+-- a lookup table, by its name and the path of its file, or columns of the table of a name that tell its rows apart
+pub data LookupData : Type 0 where
+  Table : Text → Text → LookupData
+  Key : Text → List ℕ → LookupData
+
+abbrev pub lookup_data : Lookup → LookupData
+lookup_data (lookup.Table name file) = Table (string_bytes name) (string_bytes file)
+lookup_data (lookup.Key table columns) = Key (string_bytes table) columns.items
+
+-- the columns of a key are one to three, and no two of them are equal
+abbrev pub IsLookup : LookupData → Type 0
+IsLookup (Table name file) = ⊤
+IsLookup (Key table columns) = AreKeyColumns columns
+
 -- what words ask for, as `Asked` says it
 pub record AskedData : Type 0 where
   pub file : Text
@@ -42,10 +60,13 @@ pub record AskedData : Type 0 where
   pub header : Bool
   pub examples : List TypedData
   pub replace : Bool
+  pub lookups : List LookupData
+  pub depth : ℕ
   pub states : Bool
   pub only_sure : Bool
   pub profile : ℕ
   pub quiet : Bool
+  pub explain : Bool
   pub strict : Bool
 
 abbrev pub data_of : Asked → AskedData
@@ -56,10 +77,13 @@ data_of a = record {
   header = a.header;
   examples = map typed_data a.examples.items;
   replace = a.replace;
+  lookups = map lookup_data a.lookups.items;
+  depth = a.depth;
   states = a.states;
   only_sure = a.only_sure;
   profile = a.profile;
   quiet = a.quiet;
+  explain = a.explain;
   strict = a.strict;
 }
 
@@ -84,6 +108,12 @@ only_sure_in (Some word) = if bytes_eq word (codes "sure") then Some true else N
 abbrev pub profile_in : Option Text → Option ℕ
 profile_in None = Some 3
 profile_in (Some word) = if bytes_eq word (codes "1") then Some 1
+    else (if bytes_eq word (codes "2") then Some 2 else (if bytes_eq word (codes "3") then Some 3 else None))
+
+-- how many lookups may stand inside each other: 1, 2 or 3
+abbrev pub depth_in : Option Text → Option ℕ
+depth_in None = Some 1
+depth_in (Some word) = if bytes_eq word (codes "1") then Some 1
     else (if bytes_eq word (codes "2") then Some 2 else (if bytes_eq word (codes "3") then Some 3 else None))
 
 -- the column that is filled: `--to` names one that is there, or `--new` a new one, and not both
@@ -129,6 +159,29 @@ with_words before (word ∷ more) = option_and_then (λ now. with_words now more
 abbrev pub examples_in : List Text → Option (List TypedData)
 examples_in words = with_words [] words
 
+-- ---- tables
+
+-- what words give, each one thing, after others
+abbrev pub added : {D : Type 0} → (Text → Option D) → List D → List Text → Option (List D)
+added one before [] = Some before
+added one before (word ∷ more) = option_and_then (λ x. added one (before ++ x ∷ []) more) (one word)
+
+-- the table of a word: its name up to the first `=` (61), and after it the path of its file
+abbrev pub table_in : Text → Option LookupData
+table_in word = if nat_lt (position_or_len (λ b. b == 61) word) (length word)
+    then Some (Table (before_first (λ b. b == 61) word) (after_first (λ b. b == 61) word)) else None
+
+-- the key of a word: a table's name up to the first `:` (58), and after it the numbers of one to three of its columns
+abbrev pub key_in : Text → Option LookupData
+key_in word = if nat_lt (position_or_len (λ b. b == 58) word) (length word)
+    then option_map (Key (before_first (λ b. b == 58) word)) (numbers_of_columns 0 3 4294967295 (columns_in (after_first (λ b. b == 58) word))) else None
+
+-- the tables of words, and then the keys of others
+abbrev pub lookups_in : List Text → List Text → Option (List LookupData)
+lookups_in tables keys = option_and_then (λ before. added key_in before keys) (added table_in [] tables)
+
+-- ---- all options
+
 -- the value of an option
 abbrev pub text_of : Text → List Row → Text
 text_of id rows = unwrap_or (first_of id rows) []
@@ -145,8 +198,10 @@ texts_of id rows = unwrap_or (all_of id rows) []
 pub record ChosenData : Type 0 where
   pub only_sure : Bool
   pub profile : ℕ
+  pub depth : ℕ
   pub to : TargetData
   pub examples : List TypedData
+  pub lookups : List LookupData
 
 abbrev pub data_in : List Row → ChosenData → AskedData
 data_in rows chosen = record {
@@ -156,25 +211,36 @@ data_in rows chosen = record {
   header = not (is_set (codes "no-header") rows);
   examples = chosen.examples;
   replace = is_set (codes "replace") rows;
+  lookups = chosen.lookups;
+  depth = chosen.depth;
   states = is_set (codes "state") rows;
   only_sure = chosen.only_sure;
   profile = chosen.profile;
   quiet = is_set (codes "quiet") rows;
+  explain = is_set (codes "explain") rows;
   strict = is_set (codes "strict") rows;
 }
 
 abbrev pub chosen_data : Chosen → ChosenData
-chosen_data c = record { only_sure = c.only_sure; profile = c.profile; to = target_data c.to; examples = map typed_data c.examples.items }
+chosen_data c = record {
+  only_sure = c.only_sure;
+  profile = c.profile;
+  depth = c.depth;
+  to = target_data c.to;
+  examples = map typed_data c.examples.items;
+  lookups = map lookup_data c.lookups.items;
+}
 
 -- these values, where there are all of them
-abbrev pub chosen : Option Bool → Option ℕ → Option TargetData → Option (List TypedData) → Option ChosenData
-chosen (Some only_sure) (Some profile) (Some to) (Some examples) =
-    Some (record { only_sure = only_sure; profile = profile; to = to; examples = examples })
-chosen _ _ _ _ = None
+abbrev pub chosen : Option Bool → Option ℕ → Option ℕ → Option TargetData → Option (List TypedData) → Option (List LookupData) → Option ChosenData
+chosen (Some only_sure) (Some profile) (Some depth) (Some to) (Some examples) (Some lookups) =
+    Some (record { only_sure = only_sure; profile = profile; depth = depth; to = to; examples = examples; lookups = lookups })
+chosen _ _ _ _ _ _ = None
 
 abbrev pub chosen_in : List Row → Option ChosenData
-chosen_in rows = chosen (only_sure_in (first_of (codes "only") rows)) (profile_in (first_of (codes "profile") rows))
+chosen_in rows = chosen (only_sure_in (first_of (codes "only") rows)) (profile_in (first_of (codes "profile") rows)) (depth_in (first_of (codes "depth") rows))
     (target_in (first_of (codes "to") rows) (first_of (codes "new") rows)) (examples_in (texts_of (codes "example") rows))
+    (lookups_in (texts_of (codes "table") rows) (texts_of (codes "key") rows))
 
 abbrev pub meaning_by : List Row → Option ChosenData → Meaning
 meaning_by rows None = Wrong

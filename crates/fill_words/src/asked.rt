@@ -18,6 +18,15 @@ pub struct Typed {
     pub text: String,
 }
 
+/// A lookup table, or a key of one.
+#[derive(Debug, Drop)]
+pub enum Lookup {
+    /// The table in the file of a path, and its name.
+    Table { name: String, file: String },
+    /// Columns of the table of this name, from 1: one to three that tell its rows apart.
+    Key { table: String, columns: Vec<u32> },
+}
+
 /// What the words ask for.
 #[derive(Debug, Drop)]
 pub struct Asked {
@@ -33,6 +42,10 @@ pub struct Asked {
     pub examples: Vec<Typed>,
     /// Whether what the column holds is no example, and is replaced.
     pub replace: bool,
+    /// The tables that rules may look up in, and then their keys.
+    pub lookups: Vec<Lookup>,
+    /// How many lookups may stand inside each other, 1 to 3; no more than the profile allows.
+    pub depth: u8,
     /// Whether a column with the state of each cell comes last.
     pub states: bool,
     /// Whether a cell that is not sure stays empty.
@@ -41,6 +54,8 @@ pub struct Asked {
     pub profile: u8,
     /// Whether nothing is told of a sheet that was filled.
     pub quiet: bool,
+    /// Whether both answers are told on the first rows in doubt.
+    pub explain: bool,
     /// Whether each cell has to be given or sure.
     pub strict: bool,
 }

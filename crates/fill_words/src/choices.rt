@@ -1,12 +1,12 @@
 //! The options that take one of a few words.
 ghost use Rattle.std.specs.Prelude.{◌≡◌, IfOk, IfErr, Some, option_map};
-ghost use Rattle.fill_words.specs.Words.{RefusesPart, only_sure_in, profile_in, target_data, target_in};
+ghost use Rattle.fill_words.specs.Words.{RefusesPart, depth_in, only_sure_in, profile_in, target_data, target_in};
 
 use crate::{Refusal, Target};
 use std::alloc::Global;
 
 /// Whether a cell that is not sure stays empty, by the word after `--only`.
-pub(crate) fn only_sure_by(word: Option<&str>) -> Option<bool>
+fn only_sure_by(word: Option<&str>) -> Option<bool>
     ensures { result ≡ only_sure_in (option_map (λ w. w.now) word.entry) }
 {
     match word {
@@ -17,7 +17,7 @@ pub(crate) fn only_sure_by(word: Option<&str>) -> Option<bool>
 }
 
 /// The profile, by the word after `--profile`.
-pub(crate) fn profile_by(word: Option<&str>) -> Option<u8>
+fn profile_by(word: Option<&str>) -> Option<u8>
     ensures { result ≡ profile_in (option_map (λ w. w.now) word.entry) }
 {
     match word {
@@ -25,6 +25,51 @@ pub(crate) fn profile_by(word: Option<&str>) -> Option<u8>
         Some("2") => Some(2),
         None | Some("3") => Some(3),
         Some(_) => None,
+    }
+}
+
+/// How many lookups may stand inside each other, by the word after `--depth`.
+fn depth_by(word: Option<&str>) -> Option<u8>
+    ensures { result ≡ depth_in (option_map (λ w. w.now) word.entry) }
+{
+    match word {
+        None | Some("1") => Some(1),
+        Some("2") => Some(2),
+        Some("3") => Some(3),
+        Some(_) => None,
+    }
+}
+
+/// Whether a cell that is not sure stays empty, or the refusal of the word after `--only`.
+pub(crate) fn only_sure_of(alloc: Global, word: Option<&str>) -> Result<bool, Refusal>
+    ensures ok { IfOk result (λ only. only_sure_in (option_map (λ w. w.now) word.entry) ≡ Some only) }
+    ensures err { IfErr result (RefusesPart (only_sure_in (option_map (λ w. w.now) word.entry))) }
+{
+    match only_sure_by(word) {
+        Some(only) => Ok(only),
+        None => Err(Refusal::of_word(alloc, word.unwrap_or(""), "--only <STATE>", "sure")),
+    }
+}
+
+/// The profile, or the refusal of the word after `--profile`.
+pub(crate) fn profile_of(alloc: Global, word: Option<&str>) -> Result<u8, Refusal>
+    ensures ok { IfOk result (λ profile. profile_in (option_map (λ w. w.now) word.entry) ≡ Some profile) }
+    ensures err { IfErr result (RefusesPart (profile_in (option_map (λ w. w.now) word.entry))) }
+{
+    match profile_by(word) {
+        Some(profile) => Ok(profile),
+        None => Err(Refusal::of_word(alloc, word.unwrap_or(""), "--profile <NUMBER>", "1, 2, 3")),
+    }
+}
+
+/// The depth of lookups, or the refusal of the word after `--depth`.
+pub(crate) fn depth_of(alloc: Global, word: Option<&str>) -> Result<u8, Refusal>
+    ensures ok { IfOk result (λ depth. depth_in (option_map (λ w. w.now) word.entry) ≡ Some depth) }
+    ensures err { IfErr result (RefusesPart (depth_in (option_map (λ w. w.now) word.entry))) }
+{
+    match depth_by(word) {
+        Some(depth) => Ok(depth),
+        None => Err(Refusal::of_word(alloc, word.unwrap_or(""), "--depth <NUMBER>", "1, 2, 3")),
     }
 }
 

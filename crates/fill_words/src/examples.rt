@@ -7,6 +7,9 @@ use crate::{Refusal, Typed};
 use fill_script::number_in;
 use std::alloc::Global;
 
+/// The option as its refusals name it.
+const OPTION: &str = "--example <ROW=TEXT>";
+
 /// The examples of these words.
 pub(crate) fn examples_of(alloc: Global, words: &[&str]) -> Result<Vec<Typed>, Refusal>
     ensures ok { IfOk result (λ examples. examples_in (map (λ w. w.now) words.now) ≡ Some (map typed_data examples.items)) }
@@ -31,7 +34,7 @@ fn with_example(
     ensures err { IfErr result (RefusesPart (with_example (map typed_data examples.items) (typed_data example))) }
 {
     if has_row(examples.as_slice(), example.row) {
-        return Err(Refusal::of_example(alloc, word, "the row has an example already"));
+        return Err(Refusal::of_value(alloc, word, OPTION, "the row has an example already"));
     }
     match examples.push(example) {
         Ok(()) => Ok(examples),
@@ -52,9 +55,10 @@ fn example_of(alloc: Global, word: &str) -> Result<Typed, Refusal>
     ensures err { IfErr result (RefusesPart (example_in word.now)) }
 {
     let Some((row, text)) = parts_of(word) else {
-        return Err(Refusal::of_example(
+        return Err(Refusal::of_value(
             alloc,
             word,
+            OPTION,
             "a row's number and '=' stand in front of its text",
         ));
     };

@@ -5,13 +5,15 @@ mod asked;
 mod choices;
 mod columns;
 mod examples;
+mod keys;
 pub mod laws;
 mod options;
 mod reading;
 mod refusal;
+mod tables;
 #[cfg(test)]
 mod tests;
 
-pub use asked::{Asked, Target, Typed};
+pub use asked::{Asked, Lookup, Target, Typed};
 pub use reading::read_words;
 pub use refusal::Refusal;

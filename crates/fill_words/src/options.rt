@@ -2,7 +2,7 @@
 ghost use Rattle.std.specs.Prelude.{◌≡◌, IfOk, Some, false};
 ghost use Rattle.clap.specs.Words.{app_of, rule_of};
 ghost use Rattle.clap.specs.declared.builder.value_parser.ValueParser.TheVariants.{NonEmptyString};
-ghost use Rattle.fill_words.specs.Options.{app, example_rule, file_rule, flag_rule, from_rule, inputs, new_rule, outputs, profile_rule, value_rule, with_rules};
+ghost use Rattle.fill_words.specs.Options.{app, file_rule, flag_rule, from_rule, inputs, outputs, rules, several_rule, text_rule, value_rule, with_rules};
 
 use clap::builder::ValueParser;
 use clap::{Arg, ArgAction, Command};
@@ -16,7 +16,8 @@ const EXAMPLES: &str = "Examples:
   fillcsv people.csv --to Label
   fillcsv people.csv --to Label --from Name,City --state
   fillcsv people.csv --to Label --example '5=Noether (Erlangen)' --example 7=
-  fillcsv people.csv --new Initials --example 2=AB";
+  fillcsv people.csv --new Initials --example 2=AB
+  fillcsv sales.csv --to Month --table months=months.csv --key months:1";
 
 const USAGE: &str = "fillcsv [OPTIONS] <--to <COLUMN>|--new <NAME>> <FILE>";
 
@@ -56,12 +57,20 @@ fn file<'a>(alloc: Global) -> Arg<'a>
     nonempty(Arg::new(alloc, "FILE").required(true)).help("The sheet, a CSV file")
 }
 
-fn new<'a>(alloc: Global) -> Arg<'a>
-    ensures rule { rule_of result ≡ new_rule }
+/// An option whose value is not empty.
+fn text<'a>(alloc: Global, name: &'a str, value: &'a str, help: &'a str) -> Arg<'a>
+    ensures rule { rule_of result ≡ text_rule name.entry.now }
     ensures local { result.global ≡ false }
 {
-    let help = "Fill a new column of this name, after the last one";
-    nonempty(valued(alloc, "new", "NAME", help))
+    nonempty(valued(alloc, name, value, help))
+}
+
+/// An option that may stand several times.
+fn several<'a>(alloc: Global, name: &'a str, value: &'a str, help: &'a str) -> Arg<'a>
+    ensures rule { rule_of result ≡ several_rule name.entry.now }
+    ensures local { result.global ≡ false }
+{
+    valued(alloc, name, value, help).action(ArgAction::Append)
 }
 
 fn from<'a>(alloc: Global) -> Arg<'a>
@@ -69,23 +78,7 @@ fn from<'a>(alloc: Global) -> Arg<'a>
     ensures local { result.global ≡ false }
 {
     let help = "The columns to read [default: the first eight others]";
-    nonempty(valued(alloc, "from", "COLUMN,..", help)).action(ArgAction::Append)
-}
-
-fn example<'a>(alloc: Global) -> Arg<'a>
-    ensures rule { rule_of result ≡ example_rule }
-    ensures local { result.global ≡ false }
-{
-    let help = "A cell to learn from and to write: the row as a spreadsheet shows it, and the text";
-    valued(alloc, "example", "ROW=TEXT", help).action(ArgAction::Append)
-}
-
-fn profile<'a>(alloc: Global) -> Arg<'a>
-    ensures rule { rule_of result ≡ profile_rule }
-    ensures local { result.global ≡ false }
-{
-    let help = "The language of the rules [possible values: 1, 2, 3]";
-    valued(alloc, "profile", "NUMBER", help).default_value("3")
+    text(alloc, "from", "COLUMN,..", help).action(ArgAction::Append)
 }
 
 /// The words that the program takes, for `clap`.
@@ -98,7 +91,7 @@ pub(crate) fn options<'a>(alloc: Global) -> Result<Command<'a>, AllocError>
         .override_usage(USAGE)
         .after_help(EXAMPLES)
         .no_binary_name(true);
-    with_outputs(alloc, with_inputs(alloc, command)?)
+    with_outputs(alloc, with_rules(alloc, with_inputs(alloc, command)?)?)
 }
 
 /// The command with the words that say what is read.
@@ -111,10 +104,22 @@ fn with_inputs<'a>(alloc: Global, command: Command<'a>) -> Result<Command<'a>, A
         "COLUMN",
         "The column to fill: its name, or its number from 1",
     );
+    let new = text(
+        alloc,
+        "new",
+        "NAME",
+        "Fill a new column of this name, after the last one",
+    );
     let no_header = flag(
         alloc,
         "no-header",
         "The first record is a row like the others",
+    );
+    let example = several(
+        alloc,
+        "example",
+        "ROW=TEXT",
+        "A cell to learn from and to write: the row as a spreadsheet shows it, and the text",
     );
     let replace = flag(
         alloc,
@@ -124,11 +129,42 @@ fn with_inputs<'a>(alloc: Global, command: Command<'a>) -> Result<Command<'a>, A
     command
         .arg(file(alloc))?
         .arg(to)?
-        .arg(new(alloc))?
+        .arg(new)?
         .arg(from(alloc))?
         .arg(no_header)?
-        .arg(example(alloc))?
+        .arg(example)?
         .arg(replace)
+}
+
+/// The command with the words that say in which tables is looked up, and which language the rules have.
+fn with_rules<'a>(alloc: Global, command: Command<'a>) -> Result<Command<'a>, AllocError>
+    ensures { IfOk result (λ c. app_of c ≡ with_rules (app_of command.entry) rules) }
+{
+    let table = several(
+        alloc,
+        "table",
+        "NAME=FILE",
+        "A table that rules may look up in, a CSV file",
+    );
+    let key = several(
+        alloc,
+        "key",
+        "TABLE:COLUMN,..",
+        "The numbers of one to three columns that tell the rows of a table apart",
+    );
+    let depth = valued(
+        alloc,
+        "depth",
+        "NUMBER",
+        "How many lookups may stand inside each other, 1 to 3 [default: 1]",
+    );
+    let profile = valued(
+        alloc,
+        "profile",
+        "NUMBER",
+        "The language of the rules, 1 to 3 [default: 3]",
+    );
+    command.arg(table)?.arg(key)?.arg(depth)?.arg(profile)
 }
 
 /// The command with the words that say what is written.
@@ -148,10 +184,15 @@ fn with_outputs<'a>(alloc: Global, command: Command<'a>) -> Result<Command<'a>, 
         "Status 1 also where a cell is neither given nor sure",
     );
     let quiet = flag(alloc, "quiet", "Tell nothing of a sheet that was filled");
+    let explain = flag(
+        alloc,
+        "explain",
+        "Tell what else the first ten cells in doubt could be, and by which rule",
+    );
     command
         .arg(state)?
         .arg(only)?
         .arg(strict)?
         .arg(quiet)?
-        .arg(profile(alloc))
+        .arg(explain)
 }

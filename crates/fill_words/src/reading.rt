@@ -1,14 +1,15 @@
 //! From the words to what they ask for.
-ghost use Rattle.std.specs.Prelude.{◌≡◌, IfOk, IfErr, Some, map, option_map, string_bytes};
+ghost use Rattle.std.specs.Prelude.{◌≡◌, All, IfOk, IfErr, Some, map, option_map, string_bytes};
 ghost use Rattle.clap.specs.Walk.{first_of, rows_of};
 ghost use Rattle.clap.specs.Words.{found_of};
-ghost use Rattle.fill_words.specs.Words.{Answers, Asks, RefusesPart, asked_in, chosen_data, chosen_in, data_in, is_set, meaning_of_rows, text_of};
+ghost use Rattle.fill_words.specs.Words.{Answers, Asks, IsLookup, RefusesPart, asked_in, chosen_data, chosen_in, data_in, is_set, lookup_data, meaning_of_rows, text_of, texts_of};
 
-use crate::choices::{only_sure_by, profile_by, target_by};
+use crate::choices::{depth_of, only_sure_of, profile_of, target_by};
 use crate::columns::columns_of;
 use crate::examples::examples_of;
 use crate::options::options;
-use crate::{Asked, Refusal, Target, Typed};
+use crate::tables::lookups_of;
+use crate::{Asked, Lookup, Refusal, Target, Typed};
 use clap::ArgMatches;
 use std::alloc::{AllocError, Global};
 
@@ -36,6 +37,13 @@ fn is_set(matches: &ArgMatches<'_>, id: &str) -> bool
     }
 }
 
+/// The values of an option that may stand several times.
+fn values_of<'a>(matches: &'a ArgMatches<'_>, id: &str) -> &'a [&'a str]
+    ensures { map (λ v. v.now) result.now ≡ texts_of id.now (rows_of (found_of matches.now)) }
+{
+    matches.get_strs(id).unwrap_or(&[])
+}
+
 /// What the options ask for that not every word is a value of.
 #[derive(Drop)]
 pub(crate) struct Chosen {
@@ -43,10 +51,14 @@ pub(crate) struct Chosen {
     pub only_sure: bool,
     /// The profile of the language.
     pub profile: u8,
+    /// How many lookups may stand inside each other.
+    pub depth: u8,
     /// The column that is filled.
     pub to: Target,
     /// The examples, each for another row.
     pub examples: Vec<Typed>,
+    /// The tables, and then their keys.
+    pub lookups: Vec<Lookup>,
 }
 
 /// What these options ask for.
@@ -54,32 +66,24 @@ fn chosen_by(alloc: Global, matches: &ArgMatches<'_>) -> Result<Chosen, Refusal>
     ensures ok { IfOk result (λ chosen. chosen_in (rows_of (found_of matches.now)) ≡ Some (chosen_data chosen)) }
     ensures err { IfErr result (RefusesPart (chosen_in (rows_of (found_of matches.now)))) }
 {
-    let only = value_of(matches, "only");
-    let Some(only_sure) = only_sure_by(only) else {
-        return Err(Refusal::of_word(alloc, only.unwrap_or(""), "--only <STATE>", "sure"));
-    };
-    let profile = value_of(matches, "profile");
-    let Some(profile) = profile_by(profile) else {
-        return Err(Refusal::of_word(
-            alloc,
-            profile.unwrap_or(""),
-            "--profile <NUMBER>",
-            "1, 2, 3",
-        ));
-    };
-    let to = match target_by(alloc, value_of(matches, "to"), value_of(matches, "new")) {
-        Ok(to) => to,
-        Err(why) => return Err(why),
-    };
-    match examples_of(alloc, matches.get_strs("example").unwrap_or(&[])) {
-        Ok(examples) => Ok(Chosen {
-            only_sure,
-            profile,
-            to,
-            examples,
-        }),
-        Err(why) => Err(why),
-    }
+    let only_sure = only_sure_of(alloc, value_of(matches, "only"))?;
+    let profile = profile_of(alloc, value_of(matches, "profile"))?;
+    let depth = depth_of(alloc, value_of(matches, "depth"))?;
+    let to = target_by(alloc, value_of(matches, "to"), value_of(matches, "new"))?;
+    let examples = examples_of(alloc, values_of(matches, "example"))?;
+    let lookups = lookups_of(
+        alloc,
+        values_of(matches, "table"),
+        values_of(matches, "key"),
+    )?;
+    Ok(Chosen {
+        only_sure,
+        profile,
+        depth,
+        to,
+        examples,
+        lookups,
+    })
 }
 
 /// What the words ask for that `clap` has taken.
@@ -99,21 +103,27 @@ fn asked_with(alloc: Global, matches: &ArgMatches<'_>, chosen: Chosen) -> Result
     Ok(Asked {
         file: text_of(alloc, matches, "FILE")?,
         to: chosen.to,
-        from: columns_of(alloc, matches.get_strs("from").unwrap_or(&[]))?,
+        from: columns_of(alloc, values_of(matches, "from"))?,
         header: !is_set(matches, "no-header"),
         examples: chosen.examples,
         replace: is_set(matches, "replace"),
+        lookups: chosen.lookups,
+        depth: chosen.depth,
         states: is_set(matches, "state"),
         only_sure: chosen.only_sure,
         profile: chosen.profile,
         quiet: is_set(matches, "quiet"),
+        explain: is_set(matches, "explain"),
         strict: is_set(matches, "strict"),
     })
 }
 
 /// What the words after the program's name ask for.
+///
+/// No column of a key stands twice.
 pub fn read_words(alloc: Global, words: &[String]) -> Result<Asked, Refusal>
-    ensures { Answers (asked_in (map string_bytes words.now)) result }
+    ensures answer { Answers (asked_in (map string_bytes words.now)) result }
+    ensures lookups { IfOk result (λ asked. All IsLookup (map lookup_data asked.lookups.items)) }
 {
     let options = options(alloc)?;
     match options.try_get_matches_from(words) {

@@ -49,12 +49,12 @@ impl Refusal {
         }
     }
 
-    /// The refusal of a word that gives no example, or none that may stand beside the others.
-    pub(crate) fn of_example(alloc: Global, word: &str, why: &str) -> Refusal
+    /// The refusal of a word that an option does not take, with the reason.
+    pub(crate) fn of_value(alloc: Global, word: &str, option: &str, why: &str) -> Refusal
         ensures { IsRefusedBy Wrong result }
     {
         let text = format!(in alloc;
-            "error: invalid value '{word}' for '--example <ROW=TEXT>': {why}\n\nFor more information, try '--help'.\n"
+            "error: invalid value '{word}' for '{option}': {why}\n\nFor more information, try '--help'.\n"
         );
         match text {
             Ok(text) => Refusal::Usage(text),

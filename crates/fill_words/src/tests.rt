@@ -30,18 +30,22 @@ fn asks(alloc: Global, line: &str, wanted: &str) -> Result<bool, AllocError> {
 
 #[test]
 fn words_that_ask(rt: HostRuntime) -> Result<(), Fail> {
-    let table: [(&str, &str); 5] = [
+    let table: [(&str, &str); 6] = [
         (
             "people.csv --to Label",
-            "Asked { file: \"people.csv\", to: There(\"Label\"), from: [], header: true, examples: [], replace: false, states: false, only_sure: false, profile: 3, quiet: false, strict: false }",
+            "Asked { file: \"people.csv\", to: There(\"Label\"), from: [], header: true, examples: [], replace: false, lookups: [], depth: 1, states: false, only_sure: false, profile: 3, quiet: false, explain: false, strict: false }",
         ),
         (
             "--state --only=sure people.csv --profile 2 --to=Label --from Name,City --no-header --from 5",
-            "Asked { file: \"people.csv\", to: There(\"Label\"), from: [\"Name\", \"City\", \"5\"], header: false, examples: [], replace: false, states: true, only_sure: true, profile: 2, quiet: false, strict: false }",
+            "Asked { file: \"people.csv\", to: There(\"Label\"), from: [\"Name\", \"City\", \"5\"], header: false, examples: [], replace: false, lookups: [], depth: 1, states: true, only_sure: true, profile: 2, quiet: false, explain: false, strict: false }",
         ),
         (
             "people.csv --new Initials --example 2=AB --replace --example=30= --quiet --example 4=a=b --strict",
-            "Asked { file: \"people.csv\", to: New(\"Initials\"), from: [], header: true, examples: [Typed { row: 2, text: \"AB\" }, Typed { row: 30, text: \"\" }, Typed { row: 4, text: \"a=b\" }], replace: true, states: false, only_sure: false, profile: 3, quiet: true, strict: true }",
+            "Asked { file: \"people.csv\", to: New(\"Initials\"), from: [], header: true, examples: [Typed { row: 2, text: \"AB\" }, Typed { row: 30, text: \"\" }, Typed { row: 4, text: \"a=b\" }], replace: true, lookups: [], depth: 1, states: false, only_sure: false, profile: 3, quiet: true, explain: false, strict: true }",
+        ),
+        (
+            "sales.csv --to Month --key months:1 --table months=months.csv --depth 2 --table=a=b=c --key a:2,1,30",
+            "Asked { file: \"sales.csv\", to: There(\"Month\"), from: [], header: true, examples: [], replace: false, lookups: [Table { name: \"months\", file: \"months.csv\" }, Table { name: \"a\", file: \"b=c\" }, Key { table: \"months\", columns: [1] }, Key { table: \"a\", columns: [2, 1, 30] }], depth: 2, states: false, only_sure: false, profile: 3, quiet: false, explain: false, strict: false }",
         ),
         (
             "--to -- --people.csv",
@@ -49,7 +53,7 @@ fn words_that_ask(rt: HostRuntime) -> Result<(), Fail> {
         ),
         (
             "--to 3 -- --people.csv",
-            "Asked { file: \"--people.csv\", to: There(\"3\"), from: [], header: true, examples: [], replace: false, states: false, only_sure: false, profile: 3, quiet: false, strict: false }",
+            "Asked { file: \"--people.csv\", to: There(\"3\"), from: [], header: true, examples: [], replace: false, lookups: [], depth: 1, states: false, only_sure: false, profile: 3, quiet: false, explain: false, strict: false }",
         ),
     ];
     for (line, wanted) in table {
@@ -60,7 +64,7 @@ fn words_that_ask(rt: HostRuntime) -> Result<(), Fail> {
 
 #[test]
 fn words_that_are_wrong(rt: HostRuntime) -> Result<(), Fail> {
-    let table: [(&str, &str); 16] = [
+    let table: [(&str, &str); 20] = [
         (
             "people.csv",
             "wrong: error: the following required arguments were not provided:\n  <--to <COLUMN>|--new <NAME>>\n\nFor more information, try '--help'.\n",
@@ -125,6 +129,22 @@ fn words_that_are_wrong(rt: HostRuntime) -> Result<(), Fail> {
             "people.csv --to Label --example 5=x --example 6=x --example 5=x",
             "wrong: error: invalid value '5=x' for '--example <ROW=TEXT>': the row has an example already\n\nFor more information, try '--help'.\n",
         ),
+        (
+            "people.csv --to Label --table months.csv",
+            "wrong: error: invalid value 'months.csv' for '--table <NAME=FILE>': a name and '=' stand in front of the table's file\n\nFor more information, try '--help'.\n",
+        ),
+        (
+            "people.csv --to Label --key months:1,0",
+            "wrong: error: invalid value 'months:1,0' for '--key <TABLE:COLUMN,..>': a table's name and ':' stand in front of the numbers of one to three of its columns\n\nFor more information, try '--help'.\n",
+        ),
+        (
+            "people.csv --to Label --key months:1,2,1",
+            "wrong: error: invalid value 'months:1,2,1' for '--key <TABLE:COLUMN,..>': a table's name and ':' stand in front of the numbers of one to three of its columns\n\nFor more information, try '--help'.\n",
+        ),
+        (
+            "people.csv --to Label --depth 4",
+            "wrong: error: invalid value '4' for '--depth <NUMBER>'\n  [possible values: 1, 2, 3]\n\nFor more information, try '--help'.\n",
+        ),
     ];
     for (line, wanted) in table {
         assert!(rt; asks(rt.alloc(), line, wanted)?, "{line}");
@@ -142,25 +162,30 @@ Arguments:
   <FILE>  The sheet, a CSV file
 
 Options:
-      --to <COLUMN>         The column to fill: its name, or its number from 1
-      --new <NAME>          Fill a new column of this name, after the last one
-      --from <COLUMN,..>    The columns to read [default: the first eight others]
-      --no-header           The first record is a row like the others
-      --example <ROW=TEXT>  A cell to learn from and to write: the row as a spreadsheet shows it, and the text
-      --replace             Replace what the column holds, and learn from --example alone
-      --state               Add a column with the state of each cell
-      --only <STATE>        Fill only the cells in this state [possible values: sure]
-      --strict              Status 1 also where a cell is neither given nor sure
-      --quiet               Tell nothing of a sheet that was filled
-      --profile <NUMBER>    The language of the rules [possible values: 1, 2, 3] [default: 3]
-  -h, --help                Print help
-  -V, --version             Print version
+      --to <COLUMN>            The column to fill: its name, or its number from 1
+      --new <NAME>             Fill a new column of this name, after the last one
+      --from <COLUMN,..>       The columns to read [default: the first eight others]
+      --no-header              The first record is a row like the others
+      --example <ROW=TEXT>     A cell to learn from and to write: the row as a spreadsheet shows it, and the text
+      --replace                Replace what the column holds, and learn from --example alone
+      --table <NAME=FILE>      A table that rules may look up in, a CSV file
+      --key <TABLE:COLUMN,..>  The numbers of one to three columns that tell the rows of a table apart
+      --depth <NUMBER>         How many lookups may stand inside each other, 1 to 3 [default: 1]
+      --profile <NUMBER>       The language of the rules, 1 to 3 [default: 3]
+      --state                  Add a column with the state of each cell
+      --only <STATE>           Fill only the cells in this state [possible values: sure]
+      --strict                 Status 1 also where a cell is neither given nor sure
+      --quiet                  Tell nothing of a sheet that was filled
+      --explain                Tell what else the first ten cells in doubt could be, and by which rule
+  -h, --help                   Print help
+  -V, --version                Print version
 
 Examples:
   fillcsv people.csv --to Label
   fillcsv people.csv --to Label --from Name,City --state
   fillcsv people.csv --to Label --example '5=Noether (Erlangen)' --example 7=
   fillcsv people.csv --new Initials --example 2=AB
+  fillcsv sales.csv --to Month --table months=months.csv --key months:1
 ";
 
 #[test]

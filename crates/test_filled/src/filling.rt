@@ -46,6 +46,7 @@ fn set(alloc: Global, scene: &mut Scene, row: &Row) -> Result<(), Fail> {
         scene.words.push(String::from_str(alloc, word)?)?;
     }
     scene.cabinet.put("s.csv", row.sheet)?;
+    scene.cabinet.put("m.csv", MONTHS)?;
     scene.out.fail_at(row.failing)?;
     Ok(())
 }
@@ -80,6 +81,9 @@ fn ends(alloc: Global, row: &Row) -> Result<bool, Fail> {
 }
 
 const NAMES: &[u8] = b"Name,Last\r\nAda Byron,Byron\r\nMax Planck,\r\nX\r\n";
+
+/// The file `m.csv`: a table of months, whose second column holds no two equal cells either.
+const MONTHS: &[u8] = b"01,January\n03,March\n07,July\n";
 
 /// Two rows with equal cells to read: what the first is given, the second is sure to get.
 const TWINS: &[u8] = b"Name,Last\nAda Byron,x\nAda Byron,\n";
@@ -264,6 +268,58 @@ fn columns_are_added(rt: HostRuntime) -> Result<(), Fail> {
     Ok(())
 }
 
+/// Dates, and the month of the first.
+const DATES: &[u8] = b"Day,Month\n2012-03-11,March\n1999-07-30,\n";
+
+#[test]
+fn months_are_looked_up(rt: HostRuntime) -> Result<(), Fail> {
+    let rows = [
+        Row {
+            sheet: DATES,
+            words: &[
+                "s.csv",
+                "--to",
+                "Month",
+                "--table",
+                "months=m.csv",
+                "--key",
+                "months:1",
+                "--explain",
+            ],
+            failing: 0,
+            status: 0,
+            output: b"Day,Month\n2012-03-11,March\n1999-07-30,July\n",
+        },
+        Row {
+            sheet: DATES,
+            words: &[
+                "s.csv",
+                "--to",
+                "Month",
+                "--table",
+                "months=m.csv",
+                "--key",
+                "months:2",
+                "--key",
+                "months:1",
+                "--depth",
+                "3",
+                "--profile",
+                "1",
+                "--example",
+                "3=July",
+            ],
+            failing: 0,
+            status: 0,
+            output: b"Day,Month\n2012-03-11,March\n1999-07-30,July\n",
+        },
+    ];
+    for row in &rows {
+        assert!(rt; ends(rt.alloc(), row)?, "{}", row.status);
+    }
+    Ok(())
+}
+
 /// A run that writes nothing to its output, and what it says.
 #[derive(Clone, Copy)]
 struct Stop<'a> {
@@ -322,6 +378,29 @@ fn lines_say_why(rt: HostRuntime) -> Result<(), Fail> {
             line: b"fillcsv: s.csv: row 1: no such row, and --example names it\n",
         },
         Stop {
+            words: &["s.csv", "--to", "Last", "--table", "months=t.csv"],
+            status: 3,
+            line: b"fillcsv: t.csv: cannot be read\n",
+        },
+        Stop {
+            words: &["s.csv", "--to", "Last", "--key", "months:1"],
+            status: 5,
+            line: b"fillcsv: months: no such table, and --key names it\n",
+        },
+        Stop {
+            words: &[
+                "s.csv",
+                "--to",
+                "Last",
+                "--table",
+                "months=m.csv",
+                "--key",
+                "months:1,3",
+            ],
+            status: 5,
+            line: b"fillcsv: months: only 2 columns, and --key names another\n",
+        },
+        Stop {
             words: &["s.csv", "--to", "2", "--no-header", "--example", "4=a"],
             status: 5,
             line: b"fillcsv: s.csv: row 4: no such row, and --example names it\n",
@@ -357,7 +436,7 @@ fn sheets_are_told_of(rt: HostRuntime) -> Result<(), Fail> {
         says(
             rt.alloc(),
             &many,
-            b"fillcsv: only the first 64 filled cells are learned from\nfillcsv: 65 given, 0 sure, 0 doubt, 0 none, 0 none doubt\n"
+            b"fillcsv: only the first 64 filled cells are learned from\nfillcsv: 65 given, 0 sure, 0 doubt, 0 none, 0 none doubt\nfillcsv: rule: \"x\"\n"
         )?
     );
     let none = Row {

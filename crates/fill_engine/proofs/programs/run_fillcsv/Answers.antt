@@ -14,6 +14,7 @@ returns g c = if_ok_map c.whole.result (λ a w.
       filled = c.run-status.ensures.filled;
       wrong = λ is. ((c.run-status.ensures.wrong is).0, ap (λ page. page.bytes.items) (c.run-status.ensures.wrong is).2);
       shown = λ is. (c.run-status.ensures.shown is).0;
+      silent = λ asked is quiet done. ap (λ page. page.bytes.items) (c.run-status.ensures.silent asked is quiet done);
       memory = c.run-status.ensures.memory_said;
       fault = c.run-status.ensures.fault;
       statuses = c.run-status.ensures.statuses;

@@ -8,7 +8,7 @@ pub returns-then-has_row-clause-err : goal.returns-then-has_row-clause-err
 returns-then-has_row-clause-err c =
     let same = ap (λ (l : List Typed). list_any (λ x. x.row == c.args.example.row) l) c.as_slice.ensures.value in
     let there : list_any (λ x. x.row == c.args.example.row) c.args.examples.items ≡ true = sym same ∙ sym c.has_row.ensures ∙ c.if-has_row.true in
-    refused_part _ c.of_example.result (example_again c.args.examples.items c.args.example there) c.of_example.ensures
+    refused_part _ c.of_value.result (example_again c.args.examples.items c.args.example there) c.of_value.ensures
 
 pub returns-in-Ok-clause-ok : goal.returns-in-Ok-clause-ok
 returns-in-Ok-clause-ok c =

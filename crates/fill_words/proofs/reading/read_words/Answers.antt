@@ -4,10 +4,11 @@ use Rattle.clap.specs.Words.{fault_of, found_of, is_simple, is_simple_and_free, 
 use Rattle.clap.specs.Kinds.{HasKind}
 use Rattle.fill_words.specs.Words.{Answers}
 use Rattle.fill_words.proofs.OneKind.{app_is_simple, app_is_simple_and_free, refusal_says, taken_means}
+use Rattle.fill_words.proofs.Proper.{rows_proper}
 use Rattle.fill_words.proofs.reading.read_words.Goals as goal
 
-pub returns-in-Ok : goal.returns-in-Ok
-returns-in-Ok c =
+pub returns-in-Ok-clause-answer : goal.returns-in-Ok-clause-answer
+returns-in-Ok-clause-answer c =
     let words = map string_bytes c.args.words.now in
     let app_is = c.in_ok-options.ensures in
     let rows = rows_of (found_of c.in-Ok.matches) in
@@ -15,8 +16,11 @@ returns-in-Ok c =
     let are = (c.in-Ok.ensures.matches (ap is_simple app_is ∙ app_is_simple)).0 ∙ ap (λ a. matches_of a words) app_is in
     subst (λ m. Answers m c.asked_by.result) (taken_means words rows fine are) c.asked_by.ensures
 
-pub returns-in-Err : goal.returns-in-Err
-returns-in-Err c =
+pub returns-in-Ok-clause-lookups : goal.returns-in-Ok-clause-lookups
+returns-in-Ok-clause-lookups c = rows_proper (rows_of (found_of c.in-Ok.matches)) c.asked_by.result c.asked_by.ensures
+
+pub returns-in-Err-clause-answer : goal.returns-in-Err-clause-answer
+returns-in-Err-clause-answer c =
     let words = map string_bytes c.args.words.now in
     let app_is = c.in_ok-options.ensures in
     let kinds = subst (λ a. HasKind (fault_of a words) c.in-Err.error) app_is (c.in-Err.ensures.kinds (ap is_simple_and_free app_is ∙ app_is_simple_and_free)) in

@@ -1,0 +1,102 @@
+//! The rule that was learned, and what else cells in doubt could be, in plain English. No contract says these texts.
+ghost use Rattle.std.specs.Prelude.{◌≤◌, length};
+
+use crate::opening::{SheetRead, header_of};
+use fill_prose::{Named, Names, program_text, put_quoted, rule_lines};
+use fill_session::Session;
+use fill_text::{NoMemory, Text};
+use fill_words::{Asked, Lookup};
+use std::alloc::Global;
+
+/// The names of the columns that rules may read, where the first record names them, and of the tables.
+#[derive(Drop)]
+pub(crate) struct Spoken {
+    columns: Vec<Named>,
+    tables: Vec<Named>,
+}
+
+impl Spoken {
+    /// The names of a sheet and its tables.
+    pub(crate) fn of(alloc: Global, asked: &Asked, read: &SheetRead) -> Result<Spoken, NoMemory> {
+        let mut columns = Vec::new(alloc);
+        if let Some(header) = header_of(asked.header, read.records.as_slice()) {
+            for column in &read.choice.from {
+                let field = header.get((*column as usize).saturating_sub(1));
+                if let Ok(name) = str::from_utf8(field.unwrap_or(b"")) {
+                    let name = String::from_str(alloc, name)?;
+                    columns.push(Named {
+                        number: *column,
+                        name,
+                    })?;
+                }
+            }
+        }
+        let tables = tables_of(alloc, &asked.lookups)?;
+        Ok(Spoken { columns, tables })
+    }
+
+    fn names(&self) -> Names<'_> {
+        Names {
+            columns: &self.columns,
+            tables: &self.tables,
+        }
+    }
+
+    /// The rule for all rows, a line for each of its cases; none where nothing was learned.
+    pub(crate) fn rule_of(
+        &self,
+        alloc: Global,
+        session: &Session,
+    ) -> Result<Vec<String>, NoMemory> {
+        match session.switch(alloc)? {
+            Some(switch) => Ok(rule_lines(alloc, &switch, self.names())?),
+            None => Ok(Vec::new(alloc)),
+        }
+    }
+
+    /// What else the cell of a row could be: its text, and the simplest rule that gives another one with that text. It is
+    /// empty where no rule does.
+    pub(crate) fn doubt_of(
+        &self,
+        alloc: Global,
+        session: &Session,
+        row: u32,
+    ) -> Result<String, NoMemory>
+        requires first { 1 ≤ row }
+        requires last { row ≤ length session.now.spaces.ground.sheet.rows }
+    {
+        let mut line = String::new(alloc);
+        let Some(objection) = session.object(alloc, row)? else {
+            return Ok(line);
+        };
+        let answer = session.answer(alloc, row)?;
+        put_answer(&mut line, &answer.text)?;
+        line.push_str(", or ")?;
+        put_answer(&mut line, &objection.text)?;
+        line.push_str(" by: ")?;
+        let other = program_text(alloc, &objection.program, self.names())?;
+        line.push_str(other.as_str())?;
+        Ok(line)
+    }
+}
+
+/// Puts an answer at the end: a text in quotes, or the word `none`.
+fn put_answer(to: &mut String, answer: &Option<Text>) -> Result<(), NoMemory> {
+    match answer {
+        Some(text) => Ok(put_quoted(to, text.as_slice())?),
+        None => Ok(to.push_str("none")?),
+    }
+}
+
+/// The names of the tables, by their order.
+fn tables_of(alloc: Global, lookups: &[Lookup]) -> Result<Vec<Named>, NoMemory> {
+    let mut tables: Vec<Named> = Vec::new(alloc);
+    for lookup in lookups {
+        if let Lookup::Table { name, .. } = lookup {
+            let number = tables.len() as u32 + 1;
+            let name = String::from_str(alloc, name.as_str())?;
+            tables.push(Named { number, name })?;
+        }
+    }
+    Ok(tables)
+}

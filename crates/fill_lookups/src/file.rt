@@ -1,0 +1,40 @@
+//! Reading a file.
+ghost use Rattle.std.specs.Prelude.{◌≡◌, IfOk, IfErr, MatchResult};
+ghost use Rattle.fill_edge.specs.Outside.{NoneFell};
+ghost use Rattle.fill_open.specs.Opened.{Told, Passed};
+ghost use Rattle.fill_open.specs.Stops.{Stops};
+ghost use Rattle.fill_lookups.specs.Files.{file_opens};
+
+use crate::lines::long_line;
+use fill_edge::{Cabinet, LARGEST_FILE, ReadError, read_all};
+use fill_open::Stop;
+use fill_text::List;
+use std::alloc::{AllocError, Global};
+
+/// The bytes of a file.
+pub fn open_file<C: Cabinet>(alloc: Global, cabinet: &mut C, name: &str) -> Result<List<u8>, Stop>
+    ensures ready { IfOk result (λ bytes. Told (C.files cabinet.old) (λ held. (file_opens held name.now).outcome ≡ Passed bytes)) }
+    ensures stopped { IfErr result (Stops (λ held. file_opens held name.now) (C.files cabinet.old) (C.faults cabinet.old) (C.faults cabinet.new)) }
+    ensures files { C.files cabinet.new ≡ C.files cabinet.old }
+    ensures later { NoneFell (C.faults cabinet.old) (C.faults cabinet.new) }
+{
+    match read_all(alloc, cabinet, name, LARGEST_FILE) {
+        Ok(bytes) => Ok(bytes),
+        Err(ReadError::NoMemory) => Err(Stop::NoMemory),
+        Err(ReadError::TooLong { .. }) => Err(refused(long_line(alloc, name))),
+        Err(_) => match String::from_str(alloc, name) {
+            Ok(name) => Err(Stop::Unread(name)),
+            Err(_) => Err(Stop::NoMemory),
+        },
+    }
+}
+
+/// The refusal with this line. Out of memory for the line is out of memory.
+pub fn refused(line: Result<String, AllocError>) -> Stop
+    ensures { MatchResult line (λ text. result ≡ Stop.Refused text) (λ _. result ≡ Stop.NoMemory) }
+{
+    match line {
+        Ok(line) => Stop::Refused(line),
+        Err(AllocError) => Stop::NoMemory,
+    }
+}

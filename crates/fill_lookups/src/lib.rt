@@ -1,0 +1,9 @@
+//! The tables in which rules may look up, read from the files that words name.
+#![tactic(auto)]
+
+mod file;
+mod lines;
+mod tables;
+
+pub use file::{open_file, refused};
+pub use tables::open_tables;
