@@ -4,6 +4,7 @@ use Rattle.std.specs.List.{find, flat_map}
 use Rattle.std.specs.Str.{bytes_eq}
 use Rattle.fill_records.specs.Records.{field_of, records_of}
 use Rattle.fill_tokens.specs.declared.token_set.TheConstants.TokenSet as set
+use Rattle.fill_tokens.specs.declared.token_set.TokenSet.{TokenSet}
 use Rattle.fill_tree.specs.Switch.{CaseTree, SwitchTree}
 use Rattle.fill_print.specs.Faults.{IsFault, IsTextOf}
 use Rattle.fill_eval.specs.Columns.{IsFirstOther, guard_columns}
@@ -27,20 +28,30 @@ shown_text records = text_of (find is_shown (reverse records))
 abbrev pub columns_read : List CaseTree → List ℕ
 columns_read cases = flat_map (λ c. guard_columns c.guard) cases
 
--- what comes of a text that is not empty, for sheets with these inputs: the conditional program that it spells and whose
--- guards read inputs alone, or why there is none. Want of memory is of no text
+-- what comes of a text that is not empty, for sheets with these inputs: the conditional program that it spells by the
+-- tokens of a set and whose guards read inputs alone, or why there is none. Want of memory is of no text
+abbrev pub SpelledBy : TokenSet → List ℕ → List ℕ → Result SwitchTree ApplyError → Type 0
+SpelledBy tokens inputs text (Ok s) = IsTextOf tokens text s × IsFirstOther inputs (columns_read s.cases) None
+SpelledBy tokens inputs text (Err error.NoSwitch) = ⊥
+SpelledBy tokens inputs text (Err (error.BadSwitch at)) = IsFault tokens text at
+SpelledBy tokens inputs text (Err (error.NoInput column)) = (s : SwitchTree) × IsTextOf tokens text s × IsFirstOther inputs (columns_read s.cases) (Some column)
+SpelledBy tokens inputs text (Err error.NoMemory) = ⊥
+
+-- what comes of the text that is shown
+abbrev pub TextBy : TokenSet → List ℕ → List ℕ → Result SwitchTree ApplyError → Type 0
+TextBy tokens inputs [] r = r ≡ Err error.NoSwitch
+TextBy tokens inputs (c ∷ more) r = SpelledBy tokens inputs (c ∷ more) r
+
+-- what comes of a file's bytes
+abbrev pub SavedBy : TokenSet → List ℕ → List ℕ → Result SwitchTree ApplyError → Type 0
+SavedBy tokens inputs bytes r = TextBy tokens inputs (shown_text (records_of bytes)) r
+
+-- the same of a report, which spells programs by the specified tokens
 abbrev pub SpelledIs : List ℕ → List ℕ → Result SwitchTree ApplyError → Type 0
-SpelledIs inputs text (Ok s) = IsTextOf set.SECOND text s × IsFirstOther inputs (columns_read s.cases) None
-SpelledIs inputs text (Err error.NoSwitch) = ⊥
-SpelledIs inputs text (Err (error.BadSwitch at)) = IsFault set.SECOND text at
-SpelledIs inputs text (Err (error.NoInput column)) = (s : SwitchTree) × IsTextOf set.SECOND text s × IsFirstOther inputs (columns_read s.cases) (Some column)
-SpelledIs inputs text (Err error.NoMemory) = ⊥
+SpelledIs inputs text r = SpelledBy set.SECOND inputs text r
 
--- what comes of the text that a report shows
 abbrev pub TextIs : List ℕ → List ℕ → Result SwitchTree ApplyError → Type 0
-TextIs inputs [] r = r ≡ Err error.NoSwitch
-TextIs inputs (c ∷ more) r = SpelledIs inputs (c ∷ more) r
+TextIs inputs text r = TextBy set.SECOND inputs text r
 
--- what comes of a report's bytes
 abbrev pub SavedIs : List ℕ → List ℕ → Result SwitchTree ApplyError → Type 0
-SavedIs inputs bytes r = TextIs inputs (shown_text (records_of bytes)) r
+SavedIs inputs bytes r = SavedBy set.SECOND inputs bytes r

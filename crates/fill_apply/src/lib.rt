@@ -10,4 +10,4 @@ mod saved;
 pub use error::ApplyError;
 pub use laws::saved_programs_are_one;
 pub use record::apply_record;
-pub use saved::open_switch;
+pub use saved::{open_switch, open_switch_by};

@@ -3,7 +3,8 @@ ghost use Rattle.std.specs.Prelude.{◌≡◌, ◌≢◌, All, Contains, IfErr, 
 ghost use Rattle.fill_tree.specs.Switch.{switch_tree};
 ghost use Rattle.std.specs.Str.{bytes_eq};
 ghost use Rattle.fill_records.specs.Records.{field_of};
-ghost use Rattle.fill_apply.specs.Saved.{SavedIs, SpelledIs, columns_read, is_shown, shown_text};
+ghost use Rattle.fill_print.specs.Tokens.{tokens_of};
+ghost use Rattle.fill_apply.specs.Saved.{SavedBy, SavedIs, SpelledBy, columns_read, is_shown, shown_text};
 
 use crate::ApplyError;
 use crate::columns::first_other;
@@ -21,13 +22,27 @@ pub fn open_switch(alloc: Global, bytes: &[u8], inputs: &[u32]) -> Result<Switch
     ensures err { IfErr result (λ e. e ≢ ApplyError.NoMemory → SavedIs inputs.now bytes.now (Err e)) }
     ensures reads { IfOk result (λ s. let tree = switch_tree s in All (Contains inputs.now) (columns_read tree.cases)) }
 {
+    open_switch_by(alloc, bytes, inputs, Notation::Second)
+}
+
+/// The same of the bytes of any file whose last record shows a program in this notation.
+pub fn open_switch_by(
+    alloc: Global,
+    bytes: &[u8],
+    inputs: &[u32],
+    notation: Notation,
+) -> Result<Switch, ApplyError>
+    ensures ok { IfOk result (λ s. SavedBy (tokens_of notation) inputs.now bytes.now (Ok (switch_tree s))) }
+    ensures err { IfErr result (λ e. e ≢ ApplyError.NoMemory → SavedBy (tokens_of notation) inputs.now bytes.now (Err e)) }
+    ensures reads { IfOk result (λ s. let tree = switch_tree s in All (Contains inputs.now) (columns_read tree.cases)) }
+{
     records_are_few(bytes);
     let records = read_records(alloc, bytes, bytes.len())?;
     let text = shown_text(records.as_slice());
     if text.is_empty() {
         return Err(ApplyError::NoSwitch);
     }
-    switch_in(alloc, text, inputs)
+    switch_in(alloc, text, inputs, notation)
 }
 
 /// Whether a record shows a conditional program.
@@ -58,12 +73,17 @@ fn shown_text(records: &[Record]) -> &[u8]
     text
 }
 
-/// The conditional program that a text spells.
-fn switch_in(alloc: Global, text: &[u8], inputs: &[u32]) -> Result<Switch, ApplyError>
-    ensures ok { IfOk result (λ s. SpelledIs inputs.now text.now (Ok (switch_tree s))) }
-    ensures err { IfErr result (λ e. e ≢ ApplyError.NoMemory → SpelledIs inputs.now text.now (Err e)) }
+/// The conditional program that a text spells in a notation.
+fn switch_in(
+    alloc: Global,
+    text: &[u8],
+    inputs: &[u32],
+    notation: Notation,
+) -> Result<Switch, ApplyError>
+    ensures ok { IfOk result (λ s. SpelledBy (tokens_of notation) inputs.now text.now (Ok (switch_tree s))) }
+    ensures err { IfErr result (λ e. e ≢ ApplyError.NoMemory → SpelledBy (tokens_of notation) inputs.now text.now (Err e)) }
 {
-    let switch = match read_switch(alloc, text, Notation::Second) {
+    let switch = match read_switch(alloc, text, notation) {
         Ok(switch) => switch,
         Err(ReadProgramError::Bad { at }) => return Err(ApplyError::BadSwitch { at }),
         Err(ReadProgramError::NoMemory) => return Err(ApplyError::NoMemory),

@@ -1,0 +1,4 @@
+mod Names
+mod RowFields
+mod Cells
+mod Runs

@@ -1,0 +1,179 @@
+//! What becomes of a record.
+ghost use Rattle.std.specs.Prelude.{◌≡◌, ◌<◌, ◌++◌, [], IfErr, IfOk, List, OnErr, OnOk, Some, get_or, length, map, unwrap_or, ℕ};
+ghost use Rattle.std.specs.Borrow.{Bor};
+ghost use Rattle.csv.specs.Records.{fields_of};
+ghost use Rattle.fill_records.specs.Records.{field_of};
+ghost use Rattle.fill_records.specs.Texts.{IsText, bad_column};
+ghost use Rattle.fill_sheet.specs.Report.{record_text};
+ghost use Rattle.fill_apply.specs.Applied.{answer_field};
+ghost use Rattle.fill_columns.specs.Fields.{with_field};
+ghost use Rattle.fill_stream.specs.Filters.{Puts, Tells};
+ghost use Rattle.fill_rule.specs.Rule.{rule_data};
+ghost use Rattle.fill_filter.specs.Filled.{GivesValue};
+ghost use Rattle.fill_filter.specs.Placed.{IsPlaced, Makes};
+
+use crate::fields::{bad_column, field, field_at, texts};
+use crate::places::Places;
+use csv::{ByteRecord, WriterBuilder};
+use fill_cells::switch_value;
+use fill_rule::Rule;
+use fill_stream::{Cell, Filter, Unmade};
+use fill_text::{List, NoMemory, Text};
+use std::alloc::Global;
+
+/// A rule at its places in a stream.
+#[derive(Drop)]
+pub(crate) struct PlacedRule<'r> {
+    pub(crate) alloc: Global,
+    pub(crate) rule: &'r Rule,
+    pub(crate) places: Places,
+}
+
+impl PlacedRule<'_> {
+    /// The value of the rule's program on a record, in UTF-8, if it has one.
+    fn value(&self, row: &ByteRecord) -> Result<Option<List<u8>>, NoMemory>
+        requires valid { IsPlaced self.now }
+        requires text { IsText self.now.places.sources.items (fields_of row.now) }
+        ensures { IfOk result (λ bytes. GivesValue (rule_data self.now.rule.now) self.now.places.sources.items (fields_of row.now) (unwrap_or bytes [])) }
+    {
+        let cells = texts(self.alloc, row, &self.places.sources)?;
+        let value = switch_value(self.alloc, &self.rule.switch, &self.rule.inputs, &cells)?;
+        utf8_of(self.alloc, value)
+    }
+
+    /// Puts what is made of a record at the end, and tells what its cell shows.
+    fn fill(&self, row: &ByteRecord, to: &mut Vec<u8>) -> Result<Cell, NoMemory>
+        requires valid { IsPlaced self.now }
+        requires text { IsText self.now.places.sources.items (fields_of row.now) }
+        ensures made { OnOk result (Puts (Makes self.now (fields_of row.now)) to.old.items to.new.items) }
+        ensures kept { OnErr result (to.new.items ≡ to.old.items) }
+    {
+        let given = field(row, self.places.target);
+        if given.is_empty() {
+            self.fill_empty(row, to)
+        } else {
+            put_row(self.alloc, row, self.places.target, given, to)?;
+            Ok(Cell::Left)
+        }
+    }
+
+    /// The same of a record whose cell is empty.
+    fn fill_empty(&self, row: &ByteRecord, to: &mut Vec<u8>) -> Result<Cell, NoMemory>
+        requires valid { IsPlaced self.now }
+        requires text { IsText self.now.places.sources.items (fields_of row.now) }
+        requires empty { field_of self.now.places.target (fields_of row.now) ≡ [] }
+        ensures made { OnOk result (Puts (Makes self.now (fields_of row.now)) to.old.items to.new.items) }
+        ensures kept { OnErr result (to.new.items ≡ to.old.items) }
+    {
+        match self.value(row)? {
+            Some(value) => {
+                put_row(self.alloc, row, self.places.target, value.as_slice(), to)?;
+                Ok(Cell::Filled)
+            }
+            None => {
+                put_row(self.alloc, row, self.places.target, b"", to)?;
+                Ok(Cell::Left)
+            }
+        }
+    }
+}
+
+/// The UTF-8 of a text, if there is one.
+fn utf8_of(alloc: Global, text: Option<Text>) -> Result<Option<List<u8>>, NoMemory>
+    ensures { IfOk result (λ bytes. unwrap_or bytes [] ≡ answer_field text) }
+{
+    let Some(text) = text else {
+        return Ok(None);
+    };
+    let mut bytes = List::new(alloc);
+    text.push_utf8(&mut bytes)?;
+    Ok(Some(bytes))
+}
+
+impl Filter for PlacedRule<'_> {
+    ghost use Rattle.std.specs.Prelude.{◌≡◌, Some};
+    ghost use Rattle.fill_records.specs.Texts.{bad_column};
+    ghost use Rattle.fill_filter.specs.Placed.{IsPlaced, Makes};
+
+    ghost valid = { λ p. IsPlaced p };
+
+    ghost makes = { λ p fields text. Makes p fields text };
+
+    ghost refuses = { λ p fields column. bad_column p.places.sources.items fields ≡ Some column };
+
+    fn put(&self, row: &ByteRecord, to: &mut Vec<u8>) -> Result<Cell, Unmade>
+        requires { IsPlaced self.now }
+        ensures made { OnOk result (Puts (Makes self.now (fields_of row.now)) to.old.items to.new.items) }
+        ensures refused { IfErr result (Tells (λ column. bad_column self.now.places.sources.items (fields_of row.now) ≡ Some column)) }
+        ensures kept { OnErr result (to.new.items ≡ to.old.items) }
+    {
+        match bad_column(row, &self.places.sources) {
+            Some(column) => Err(Unmade::Refused { column }),
+            None => match self.fill(row, to) {
+                Ok(cell) => Ok(cell),
+                Err(NoMemory) => Err(Unmade::NoMemory),
+            },
+        }
+    }
+}
+
+/// Puts a record with this field in a column at the end, as a CSV file has it.
+pub(crate) fn put_row(
+    alloc: Global,
+    row: &ByteRecord,
+    column: usize,
+    field: &[u8],
+    to: &mut Vec<u8>,
+) -> Result<(), NoMemory>
+    requires { 0 < column }
+    ensures ok { OnOk result (to.new.items ≡ to.old.items ++ record_text (with_field column field.now (fields_of row.now))) }
+    ensures err { OnErr result (to.new.items ≡ to.old.items) }
+{
+    let fields = with_field(alloc, row, column, field)?;
+    let text = record_bytes(alloc, &fields)?;
+    to.extend_from_slice(&text)?;
+    Ok(())
+}
+
+/// The fields of a record with this one in a column.
+fn with_field<'a>(
+    alloc: Global,
+    row: &'a ByteRecord,
+    column: usize,
+    field: &'a [u8],
+) -> Result<Vec<&'a [u8]>, NoMemory>
+    requires { 0 < column }
+    ensures { IfOk result (λ fields. map (λ (f : Bor (List ℕ)). f.now) fields.items ≡ with_field column field.now (fields_of row.now)) }
+{
+    let width = row.len().max(column);
+    let mut fields: Vec<&[u8]> = Vec::with_capacity(alloc, width)?;
+    for i in 0..width {
+        fields.push(other_field(row, column, field, i))?;
+    }
+    Ok(fields)
+}
+
+/// The field at a place of a record with this one in a column.
+fn other_field<'a>(row: &'a ByteRecord, column: usize, field: &'a [u8], i: usize) -> &'a [u8]
+    requires column { 0 < column }
+    requires place { i < length (with_field column field.now (fields_of row.now)) }
+    ensures { result.now ≡ get_or (with_field column field.now (fields_of row.now)) i [] }
+{
+    let here = column - 1;
+    if i == here { field } else { field_at(row, i) }
+}
+
+/// The bytes of a record.
+#[tactic(auto, unfolding(fill_sheet::specs::Report::record_text))]
+fn record_bytes(alloc: Global, fields: &[&[u8]]) -> Result<Vec<u8>, NoMemory>
+    ensures { IfOk result (λ text. text.items ≡ record_text (map (λ f. f.now) fields.now)) }
+{
+    let mut writer = WriterBuilder::new().from_writer(Vec::new(alloc));
+    if writer.write_fields(fields).is_err() {
+        return Err(NoMemory);
+    }
+    match writer.into_inner() {
+        Ok(text) => Ok(text),
+        Err(_) => Err(NoMemory),
+    }
+}

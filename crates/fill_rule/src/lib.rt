@@ -1,0 +1,14 @@
+//! Saved rules: a conditional program with the columns that it reads and fills, as a small CSV file.
+#![tactic(auto)]
+
+mod error;
+mod form;
+mod lines;
+mod read;
+mod rule;
+mod save;
+
+pub use error::RuleError;
+pub use read::read_rule;
+pub use rule::{Names, Rule};
+pub use save::{rule_text, save_rule};

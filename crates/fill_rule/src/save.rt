@@ -1,0 +1,151 @@
+//! Writing a rule's file.
+ghost use Rattle.std.specs.Prelude.{◌≡◌, ◌++◌, ◌∷◌, [], All, IfOk, OnOk, codes, map, option_copied, option_map};
+ghost use Rattle.std.specs.List.{flat_map};
+ghost use Rattle.std.specs.Fmt.{decimal};
+ghost use Rattle.fill_sheet.specs.Columns.{IsColumn};
+ghost use Rattle.fill_sheet.specs.Report.{record_text};
+ghost use Rattle.fill_tree.specs.Switch.{switch_tree};
+ghost use Rattle.fill_rule.specs.Rule.{header_lines, names_in, names_lines, rule_data, rule_text};
+
+use crate::lines::copied;
+use crate::{Names, Rule};
+use fill_print::print_switch;
+use fill_records::Record;
+use fill_sheet::put_record;
+use fill_text::{List, NoMemory};
+use fill_tree::Switch;
+use std::alloc::Global;
+
+/// The bytes of a rule's file.
+pub fn rule_text(alloc: Global, rule: &Rule) -> Result<List<u8>, NoMemory>
+    ensures { IfOk result (λ bytes. bytes ≡ rule_text (rule_data rule.now)) }
+{
+    text_of(alloc, &rule.names, &rule.inputs, rule.output, &rule.switch)
+}
+
+/// The bytes of the file of a rule that was learned on a sheet with this header or with none, from its columns as they stand
+/// there, the inputs rising.
+pub fn save_rule(
+    alloc: Global,
+    header: Option<&Record>,
+    inputs: &[u32],
+    output: u32,
+    switch: &Switch,
+) -> Result<List<u8>, NoMemory>
+    requires inputs { All IsColumn inputs.now }
+    requires output { IsColumn output }
+    ensures { IfOk result (λ bytes. bytes ≡ rule_text (record { names = option_map (names_in inputs.now output) (option_copied header.entry); inputs = inputs.now; output = output; switch = switch_tree switch.now })) }
+{
+    let names = match header {
+        Some(header) => Some(names_in(alloc, header, inputs, output)?),
+        None => None,
+    };
+    text_of(alloc, &names, inputs, output, switch)
+}
+
+/// The names of these columns in a header.
+fn names_in(alloc: Global, header: &Record, inputs: &[u32], output: u32) -> Result<Names, NoMemory>
+    requires inputs { All IsColumn inputs.now }
+    requires output { IsColumn output }
+    ensures { IfOk result (λ names. names ≡ names_in inputs.now output header.now) }
+{
+    let mut names = List::new(alloc);
+    for column in inputs {
+        names.push(copied(alloc, header.field(*column))?)?;
+    }
+    Ok(Names {
+        inputs: names,
+        output: copied(alloc, header.field(output))?,
+    })
+}
+
+/// The bytes of the file of a rule with these parts.
+#[tactic(auto, unfolding(crate::specs::Rule::rule_text))]
+fn text_of(
+    alloc: Global,
+    names: &Option<Names>,
+    inputs: &[u32],
+    output: u32,
+    switch: &Switch,
+) -> Result<List<u8>, NoMemory>
+    ensures { IfOk result (λ bytes. bytes ≡ rule_text (record { names = names.now; inputs = inputs.now; output = output; switch = switch_tree switch.now })) }
+{
+    let mut text = List::new(alloc);
+    put_pair(alloc, &mut text, b"rule", b"1")?;
+    put_header(alloc, &mut text, names)?;
+    put_inputs(alloc, &mut text, inputs)?;
+    let mut buffer = itoa::Buffer::new();
+    put_pair(
+        alloc,
+        &mut text,
+        b"output",
+        buffer.format(output).as_bytes(),
+    )?;
+    put_names(alloc, &mut text, names)?;
+    let shown = print_switch(alloc, switch)?;
+    put_pair(alloc, &mut text, b"switch", shown.as_slice())?;
+    Ok(text)
+}
+
+/// Puts a line of a word and a field at the end.
+fn put_pair(alloc: Global, to: &mut List<u8>, word: &[u8], field: &[u8]) -> Result<(), NoMemory>
+    ensures { OnOk result (to.new ≡ to.old ++ record_text (word.now ∷ field.now ∷ [])) }
+{
+    let mut fields = List::new(alloc);
+    fields.push(copied(alloc, word)?)?;
+    fields.push(copied(alloc, field)?)?;
+    put_record(alloc, to, &fields)
+}
+
+/// Puts the line that says that the sheet had a header, if it had one.
+fn put_header(alloc: Global, to: &mut List<u8>, names: &Option<Names>) -> Result<(), NoMemory>
+    ensures { OnOk result (to.new ≡ to.old ++ flat_map record_text (header_lines names.now)) }
+{
+    match names {
+        Some(_named) => {
+            let mut fields = List::new(alloc);
+            fields.push(copied(alloc, b"header")?)?;
+            put_record(alloc, to, &fields)
+        }
+        None => Ok(()),
+    }
+}
+
+/// Puts the line of the inputs at the end.
+fn put_inputs(alloc: Global, to: &mut List<u8>, inputs: &[u32]) -> Result<(), NoMemory>
+    ensures { OnOk result (to.new ≡ to.old ++ record_text (codes "inputs" ∷ map decimal inputs.now)) }
+{
+    let mut fields = List::new(alloc);
+    fields.push(copied(alloc, b"inputs")?)?;
+    for column in inputs {
+        let mut buffer = itoa::Buffer::new();
+        fields.push(copied(alloc, buffer.format(*column).as_bytes())?)?;
+    }
+    put_record(alloc, to, &fields)
+}
+
+/// Puts the line of the names at the end, if there are names.
+fn put_names(alloc: Global, to: &mut List<u8>, names: &Option<Names>) -> Result<(), NoMemory>
+    ensures { OnOk result (to.new ≡ to.old ++ flat_map record_text (names_lines names.now)) }
+{
+    match names {
+        Some(names) => {
+            let fields = names_line(alloc, names)?;
+            put_record(alloc, to, &fields)
+        }
+        None => Ok(()),
+    }
+}
+
+/// The line of the names.
+fn names_line(alloc: Global, names: &Names) -> Result<List<List<u8>>, NoMemory>
+    ensures { IfOk result (λ fields. fields ≡ codes "names" ∷ names.now.inputs ++ names.now.output ∷ []) }
+{
+    let mut fields = List::new(alloc);
+    fields.push(copied(alloc, b"names")?)?;
+    for name in names.inputs.as_slice() {
+        fields.push(copied(alloc, name.as_slice())?)?;
+    }
+    fields.push(copied(alloc, names.output.as_slice())?)?;
+    Ok(fields)
+}

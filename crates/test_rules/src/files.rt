@@ -1,0 +1,84 @@
+//! Runs of a rule that stands in a file.
+use fill_edge::{MemoryCabinet, MemorySink};
+use fill_filter::{RuleFile, run_rule_file};
+use fill_stream::MemorySource;
+use std::alloc::Global;
+use std::test::Fail;
+
+/// `Name (City)`, by numbers.
+const RULE: &[u8] =
+    b"rule,1\ninputs,1,2\noutput,3\nswitch,\"Switch(else=>Concat(Whole(Col(1)),Const(' ('),Whole(Col(2)),Const(')')))\"\n";
+
+/// The same with a line that no rule has.
+const BAD: &[u8] = b"rule,1\ninputs,1,2\noutput,2\nswitch,\"Switch(else=>Const('x'))\"\n";
+
+/// A run of the file `rule.csv`, and what it comes to.
+#[derive(Clone, Copy)]
+struct Row<'a> {
+    /// The name of the file with these bytes.
+    name: &'a str,
+    bytes: &'a [u8],
+    /// The read of the file that fails, 0 where none does.
+    failing: u64,
+    quiet: bool,
+    status: u8,
+    output: &'a [u8],
+    line: &'a [u8],
+}
+
+/// Whether a run comes to what the row says.
+fn runs(alloc: Global, row: &Row) -> Result<bool, Fail> {
+    let mut cabinet = MemoryCabinet::new(alloc, 20);
+    cabinet.put(row.name, row.bytes)?;
+    cabinet.fail_at(row.failing)?;
+    let mut out = MemorySink::new(alloc, 10_000, 7)?;
+    let mut err = MemorySink::new(alloc, 10_000, 7)?;
+    let file = RuleFile {
+        name: "rule.csv",
+        quiet: row.quiet,
+    };
+    let source = MemorySource::new(b"Ada,London\n", 5, 0);
+    let ran = run_rule_file(alloc, file, &mut cabinet, source, &mut out, &mut err);
+    Ok(ran.status == row.status && out.written() == row.output && err.written() == row.line)
+}
+
+#[test]
+fn rules_in_files_are_run(rt: HostRuntime) -> Result<(), Fail> {
+    let there = Row {
+        name: "rule.csv",
+        bytes: RULE,
+        failing: 0,
+        quiet: false,
+        status: 0,
+        output: b"Ada,London,Ada (London)\n",
+        line: b"fillcsv: 1 rows, 1 filled\n",
+    };
+    let quiet = Row {
+        quiet: true,
+        line: b"",
+        ..there
+    };
+    let missing = Row {
+        name: "other.csv",
+        status: 3,
+        output: b"",
+        line: b"fillcsv: rule.csv: cannot be read\n",
+        ..there
+    };
+    let failing = Row {
+        name: "rule.csv",
+        failing: 2,
+        ..missing
+    };
+    let bad = Row {
+        bytes: BAD,
+        status: 5,
+        output: b"",
+        line: b"fillcsv: rule.csv: line 3 is not understood\n",
+        ..there
+    };
+    for row in [there, quiet, missing, failing, bad] {
+        assert!(rt; runs(rt.alloc(), &row)?);
+    }
+    Ok(())
+}
