@@ -1,6 +1,8 @@
 pub mod Ends
+pub mod Fills
 pub mod Ground
 pub mod Lines
 pub mod Opening
 pub mod Read
 pub mod Said
+pub mod Saved

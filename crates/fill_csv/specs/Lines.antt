@@ -11,6 +11,10 @@ use Rattle.fill_columns.specs.Choice.{Refusal, Missing, Ambiguous, Filled, Again
 abbrev pub unread_line : List ℕ → List ℕ
 unread_line name = line_of name (codes "cannot be read\n")
 
+-- the line of a rule that could not be saved under this path
+abbrev pub unsaved_line : List ℕ → List ℕ
+unsaved_line path = line_of path (codes "cannot be written\n")
+
 abbrev pub output_line : List ℕ
 output_line = codes "fillcsv: output cannot be written\n"
 

@@ -1,11 +1,11 @@
 -- The status and the line of a stop, and what is said.
-use Rattle.std.specs.Prelude.{◌⊎◌, ℕ, List, Option, string_bytes}
+use Rattle.std.specs.Prelude.{◌≡◌, ◌⊎◌, ℕ, List, Option, string_bytes}
 use Rattle.std.specs.Io.KnownBytes.{Appends}
 use Rattle.fill_edge.specs.Outside.{Rose, AppendsPart}
 use Rattle.fill_open.specs.declared.stop.Stop.{Stop}
 use Rattle.fill_open.specs.declared.stop.Stop.TheVariants as stop
 use Rattle.fill_lookups.specs.Lines.{memory_line}
-use Rattle.fill_csv.specs.Lines.{unread_line}
+use Rattle.fill_csv.specs.Lines.{unread_line, unsaved_line}
 
 -- the status of a stop
 abbrev pub status_of : Stop → ℕ
@@ -22,3 +22,7 @@ stop_line stop.NoMemory = memory_line
 -- the line was written, or a proper prefix of it where a write failed
 abbrev pub Says : Option (List ℕ) → Option (List ℕ) → ℕ → ℕ → List ℕ → Type 0
 Says old new before now line = Appends old new line ⊎ (Rose before now × AppendsPart old new line)
+
+-- the status of a rule that could not be saved under a path, and the line that says it; there may be no memory for that
+abbrev pub IsUnsaved : List ℕ → ℕ → (List ℕ → Type 0) → Type 0
+IsUnsaved path status Said = ((status ≡ 4) × Said (unsaved_line path)) ⊎ ((status ≡ 6) × Said memory_line)

@@ -1,63 +1,93 @@
-//! The run of `fillcsv`, over any cabinet of files and any sinks.
-ghost use Rattle.std.specs.Prelude.{◌≡◌, ◌⊎◌, ◌≤◌, map, string_bytes, true};
+//! The run of `fillcsv`, over any cabinet of files, any store, any input and any sinks.
+ghost use Rattle.std.specs.Prelude.{◌≡◌, ◌⊎◌, ◌≤◌, ℕ, List as Listed, [], All, Option as Optional, map, option_map, string_bytes, true, unwrap_or};
 ghost use Rattle.fill_edge.specs.Outside.{Rose};
-ghost use Rattle.fill_words.specs.Words.{AskedData, Asks, Shows, Wrong, asked_in};
-ghost use Rattle.fill_csv.specs.Ends.{EndsFilled};
-ghost use Rattle.fill_lookups.specs.Lines.{memory_line};
-ghost use Rattle.fill_csv.specs.Lines.{output_line};
-ghost use Rattle.fill_csv.specs.Said.{Says};
+ghost use Rattle.fill_filter.specs.RuleFile.{RanFile};
+ghost use Rattle.fill_words.specs.Words.{AskedData, Asks, IsLookup, Runs, SavedData, Shows, Wrong, asked_in, data_of, lookup_data};
+ghost use Rattle.fill_csv.specs.Ends.{EndsFilled, EndsShown};
+ghost use Rattle.fill_csv.specs.Fills.{EndsTold};
+ghost use Rattle.fill_csv.specs.Said.{IsUnsaved, Says};
 
 use crate::fill::fill;
+use crate::lines::unsaved_line;
+use crate::saving::{lacks_rule, store_text};
 use crate::stop::{MEMORY_LINE, OUTPUT_LINE, say};
-use fill_edge::{Cabinet, Ledger, Sink, Steps, write_all};
-use fill_words::{Refusal, read_words};
-use std::alloc::Global;
+use crate::told::Told;
+use fill_edge::{Cabinet, Failed, Sink, write_all};
+use fill_files::Store;
+use fill_filter::{RuleFile, run_rule_file};
+use fill_stream::Source;
+use fill_words::{Asked, Order, Refusal, read_words};
+use std::alloc::{AllocError, Global};
+use std::marker::Brand;
+use std::sync::ledger::Blank;
+
+/// The files that a run reads, and those that it saves.
+#[derive(Drop)]
+pub struct Folder<C, T> {
+    pub cabinet: C,
+    pub store: T,
+}
 
 /// Runs `fillcsv` with these words, those after the program's name, and answers the status.
 ///
 /// The words name a sheet and the column that is to be filled. What they give for rows and its filled cells are the
 /// examples, where they can be; each other cell of it is filled by the rule that is learned from them, and the sheet is
-/// written to `out`, record by record. Lines on `err` say what was filled, or why there is no sheet.
+/// written to `out`, record by record. The rule is saved where they ask for it. Lines on `err` say what was filled, or why
+/// there is no sheet.
+///
+/// Or they name a saved rule, which is run over the sheet that comes from the input.
 ///
 /// | status | meaning |
 /// |---|---|
 /// | 0 | the whole sheet was written, or help was asked for |
-/// | 1 | the whole sheet was written, and some given text is no example, or with `--strict` some cell is neither given nor sure |
+/// | 1 | the whole sheet was written, and some given text is no example, or there is no rule to save, or with `--strict` some cell is neither given nor sure |
 /// | 2 | the words are wrong |
-/// | 3 | the file is not there or could not be read |
-/// | 4 | the output could not be written |
-/// | 5 | the file is refused, or has no such columns or rows |
-/// | 6 | want of memory |
-pub fn run<C: Cabinet, O: Sink, E: Sink, L: Ledger>(
+/// | 3 | a file is not there, or it or the input could not be read |
+/// | 4 | the output or the rule could not be written |
+/// | 5 | a file or the input is refused, or has no such columns or rows |
+/// | 6 | out of memory |
+pub fn run<C: Cabinet, T: Store, S: Source + Drop, O: Sink, E: Sink>(
     alloc: Global,
     words: &[String],
-    cabinet: &mut C,
+    folder: &mut Folder<C, T>,
+    input: S,
     out: &mut O,
     err: &mut E,
-    steps: &mut Steps<L>,
 ) -> u8
     // Where the words ask for a sheet, the run ends as its filling does.
     ensures filled { (asked : AskedData) → asked_in (map string_bytes words.now) ≡ Asks asked →
-        EndsFilled asked (C.files cabinet.old) result (C.faults cabinet.old) (C.faults cabinet.new) (O.written out.old) (O.written out.new)
+        EndsFilled asked (C.files folder.old.cabinet) result (C.faults folder.old.cabinet) (C.faults folder.new.cabinet) (O.written out.old) (O.written out.new)
+        (record { files = T.saved folder.old.store; faults = T.faults folder.old.store }) (record { files = T.saved folder.new.store; faults = T.faults folder.new.store })
         (Says (E.written err.old) (E.written err.new) (E.faults err.old) (E.faults err.new)) }
 
+    // Where they name a saved rule, it ends as the run of that rule does, with the input at some place.
+    ensures ran { (saved : SavedData) → asked_in (map string_bytes words.now) ≡ Runs saved → (left : Optional (Listed ℕ)) × (faults : ℕ)
+        × RanFile saved.rule (C.files folder.old.cabinet) (C.faults folder.old.cabinet) (C.faults folder.new.cabinet) result (S.left input) left (S.faults input) faults
+        (O.written out.old) (O.written out.new) (O.faults out.old) (O.faults out.new) (Says (E.written err.old) (E.written err.new) (E.faults err.old) (E.faults err.new)) }
+    ensures stays { (saved : SavedData) → asked_in (map string_bytes words.now) ≡ Runs saved → folder.new.store ≡ folder.old.store }
+
     // Where they are wrong, nothing is read and nothing is written to `out`.
-    ensures wrong { asked_in (map string_bytes words.now) ≡ Wrong → ((result ≡ 2) ⊎ (result ≡ 6)) × (cabinet.new ≡ cabinet.old) × (out.new ≡ out.old) }
+    ensures wrong { asked_in (map string_bytes words.now) ≡ Wrong → ((result ≡ 2) ⊎ (result ≡ 6)) × (folder.new ≡ folder.old) × (out.new ≡ out.old) }
 
     // Where they ask for help, nothing is read.
-    ensures shown { asked_in (map string_bytes words.now) ≡ Shows → ((result ≡ 0) ⊎ (result ≡ 4) ⊎ (result ≡ 6)) × (cabinet.new ≡ cabinet.old) }
+    ensures shown { asked_in (map string_bytes words.now) ≡ Shows → EndsShown result (Says (E.written err.old) (E.written err.new) (E.faults err.old) (E.faults err.new)) × (folder.new ≡ folder.old) }
 
     // Where they ask for quiet, nothing is said of a sheet that was written.
     ensures silent { (asked : AskedData) → asked_in (map string_bytes words.now) ≡ Asks asked → asked.quiet ≡ true → result ≤ 1 → err.new ≡ err.old }
 
-    ensures fault { result ≡ 4 → Rose (O.faults out.old) (O.faults out.new) }
-    ensures fault_said { result ≡ 4 → Says (E.written err.old) (E.written err.new) (E.faults err.old) (E.faults err.new) output_line }
-    ensures memory_said { result ≡ 6 → Says (E.written err.old) (E.written err.new) (E.faults err.old) (E.faults err.new) memory_line }
+    ensures fault { result ≡ 4 → Rose (O.faults out.old) (O.faults out.new) ⊎ Rose (T.faults folder.old.store) (T.faults folder.new.store) }
     ensures statuses { result ≤ 6 }
-    ensures files { C.files cabinet.new ≡ C.files cabinet.old }
+    ensures files { C.files folder.new.cabinet ≡ C.files folder.old.cabinet }
 {
     match read_words(alloc, words) {
-        Ok(asked) => fill(alloc, &asked, cabinet, out, err, steps),
+        Ok(Order::Fill(asked)) => fill_sheet(alloc, &asked, folder, out, err),
+        Ok(Order::Run(saved)) => {
+            let file = RuleFile {
+                name: saved.rule.as_str(),
+                quiet: saved.quiet,
+            };
+            run_rule_file(alloc, file, &mut folder.cabinet, input, out, err).status
+        }
         Err(Refusal::Usage(text)) => {
             let _ = write_all(err, text.as_bytes());
             2
@@ -70,11 +100,100 @@ pub fn run<C: Cabinet, O: Sink, E: Sink, L: Ledger>(
     }
 }
 
+/// Fills the column that the words ask for, saves the rule where they ask for it, and answers the status.
+fn fill_sheet<C: Cabinet, T: Store, O: Sink, E: Sink>(
+    alloc: Global,
+    asked: &Asked,
+    folder: &mut Folder<C, T>,
+    out: &mut O,
+    err: &mut E,
+) -> u8
+    requires { All IsLookup (map lookup_data asked.now.lookups.items) }
+    ensures ends { EndsFilled (data_of asked.now) (C.files folder.old.cabinet) result (C.faults folder.old.cabinet) (C.faults folder.new.cabinet) (O.written out.old) (O.written out.new)
+        (record { files = T.saved folder.old.store; faults = T.faults folder.old.store }) (record { files = T.saved folder.new.store; faults = T.faults folder.new.store })
+        (Says (E.written err.old) (E.written err.new) (E.faults err.old) (E.faults err.new)) }
+    ensures silent { asked.now.quiet ≡ true → result ≤ 1 → err.new ≡ err.old }
+    ensures fault { result ≡ 4 → Rose (O.faults out.old) (O.faults out.new) ⊎ Rose (T.faults folder.old.store) (T.faults folder.new.store) }
+    ensures statuses { result ≤ 6 }
+    ensures files { C.files folder.new.cabinet ≡ C.files folder.old.cabinet }
+{
+    let filled = fill::<C, O, E, Brand>(alloc, asked, &mut folder.cabinet, out, err, Blank::new(1));
+    match filled {
+        Ok(told) => end(alloc, asked, &told, &mut folder.store, err),
+        Err(status) => status,
+    }
+}
+
+/// Saves the rule of a sheet that was written, where the words ask for it, tells of the sheet, and answers the status.
+fn end<T: Store, E: Sink>(
+    alloc: Global,
+    asked: &Asked,
+    told: &Told,
+    store: &mut T,
+    err: &mut E,
+) -> u8
+    ensures ends { EndsTold (data_of asked.now) told.now result (record { files = T.saved store.old; faults = T.faults store.old }) (record { files = T.saved store.new; faults = T.faults store.new })
+        (Says (E.written err.old) (E.written err.new) (E.faults err.old) (E.faults err.new)) }
+    ensures silent { asked.now.quiet ≡ true → result ≤ 1 → err.new ≡ err.old }
+{
+    match store_text(store, &asked.save, &told.text) {
+        Ok(()) => {
+            tell_of(alloc, asked, told, err);
+            if told.is_wanting(asked.strict) || lacks_rule(&asked.save, &told.text) {
+                1
+            } else {
+                0
+            }
+        }
+        Err(Failed) => tell_unsaved(alloc, path_of(&asked.save), err),
+    }
+}
+
+/// A path, and the empty text where there is none.
+fn path_of(path: &Option<String>) -> &str
+    ensures { result.now ≡ unwrap_or (option_map string_bytes path.now) [] }
+{
+    match path {
+        Some(path) => path.as_str(),
+        None => "",
+    }
+}
+
+/// Tells that the rule could not be saved, and answers the status: that of the output, or of memory where there is none for the
+/// line.
+fn tell_unsaved<E: Sink>(alloc: Global, path: &str, err: &mut E) -> u8
+    ensures { IsUnsaved path.now result (Says (E.written err.old) (E.written err.new) (E.faults err.old) (E.faults err.new)) }
+{
+    match unsaved_line(alloc, path) {
+        Ok(line) => {
+            say(err, line.as_bytes());
+            4
+        }
+        Err(AllocError) => {
+            say(err, MEMORY_LINE);
+            6
+        }
+    }
+}
+
+/// Tells of a sheet that was written, if the words do not ask for quiet.
+fn tell_of<E: Sink>(alloc: Global, asked: &Asked, told: &Told, err: &mut E)
+    ensures { asked.now.quiet ≡ true → err.new ≡ err.old }
+{
+    if asked.quiet {
+        return;
+    }
+    told.say(alloc, asked.header, err);
+    if lacks_rule(&asked.save, &told.text) {
+        say(err, b"fillcsv: no rule to save\n");
+    }
+}
+
 /// Writes a text that was asked for, and answers the status.
 fn show<O: Sink, E: Sink>(text: &str, out: &mut O, err: &mut E) -> u8
+    ensures ends { EndsShown result (Says (E.written err.old) (E.written err.new) (E.faults err.old) (E.faults err.new)) }
     ensures statuses { (result ≡ 0) ⊎ (result ≡ 4) }
     ensures fault { result ≡ 4 → Rose (O.faults out.old) (O.faults out.new) }
-    ensures fault_said { result ≡ 4 → Says (E.written err.old) (E.written err.new) (E.faults err.old) (E.faults err.new) output_line }
 {
     match write_all(out, text.as_bytes()) {
         Ok(()) => 0,

@@ -1,5 +1,5 @@
 //! Filling a sheet.
-ghost use Rattle.std.specs.Prelude.{◌≡◌, ◌⊎◌, ◌≤◌, ℕ, List as Listed, [], All, IfOk, IfSome, IsErrOf, drop, length, map, true};
+ghost use Rattle.std.specs.Prelude.{◌≡◌, ◌⊎◌, ◌≤◌, ℕ, List as Listed, [], All, IfErr, IfOk, IfSome, IsErrOf, IsOk, drop, length, map, option_map};
 ghost use Rattle.std.specs.List.{list_any};
 ghost use Rattle.std.specs.Io.KnownBytes.{Keeps};
 ghost use Rattle.fill_edge.specs.Outside.{Rose};
@@ -11,15 +11,16 @@ ghost use Rattle.fill_filled.specs.Filled.{AreCellStates, WritesPart, WritesRows
 ghost use Rattle.fill_filled.specs.Learned.{AreLearned};
 ghost use Rattle.fill_words.specs.Words.{IsLookup, data_of, lookup_data};
 ghost use Rattle.fill_csv.specs.Ends.{EndsFilled, form_of, head_of, rows_of};
-ghost use Rattle.fill_lookups.specs.Lines.{memory_line};
-ghost use Rattle.fill_csv.specs.Lines.{output_line};
+ghost use Rattle.fill_csv.specs.Fills.{Fills};
+ghost use Rattle.fill_csv.specs.Saved.{IsSavedText, StoreAt, saving_of};
 ghost use Rattle.fill_csv.specs.Ground.{ground_of, profile_of, settings_of};
 ghost use Rattle.fill_csv.specs.Said.{Says};
-ghost use Rattle.fill_csv.specs.Read.{AreParts, read_data};
+ghost use Rattle.fill_csv.specs.Read.{AreParts, columns_data, read_data};
 
 use crate::explain::Spoken;
 use crate::head;
 use crate::opening::{SheetRead, open_sheet};
+use crate::saving::{RuleColumns, saved_text, saving_of};
 use crate::stop::{MEMORY_LINE, OUTPUT_LINE, say, tell};
 use crate::told::Told;
 use fill_edge::{Cabinet, Ledger, Sink, Steps};
@@ -31,54 +32,47 @@ use fill_text::{List, NoMemory};
 use fill_tree::{Constants, Example, Profile, Settings};
 use fill_words::Asked;
 use std::alloc::Global;
+use std::sync::ledger::Blank;
 
-/// Fills the column that the words ask for, writes the sheet, and answers the status.
+/// Fills the column that the words ask for, and writes the sheet. Where that fails, the line that says why is written too, and
+/// the answer is the status.
 pub(crate) fn fill<C: Cabinet, O: Sink, E: Sink, L: Ledger>(
     alloc: Global,
     asked: &Asked,
     cabinet: &mut C,
     out: &mut O,
     err: &mut E,
-    steps: &mut Steps<L>,
-) -> u8
-    requires { All IsLookup (map lookup_data asked.now.lookups.items) }
-    ensures ends { EndsFilled (data_of asked.now) (C.files cabinet.old) result (C.faults cabinet.old) (C.faults cabinet.new) (O.written out.old) (O.written out.new)
-        (Says (E.written err.old) (E.written err.new) (E.faults err.old) (E.faults err.new)) }
-    ensures fault { result ≡ 4 → Rose (O.faults out.old) (O.faults out.new) }
-    ensures fault_said { result ≡ 4 → Says (E.written err.old) (E.written err.new) (E.faults err.old) (E.faults err.new) output_line }
-    ensures memory_said { result ≡ 6 → Says (E.written err.old) (E.written err.new) (E.faults err.old) (E.faults err.new) memory_line }
-    ensures silent { asked.now.quiet ≡ true → result ≤ 1 → err.new ≡ err.old }
-    ensures statuses { result ≤ 6 }
+    blank: Blank,
+) -> Result<Told, u8>
+    requires name { blank.name ≡ L.name }
+    requires parts { blank.parts ≡ L.parts }
+    requires one { blank.parts ≡ 1 }
+    requires lookups { All IsLookup (map lookup_data asked.now.lookups.items) }
+    ensures filled { IfOk result (λ told. Fills (data_of asked.now) (C.files cabinet.old) (O.written out.old) (O.written out.new) told) }
+    ensures silent { IsOk result → err.new ≡ err.old }
+    ensures ends { IfErr result (λ status. (store : StoreAt) → EndsFilled (data_of asked.now) (C.files cabinet.old) status (C.faults cabinet.old) (C.faults cabinet.new) (O.written out.old) (O.written out.new) store store
+        (Says (E.written err.old) (E.written err.new) (E.faults err.old) (E.faults err.new))) }
+    ensures fault { IsErrOf result 4 → Rose (O.faults out.old) (O.faults out.new) }
+    ensures statuses { IfErr result (λ status. (2 ≤ status) × (status ≤ 6)) }
     ensures files { C.files cabinet.new ≡ C.files cabinet.old }
 {
     let read = match open_sheet(alloc, cabinet, asked) {
         Ok(read) => read,
-        Err(stop) => return tell(alloc, err, &stop),
+        Err(stop) => return Err(tell(alloc, err, &stop)),
     };
-    match write(alloc, asked, read, out, steps) {
-        Ok(told) => {
-            tell_of(alloc, asked, &told, err);
-            if told.is_wanting(asked.strict) { 1 } else { 0 }
-        }
+    let (book, share) = blank.open::<L>();
+    let mut steps = Steps::new(book, share);
+    match write(alloc, asked, read, out, &mut steps) {
+        Ok(told) => Ok(told),
         Err(Halt::Fault) => {
             say(err, OUTPUT_LINE);
-            4
+            Err(4)
         }
         Err(Halt::NoMemory) => {
             say(err, MEMORY_LINE);
-            6
+            Err(6)
         }
     }
-}
-
-/// Tells of a sheet that was written, if the words do not ask for quiet.
-fn tell_of<E: Sink>(alloc: Global, asked: &Asked, told: &Told, err: &mut E)
-    ensures { asked.now.quiet ≡ true → err.new ≡ err.old }
-{
-    if asked.quiet {
-        return;
-    }
-    told.say(alloc, asked.header, err);
 }
 
 /// The settings that words ask for, by the number of the profile and how many lookups may stand inside each other.
@@ -119,7 +113,8 @@ fn write<O: Sink, L: Ledger>(
         × AreLearned read.typed (ground_of (data_of asked.now) (read_data read)) examples told.refused
         × AreCellStates read.typed (ground_of (data_of asked.now) (read_data read)) examples (length (rows_of (data_of asked.now) (read_data read))) states
         × (told.summary.unsure ≡ list_any is_unsure states)
-        × (let d = data_of asked.now in let r = read_data read in WritesRows (form_of d r) read.typed (ground_of d r) examples (rows_of d r) (head_of d r) (length (rows_of d r)) (O.written out.old) (O.written out.new))) }
+        × (let d = data_of asked.now in let r = read_data read in WritesRows (form_of d r) read.typed (ground_of d r) examples (rows_of d r) (head_of d r) (length (rows_of d r)) (O.written out.old) (O.written out.new))
+        × IsSavedText (saving_of (data_of asked.now) (read_data read)) (ground_of (data_of asked.now) (read_data read)) examples told.text) }
     ensures part { IsErrOf result Halt.Fault → ((examples : Listed Example) × (refused : Listed Refused) × (n : ℕ) × AreLearned read.typed (ground_of (data_of asked.now) (read_data read)) examples refused
         × (let d = data_of asked.now in let r = read_data read in (n ≤ length (rows_of d r)) × WritesPart (form_of d r) read.typed (ground_of d r) examples (rows_of d r) (head_of d r) n (O.written out.old) (O.written out.new))) }
     ensures fault { IsErrOf result Halt.Fault → Rose (O.faults out.old) (O.faults out.new) }
@@ -128,6 +123,7 @@ fn write<O: Sink, L: Ledger>(
 {
     let form = head::form_of(asked, &read);
     let head = head::head_of(alloc, asked, &read, &form)?;
+    let saving = saving_of(alloc, asked, &read)?;
     let spoken = Spoken::of(alloc, asked, &read)?;
     let SheetRead {
         records,
@@ -146,7 +142,7 @@ fn write<O: Sink, L: Ledger>(
         spoken: &spoken,
         explain: asked.explain,
     };
-    write_page(alloc, &page, &mut session, out, steps)
+    write_page(alloc, &page, saving, &mut session, out, steps)
 }
 
 /// What is written of a sheet beside its answers.
@@ -196,10 +192,12 @@ fn doubts_of(alloc: Global, page: &Page<'_>, session: &Session, rows: &[u32]) ->
     doubts
 }
 
-/// Learns from the sheet's column, and writes the sheet with it filled.
+/// Learns from the sheet's column, and writes the sheet with it filled. The text of the rule is made too, where it is to be
+/// saved.
 fn write_page<O: Sink, L: Ledger>(
     alloc: Global,
     page: &Page<'_>,
+    saving: Option<RuleColumns>,
     session: &mut Session,
     out: &mut O,
     steps: &mut Steps<L>,
@@ -212,7 +210,8 @@ fn write_page<O: Sink, L: Ledger>(
         × AreLearned page.now.typed.now session.old.spaces.ground examples told.refused
         × AreCellStates page.now.typed.now session.old.spaces.ground examples (length page.now.rows.now) states
         × (told.summary.unsure ≡ list_any is_unsure states)
-        × (let p = page.now in WritesRows p.form p.typed.now session.old.spaces.ground examples p.rows.now p.head.now (length p.rows.now) (O.written out.old) (O.written out.new))) }
+        × (let p = page.now in WritesRows p.form p.typed.now session.old.spaces.ground examples p.rows.now p.head.now (length p.rows.now) (O.written out.old) (O.written out.new))
+        × IsSavedText (option_map columns_data saving) session.old.spaces.ground examples told.text) }
     ensures part { IsErrOf result Halt.Fault → ((examples : Listed Example) × (refused : Listed Refused) × (n : ℕ) × AreLearned page.now.typed.now session.old.spaces.ground examples refused
         × (let p = page.now in (n ≤ length p.rows.now) × WritesPart p.form p.typed.now session.old.spaces.ground examples p.rows.now p.head.now n (O.written out.old) (O.written out.new))) }
     ensures fault { IsErrOf result Halt.Fault → Rose (O.faults out.old) (O.faults out.new) }
@@ -230,6 +229,7 @@ fn write_page<O: Sink, L: Ledger>(
     };
     match write_filled(alloc, &filling, &mut summary, out) {
         Ok(()) => Ok(Told {
+            text: saved_text(alloc, saving, session)?,
             refused,
             summary,
             rule: page

@@ -7,9 +7,10 @@ mod fill;
 mod head;
 mod lines;
 mod opening;
+mod saving;
 mod stop;
 mod told;
 mod typed;
 
-pub use command::run;
+pub use command::{Folder, run};
 pub use stop::{MEMORY_LINE, say};

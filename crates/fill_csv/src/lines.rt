@@ -1,6 +1,6 @@
 //! The lines that say why no sheet was written.
 ghost use Rattle.std.specs.Prelude.{◌≡◌, ◌≢◌, IfOk, string_bytes};
-ghost use Rattle.fill_csv.specs.Lines.{IsChoiceLine, row_line, sheet_line, unread_line};
+ghost use Rattle.fill_csv.specs.Lines.{IsChoiceLine, row_line, sheet_line, unread_line, unsaved_line};
 
 use fill_columns::ChoiceError;
 use fill_sheet::SheetError;
@@ -11,6 +11,13 @@ pub(crate) fn unread_line(alloc: Global, name: &str) -> Result<String, AllocErro
     ensures { IfOk result (λ line. string_bytes line ≡ unread_line name.now) }
 {
     format!(in alloc; "fillcsv: {name}: cannot be read\n")
+}
+
+/// The line of a rule that could not be saved under this path.
+pub(crate) fn unsaved_line(alloc: Global, path: &str) -> Result<String, AllocError>
+    ensures { IfOk result (λ line. string_bytes line ≡ unsaved_line path.now) }
+{
+    format!(in alloc; "fillcsv: {path}: cannot be written\n")
 }
 
 /// The line of a file that spells no sheet.

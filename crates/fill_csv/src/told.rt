@@ -21,6 +21,8 @@ pub(crate) struct Told {
     pub rule: Vec<String>,
     /// What else the cells of the first rows in doubt could be.
     pub doubts: Vec<String>,
+    /// The text of the rule, where it is to be saved and there is one.
+    pub text: Option<List<u8>>,
 }
 
 impl Told {

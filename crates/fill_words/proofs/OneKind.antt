@@ -23,8 +23,8 @@ use Rattle.clap.specs.declared.error.Error.{Error}
 use Rattle.clap.proofs.FaultLemmas.{leaf_fault}
 use Rattle.fill_words.specs.declared.refusal.Refusal.{Refusal}
 use Rattle.fill_words.specs.declared.refusal.Refusal.TheVariants.{NoMemory}
-use Rattle.fill_words.specs.Options.{app}
-use Rattle.fill_words.specs.Words.{IsRefusedBy, asked_in, meaning_of, meaning_of_kind, meaning_of_rows}
+use Rattle.fill_words.specs.Options.{app, run_app}
+use Rattle.fill_words.specs.Words.{IsRefusedBy, Meaning, meaning_of, meaning_of_kind, meaning_of_rows, run_meaning, run_of_rows, sheet_meaning}
 
 pub app_is_simple : is_simple app ≡ true
 unfolding app
@@ -33,6 +33,14 @@ app_is_simple = refl
 pub app_is_simple_and_free : is_simple_and_free app ≡ true
 unfolding app
 app_is_simple_and_free = refl
+
+pub run_is_simple : is_simple run_app ≡ true
+unfolding run_app
+run_is_simple = refl
+
+pub run_is_simple_and_free : is_simple_and_free run_app ≡ true
+unfolding run_app
+run_is_simple_and_free = refl
 
 -- ---- at most one kind
 
@@ -215,21 +223,41 @@ unfolding app
 fault_one words = subst OneAtMost (sym (leaf_fault (built app) nothing_held (argument_words app words) refl))
     (level_one (built app).top refl nothing_held (argument_words app words) false)
 
+run_fault_one : (words : List Text) → OneAtMost (fault_of run_app words)
+unfolding run_app
+run_fault_one words = subst OneAtMost (sym (leaf_fault (built run_app) nothing_held (argument_words run_app words) refl))
+    (level_one (built run_app).top refl nothing_held (argument_words run_app words) false)
+
 -- ---- what a refusal says
 
-among : (k : ErrorKind) (kinds : Kinds) (rows : List Row) → OneAtMost kinds → IsAmong k kinds → meaning_of kinds rows ≡ meaning_of_kind k
-among k [] rows few h = absurd h
-among k (x ∷ []) rows few (inl e) = ap meaning_of_kind (sym e)
-among k (x ∷ []) rows few (inr h) = absurd h
-among k (x ∷ y ∷ rest) rows few h = let n = few.few in absurd (omega arith)
+among : (taken : List Row → Meaning) (k : ErrorKind) (kinds : Kinds) (rows : List Row) → OneAtMost kinds → IsAmong k kinds → meaning_of taken kinds rows ≡ meaning_of_kind k
+among taken k [] rows few h = absurd h
+among taken k (x ∷ []) rows few (inl e) = ap meaning_of_kind (sym e)
+among taken k (x ∷ []) rows few (inr h) = absurd h
+among taken k (x ∷ y ∷ rest) rows few h = let n = few.few in absurd (omega arith)
+
+says : (taken : List Row → Meaning) (kinds : Kinds) (rows : List Row) (e : Error) (r : Refusal) → OneAtMost kinds → HasKind kinds e
+    → IsRefusedBy (meaning_of_kind (kind_of e)) r → (kind_of e ≡ OutOfMemory → r ≡ NoMemory) → IsRefusedBy (meaning_of taken kinds rows) r
+says taken kinds rows e r few (inl out) said memory = subst (IsRefusedBy (meaning_of taken kinds rows)) (sym (memory out)) tt
+says taken kinds rows e r few (inr found) said memory = subst (λ m. IsRefusedBy m r) (sym (among taken (kind_of e) kinds rows few found)) said
+
+means : (taken : List Row → Meaning) (kinds : Kinds) (rows found : List Row) → kinds ≡ [] → found ≡ rows → taken found ≡ meaning_of taken kinds rows
+means taken kinds rows found fine are = ap taken are ∙ ap (λ k. meaning_of taken k rows) (sym fine)
 
 pub refusal_says : (words : List Text) (e : Error) (r : Refusal) → HasKind (fault_of app words) e
-    → IsRefusedBy (meaning_of_kind (kind_of e)) r → (kind_of e ≡ OutOfMemory → r ≡ NoMemory) → IsRefusedBy (asked_in words) r
-unfolding asked_in
-refusal_says words e r (inl out) said memory = subst (IsRefusedBy (asked_in words)) (sym (memory out)) tt
-refusal_says words e r (inr found) said memory =
-    subst (λ m. IsRefusedBy m r) (sym (among (kind_of e) (fault_of app words) (matches_of app words) (fault_one words) found)) said
+    → IsRefusedBy (meaning_of_kind (kind_of e)) r → (kind_of e ≡ OutOfMemory → r ≡ NoMemory) → IsRefusedBy (sheet_meaning words) r
+unfolding sheet_meaning
+refusal_says words e r has said memory = says meaning_of_rows (fault_of app words) (matches_of app words) e r (fault_one words) has said memory
 
-pub taken_means : (words : List Text) (rows : List Row) → fault_of app words ≡ [] → rows ≡ matches_of app words → meaning_of_rows rows ≡ asked_in words
-unfolding asked_in
-taken_means words rows fine are = ap meaning_of_rows are ∙ ap (λ k. meaning_of k (matches_of app words)) (sym fine)
+pub run_refusal_says : (words : List Text) (e : Error) (r : Refusal) → HasKind (fault_of run_app words) e
+    → IsRefusedBy (meaning_of_kind (kind_of e)) r → (kind_of e ≡ OutOfMemory → r ≡ NoMemory) → IsRefusedBy (run_meaning words) r
+unfolding run_meaning
+run_refusal_says words e r has said memory = says run_of_rows (fault_of run_app words) (matches_of run_app words) e r (run_fault_one words) has said memory
+
+pub taken_means : (words : List Text) (rows : List Row) → fault_of app words ≡ [] → rows ≡ matches_of app words → meaning_of_rows rows ≡ sheet_meaning words
+unfolding sheet_meaning
+taken_means words rows fine are = means meaning_of_rows (fault_of app words) (matches_of app words) rows fine are
+
+pub run_taken_means : (words : List Text) (rows : List Row) → fault_of run_app words ≡ [] → rows ≡ matches_of run_app words → run_of_rows rows ≡ run_meaning words
+unfolding run_meaning
+run_taken_means words rows fine are = means run_of_rows (fault_of run_app words) (matches_of run_app words) rows fine are

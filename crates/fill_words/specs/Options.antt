@@ -37,12 +37,24 @@ rules = several_rule (codes "table") ∷ several_rule (codes "key") ∷ value_ru
 
 -- the words that say what is written
 abbrev pub outputs : List Rule
-outputs = flag_rule (codes "state") ∷ value_rule (codes "only") ∷ flag_rule (codes "strict") ∷ flag_rule (codes "quiet") ∷ flag_rule (codes "explain") ∷ []
+outputs = flag_rule (codes "state") ∷ value_rule (codes "only") ∷ flag_rule (codes "strict") ∷ flag_rule (codes "quiet") ∷ flag_rule (codes "explain") ∷ text_rule (codes "save") ∷ []
+
+-- the words that say which saved rule is run, and how much is told of it
+abbrev pub runs : List Rule
+runs = text_rule (codes "rule") ∷ flag_rule (codes "quiet") ∷ []
 
 -- a command with further rules
 abbrev pub with_rules : App → List Rule → App
 with_rules a rules = on_top (λ s. record s { rules = s.rules ++ rules }) a
 
--- the words that the program takes: beside these `--help` and `--version`, and `--` before a FILE that begins with `-`
+-- a program that takes no words but `--help` and `--version`
+abbrev pub bare_app : App
+bare_app = on_top (λ s. record s { no_binary_name = true; has_version = true }) (new_app (codes "fillcsv"))
+
+-- the words that the program takes to fill a sheet: beside these `--help` and `--version`, and `--` before a FILE that begins with `-`
 unfoldable pub app : App
-app = with_rules (with_rules (with_rules (on_top (λ s. record s { no_binary_name = true; has_version = true }) (new_app (codes "fillcsv"))) inputs) rules) outputs
+app = with_rules (with_rules (with_rules bare_app inputs) rules) outputs
+
+-- and the words that it takes to run a saved rule
+unfoldable pub run_app : App
+run_app = with_rules bare_app runs

@@ -1,6 +1,6 @@
 -- What the words of the command line mean.
 use Rattle.std.specs.Prelude.{◌≡◌, ◌==◌, ℕ, Bool, true, false, not, zero, suc, List, [], ◌∷◌, Option, Some, None, Result}
-use Rattle.std.specs.Prelude.{◌++◌, MatchResult, bytes_eq, codes, flat_map, length, map, nat_lt, option_and_then, option_map, string_bytes, unwrap_or, if◌then◌else◌, ⊤}
+use Rattle.std.specs.Prelude.{◌++◌, ◌||◌, All, MatchResult, bytes_eq, codes, flat_map, length, map, min, nat_lt, option_and_then, option_map, string_bytes, take, unwrap_or, if◌then◌else◌, ⊤}
 use Rattle.std.specs.List.{after_first, before_first, list_any, position_or_len, slice_split}
 use Rattle.std.specs.Option.{option_map_or}
 use Rattle.std.specs.Borrow.{Bor}
@@ -11,6 +11,9 @@ use Rattle.fill_script.specs.Line.{columns_in as numbers_of_columns}
 use Rattle.fill_script.specs.Number.{number_in}
 use Rattle.fill_tables.specs.Keys.{AreKeyColumns}
 use Rattle.fill_words.specs.declared.asked.Asked.{Asked}
+use Rattle.fill_words.specs.declared.asked.Order.{Order}
+use Rattle.fill_words.specs.declared.asked.Order.TheVariants as order
+use Rattle.fill_words.specs.declared.asked.Saved.{Saved}
 use Rattle.fill_words.specs.declared.asked.Lookup.{Lookup}
 use Rattle.fill_words.specs.declared.asked.Lookup.TheVariants as lookup
 use Rattle.fill_words.specs.declared.asked.Target.{Target}
@@ -19,7 +22,7 @@ use Rattle.fill_words.specs.declared.asked.Typed.{Typed}
 use Rattle.fill_words.specs.declared.reading.Chosen.{Chosen}
 use Rattle.fill_words.specs.declared.refusal.Refusal.{Refusal}
 use Rattle.fill_words.specs.declared.refusal.Refusal.TheVariants.{Shown, Usage, NoMemory}
-use Rattle.fill_words.specs.Options.{app}
+use Rattle.fill_words.specs.Options.{app, run_app}
 
 -- the column that is filled: one that is there, by its name or its number, or a new one of this name
 pub data TargetData : Type 0 where
@@ -68,6 +71,7 @@ pub record AskedData : Type 0 where
   pub quiet : Bool
   pub explain : Bool
   pub strict : Bool
+  pub save : Option Text
 
 abbrev pub data_of : Asked → AskedData
 data_of a = record {
@@ -85,11 +89,21 @@ data_of a = record {
   quiet = a.quiet;
   explain = a.explain;
   strict = a.strict;
+  save = option_map string_bytes a.save;
 }
 
--- words ask for a sheet, or for help or the version, or they are wrong
+-- a saved rule that is run: the path of its file, and whether nothing is told of a run that succeeds
+pub record SavedData : Type 0 where
+  pub rule : Text
+  pub quiet : Bool
+
+abbrev pub saved_data : Saved → SavedData
+saved_data s = record { rule = string_bytes s.rule; quiet = s.quiet }
+
+-- words ask for a filled sheet, or for the run of a saved rule, or for help or the version, or they are wrong
 pub data Meaning : Type 0 where
   Asks : AskedData → Meaning
+  Runs : SavedData → Meaning
   Shows : Meaning
   Wrong : Meaning
 
@@ -180,6 +194,14 @@ key_in word = if nat_lt (position_or_len (λ b. b == 58) word) (length word)
 abbrev pub lookups_in : List Text → List Text → Option (List LookupData)
 lookups_in tables keys = option_and_then (λ before. added key_in before keys) (added table_in [] tables)
 
+-- ---- saved rules
+
+-- the path that the rule is saved under, if it is; a rule that looks up in tables cannot be saved
+abbrev pub save_in : Option Text → List Text → Option (Option Text)
+save_in None tables = Some None
+save_in (Some path) [] = Some (Some path)
+save_in (Some path) (table ∷ tables) = None
+
 -- ---- all options
 
 -- the value of an option
@@ -202,6 +224,7 @@ pub record ChosenData : Type 0 where
   pub to : TargetData
   pub examples : List TypedData
   pub lookups : List LookupData
+  pub save : Option Text
 
 abbrev pub data_in : List Row → ChosenData → AskedData
 data_in rows chosen = record {
@@ -219,6 +242,7 @@ data_in rows chosen = record {
   quiet = is_set (codes "quiet") rows;
   explain = is_set (codes "explain") rows;
   strict = is_set (codes "strict") rows;
+  save = chosen.save;
 }
 
 abbrev pub chosen_data : Chosen → ChosenData
@@ -229,18 +253,19 @@ chosen_data c = record {
   to = target_data c.to;
   examples = map typed_data c.examples.items;
   lookups = map lookup_data c.lookups.items;
+  save = option_map string_bytes c.save;
 }
 
 -- these values, where there are all of them
-abbrev pub chosen : Option Bool → Option ℕ → Option ℕ → Option TargetData → Option (List TypedData) → Option (List LookupData) → Option ChosenData
-chosen (Some only_sure) (Some profile) (Some depth) (Some to) (Some examples) (Some lookups) =
-    Some (record { only_sure = only_sure; profile = profile; depth = depth; to = to; examples = examples; lookups = lookups })
-chosen _ _ _ _ _ _ = None
+abbrev pub chosen : Option Bool → Option ℕ → Option ℕ → Option TargetData → Option (List TypedData) → Option (List LookupData) → Option (Option Text) → Option ChosenData
+chosen (Some only_sure) (Some profile) (Some depth) (Some to) (Some examples) (Some lookups) (Some save) =
+    Some (record { only_sure = only_sure; profile = profile; depth = depth; to = to; examples = examples; lookups = lookups; save = save })
+chosen _ _ _ _ _ _ _ = None
 
 abbrev pub chosen_in : List Row → Option ChosenData
 chosen_in rows = chosen (only_sure_in (first_of (codes "only") rows)) (profile_in (first_of (codes "profile") rows)) (depth_in (first_of (codes "depth") rows))
     (target_in (first_of (codes "to") rows) (first_of (codes "new") rows)) (examples_in (texts_of (codes "example") rows))
-    (lookups_in (texts_of (codes "table") rows) (texts_of (codes "key") rows))
+    (lookups_in (texts_of (codes "table") rows) (texts_of (codes "key") rows)) (save_in (first_of (codes "save") rows) (texts_of (codes "table") rows))
 
 abbrev pub meaning_by : List Row → Option ChosenData → Meaning
 meaning_by rows None = Wrong
@@ -258,13 +283,29 @@ meaning_of_kind DisplayVersion = Shows
 meaning_of_kind _ = Wrong
 
 -- the meaning of words that `clap` takes, or that it refuses for the first of these kinds
-abbrev pub meaning_of : Kinds → List Row → Meaning
-meaning_of [] rows = meaning_of_rows rows
-meaning_of (kind ∷ kinds) rows = meaning_of_kind kind
+abbrev pub meaning_of : (List Row → Meaning) → Kinds → List Row → Meaning
+meaning_of taken [] rows = taken rows
+meaning_of taken (kind ∷ kinds) rows = meaning_of_kind kind
 
--- what the words after the program's name mean: what `clap` makes of them at these options
+-- what words mean that ask for a filled sheet: what `clap` makes of them at these options
+unfoldable pub sheet_meaning : List Text → Meaning
+sheet_meaning words = meaning_of meaning_of_rows (fault_of app words) (matches_of app words)
+
+-- the run that the words ask for which `clap` takes
+abbrev pub run_of_rows : List Row → Meaning
+run_of_rows rows = Runs (record { rule = text_of (codes "rule") rows; quiet = is_set (codes "quiet") rows })
+
+-- what words mean that ask for the run of a saved rule
+unfoldable pub run_meaning : List Text → Meaning
+run_meaning words = meaning_of run_of_rows (fault_of run_app words) (matches_of run_app words)
+
+-- a word that names a saved rule: `--rule`, or `--rule=` and the path of its file
+abbrev pub is_rule_word : Text → Bool
+is_rule_word word = bytes_eq word (codes "--rule") || bytes_eq (take (min 7 (length word)) word) (codes "--rule=")
+
+-- what the words after the program's name mean
 unfoldable pub asked_in : List Text → Meaning
-asked_in words = meaning_of (fault_of app words) (matches_of app words)
+asked_in words = if list_any is_rule_word words then run_meaning words else sheet_meaning words
 
 -- ---- answers
 
@@ -277,6 +318,22 @@ IsRefusedBy meaning NoMemory = ⊤
 -- the answer says what the words mean, or is want of memory
 abbrev pub Answers : Meaning → Result Asked Refusal → Type 0
 Answers meaning result = MatchResult result (λ asked. meaning ≡ Asks (data_of asked)) (IsRefusedBy meaning)
+
+abbrev pub AnswersRun : Meaning → Result Saved Refusal → Type 0
+AnswersRun meaning result = MatchResult result (λ saved. meaning ≡ Runs (saved_data saved)) (IsRefusedBy meaning)
+
+-- what an order means
+abbrev pub order_meaning : Order → Meaning
+order_meaning (order.Fill asked) = Asks (data_of asked)
+order_meaning (order.Run saved) = Runs (saved_data saved)
+
+abbrev pub AnswersOrder : Meaning → Result Order Refusal → Type 0
+AnswersOrder meaning result = MatchResult result (λ order. meaning ≡ order_meaning order) (IsRefusedBy meaning)
+
+-- the tables and keys of an order are proper
+abbrev pub IsProper : Order → Type 0
+IsProper (order.Fill asked) = All IsLookup (map lookup_data asked.lookups.items)
+IsProper (order.Run saved) = ⊤
 
 -- the refusal says that a part of the words means nothing, or it is want of memory
 abbrev pub RefusesPart : {D : Type 0} → Option D → Refusal → Type 0

@@ -58,4 +58,24 @@ pub struct Asked {
     pub explain: bool,
     /// Whether each cell has to be given or sure.
     pub strict: bool,
+    /// The path that the rule is saved under, if it is.
+    pub save: Option<String>,
+}
+
+/// A saved rule that is run over a sheet.
+#[derive(Debug, Drop)]
+pub struct Saved {
+    /// The path of its file.
+    pub rule: String,
+    /// Whether nothing is told of a run that succeeds.
+    pub quiet: bool,
+}
+
+/// What the words ask the program to do.
+#[derive(Debug, Drop)]
+pub enum Order {
+    /// To fill a column of a sheet by a rule that is learned from it.
+    Fill(Asked),
+    /// To run a saved rule over the sheet that comes from standard input.
+    Run(Saved),
 }

@@ -14,6 +14,6 @@ mod tables;
 #[cfg(test)]
 mod tests;
 
-pub use asked::{Asked, Lookup, Target, Typed};
+pub use asked::{Asked, Lookup, Order, Saved, Target, Typed};
 pub use reading::read_words;
 pub use refusal::Refusal;

@@ -2,7 +2,7 @@
 ghost use Rattle.std.specs.Prelude.{◌≡◌, IfOk, Some, false};
 ghost use Rattle.clap.specs.Words.{app_of, rule_of};
 ghost use Rattle.clap.specs.declared.builder.value_parser.ValueParser.TheVariants.{NonEmptyString};
-ghost use Rattle.fill_words.specs.Options.{app, file_rule, flag_rule, from_rule, inputs, outputs, rules, several_rule, text_rule, value_rule, with_rules};
+ghost use Rattle.fill_words.specs.Options.{app, bare_app, file_rule, flag_rule, from_rule, inputs, outputs, rules, run_app, runs, several_rule, text_rule, value_rule, with_rules};
 
 use clap::builder::ValueParser;
 use clap::{Arg, ArgAction, Command};
@@ -17,9 +17,18 @@ const EXAMPLES: &str = "Examples:
   fillcsv people.csv --to Label --from Name,City --state
   fillcsv people.csv --to Label --example '5=Noether (Erlangen)' --example 7=
   fillcsv people.csv --new Initials --example 2=AB
-  fillcsv sales.csv --to Month --table months=months.csv --key months:1";
+  fillcsv sales.csv --to Month --table months=months.csv --key months:1
+  fillcsv people.csv --to Label --save label.rule
+  fillcsv --rule label.rule < more.csv > filled.csv";
 
-const USAGE: &str = "fillcsv [OPTIONS] <--to <COLUMN>|--new <NAME>> <FILE>";
+const USAGE: &str = "fillcsv [OPTIONS] <--to <COLUMN>|--new <NAME>> <FILE>
+       fillcsv --rule <RULE> [--quiet]";
+
+const RUN_ABOUT: &str =
+    "Runs a saved rule over the sheet that comes from standard input, row by row, and writes the sheet
+with the empty cells of its column filled.";
+
+const RUN_USAGE: &str = "fillcsv --rule <RULE> [--quiet] < SHEET > FILLED";
 
 /// An option that takes a value.
 fn valued<'a>(alloc: Global, name: &'a str, value: &'a str, help: &'a str) -> Arg<'a>
@@ -85,13 +94,40 @@ fn from<'a>(alloc: Global) -> Arg<'a>
 pub(crate) fn options<'a>(alloc: Global) -> Result<Command<'a>, AllocError>
     ensures { IfOk result (λ c. app_of c ≡ app) }
 {
-    let command = Command::new(alloc, "fillcsv")
-        .version("0.1.0")
-        .about(ABOUT)
-        .override_usage(USAGE)
-        .after_help(EXAMPLES)
-        .no_binary_name(true);
+    let command = bare(alloc, ABOUT, USAGE).after_help(EXAMPLES);
     with_outputs(alloc, with_rules(alloc, with_inputs(alloc, command)?)?)
+}
+
+/// The words that the program takes to run a saved rule, for `clap`.
+pub(crate) fn run_options<'a>(alloc: Global) -> Result<Command<'a>, AllocError>
+    ensures { IfOk result (λ c. app_of c ≡ run_app) }
+{
+    with_runs(alloc, bare(alloc, RUN_ABOUT, RUN_USAGE))
+}
+
+/// A program that takes no words but `--help` and `--version`.
+fn bare<'a>(alloc: Global, about: &'a str, usage: &'a str) -> Command<'a>
+    ensures { app_of result ≡ bare_app }
+{
+    Command::new(alloc, "fillcsv")
+        .version("0.1.0")
+        .about(about)
+        .override_usage(usage)
+        .no_binary_name(true)
+}
+
+/// The command with the words that say which saved rule is run.
+fn with_runs<'a>(alloc: Global, command: Command<'a>) -> Result<Command<'a>, AllocError>
+    ensures { IfOk result (λ c. app_of c ≡ with_rules (app_of command.entry) runs) }
+{
+    let rule = text(
+        alloc,
+        "rule",
+        "RULE",
+        "The file of the rule, as --save writes it",
+    );
+    let quiet = flag(alloc, "quiet", "Tell nothing of a run that succeeds");
+    command.arg(rule)?.arg(quiet)
 }
 
 /// The command with the words that say what is read.
@@ -189,10 +225,17 @@ fn with_outputs<'a>(alloc: Global, command: Command<'a>) -> Result<Command<'a>, 
         "explain",
         "Tell what else the first ten cells in doubt could be, and by which rule",
     );
+    let save = text(
+        alloc,
+        "save",
+        "RULE",
+        "Save the rule in this file, for --rule",
+    );
     command
         .arg(state)?
         .arg(only)?
         .arg(strict)?
         .arg(quiet)?
-        .arg(explain)
+        .arg(explain)?
+        .arg(save)
 }

@@ -1,15 +1,16 @@
 //! From the words to what they ask for.
 ghost use Rattle.std.specs.Prelude.{◌≡◌, All, IfOk, IfErr, Some, map, option_map, string_bytes};
+ghost use Rattle.std.specs.List.{list_any};
 ghost use Rattle.clap.specs.Walk.{first_of, rows_of};
 ghost use Rattle.clap.specs.Words.{found_of};
-ghost use Rattle.fill_words.specs.Words.{Answers, Asks, IsLookup, RefusesPart, asked_in, chosen_data, chosen_in, data_in, is_set, lookup_data, meaning_of_rows, text_of, texts_of};
+ghost use Rattle.fill_words.specs.Words.{Answers, AnswersOrder, AnswersRun, Asks, IsLookup, IsProper, RefusesPart, asked_in, chosen_data, chosen_in, data_in, is_rule_word, is_set, lookup_data, meaning_of_rows, run_meaning, run_of_rows, sheet_meaning, text_of, texts_of};
 
-use crate::choices::{depth_of, only_sure_of, profile_of, target_by};
+use crate::choices::{depth_of, only_sure_of, profile_of, save_by, target_by};
 use crate::columns::columns_of;
 use crate::examples::examples_of;
-use crate::options::options;
+use crate::options::{options, run_options};
 use crate::tables::lookups_of;
-use crate::{Asked, Lookup, Refusal, Target, Typed};
+use crate::{Asked, Lookup, Order, Refusal, Saved, Target, Typed};
 use clap::ArgMatches;
 use std::alloc::{AllocError, Global};
 
@@ -59,6 +60,8 @@ pub(crate) struct Chosen {
     pub examples: Vec<Typed>,
     /// The tables, and then their keys.
     pub lookups: Vec<Lookup>,
+    /// The path that the rule is saved under, if it is.
+    pub save: Option<String>,
 }
 
 /// What these options ask for.
@@ -76,6 +79,11 @@ fn chosen_by(alloc: Global, matches: &ArgMatches<'_>) -> Result<Chosen, Refusal>
         values_of(matches, "table"),
         values_of(matches, "key"),
     )?;
+    let save = save_by(
+        alloc,
+        value_of(matches, "save"),
+        values_of(matches, "table"),
+    )?;
     Ok(Chosen {
         only_sure,
         profile,
@@ -83,6 +91,7 @@ fn chosen_by(alloc: Global, matches: &ArgMatches<'_>) -> Result<Chosen, Refusal>
         to,
         examples,
         lookups,
+        save,
     })
 }
 
@@ -115,19 +124,67 @@ fn asked_with(alloc: Global, matches: &ArgMatches<'_>, chosen: Chosen) -> Result
         quiet: is_set(matches, "quiet"),
         explain: is_set(matches, "explain"),
         strict: is_set(matches, "strict"),
+        save: chosen.save,
     })
 }
 
-/// What the words after the program's name ask for.
-///
-/// No column of a key stands twice.
-pub fn read_words(alloc: Global, words: &[String]) -> Result<Asked, Refusal>
-    ensures answer { Answers (asked_in (map string_bytes words.now)) result }
+/// The sheet that words ask for. No column of a key stands twice.
+fn sheet_words(alloc: Global, words: &[String]) -> Result<Asked, Refusal>
+    ensures answer { Answers (sheet_meaning (map string_bytes words.now)) result }
     ensures lookups { IfOk result (λ asked. All IsLookup (map lookup_data asked.lookups.items)) }
 {
     let options = options(alloc)?;
     match options.try_get_matches_from(words) {
         Ok(matches) => asked_by(alloc, &matches),
         Err(error) => Err(Refusal::of(alloc, &error)),
+    }
+}
+
+/// The run that the words ask for which `clap` has taken.
+fn saved_by(alloc: Global, matches: &ArgMatches<'_>) -> Result<Saved, Refusal>
+    ensures { AnswersRun (run_of_rows (rows_of (found_of matches.now))) result }
+{
+    Ok(Saved {
+        rule: text_of(alloc, matches, "rule")?,
+        quiet: is_set(matches, "quiet"),
+    })
+}
+
+/// The run of a saved rule that words ask for.
+fn run_words(alloc: Global, words: &[String]) -> Result<Saved, Refusal>
+    ensures { AnswersRun (run_meaning (map string_bytes words.now)) result }
+{
+    let options = run_options(alloc)?;
+    match options.try_get_matches_from(words) {
+        Ok(matches) => saved_by(alloc, &matches),
+        Err(error) => Err(Refusal::of(alloc, &error)),
+    }
+}
+
+/// Whether a word names a saved rule.
+fn is_rule_word(word: &str) -> bool
+    ensures { result ≡ is_rule_word word.now }
+{
+    word == "--rule" || word.starts_with("--rule=")
+}
+
+/// Whether words ask for the run of a saved rule.
+fn wants_rule(words: &[String]) -> bool
+    ensures { result ≡ list_any is_rule_word (map string_bytes words.now) }
+{
+    words.iter().any(|word| is_rule_word(word.as_str()))
+}
+
+/// What the words after the program's name ask for.
+///
+/// No column of a key stands twice.
+pub fn read_words(alloc: Global, words: &[String]) -> Result<Order, Refusal>
+    ensures answer { AnswersOrder (asked_in (map string_bytes words.now)) result }
+    ensures proper { IfOk result IsProper }
+{
+    if wants_rule(words) {
+        Ok(Order::Run(run_words(alloc, words)?))
+    } else {
+        Ok(Order::Fill(sheet_words(alloc, words)?))
     }
 }

@@ -1,12 +1,13 @@
 //! Words, and what they ask for.
-use crate::{Refusal, read_words};
+use crate::{Order, Refusal, read_words};
 use std::alloc::{AllocError, Global};
 use std::test::Fail;
 
 /// What the words of a line ask for, as text.
 fn answer(alloc: Global, words: &[String]) -> Result<String, AllocError> {
     match read_words(alloc, words) {
-        Ok(asked) => format!(in alloc; "{asked:?}"),
+        Ok(Order::Fill(asked)) => format!(in alloc; "{asked:?}"),
+        Ok(Order::Run(saved)) => format!(in alloc; "{saved:?}"),
         Err(Refusal::Shown(text)) => format!(in alloc; "shown: {text}"),
         Err(Refusal::Usage(text)) => format!(in alloc; "wrong: {text}"),
         Err(Refusal::NoMemory) => Err(AllocError),
@@ -30,22 +31,30 @@ fn asks(alloc: Global, line: &str, wanted: &str) -> Result<bool, AllocError> {
 
 #[test]
 fn words_that_ask(rt: HostRuntime) -> Result<(), Fail> {
-    let table: [(&str, &str); 6] = [
+    let table: [(&str, &str); 8] = [
         (
             "people.csv --to Label",
-            "Asked { file: \"people.csv\", to: There(\"Label\"), from: [], header: true, examples: [], replace: false, lookups: [], depth: 1, states: false, only_sure: false, profile: 3, quiet: false, explain: false, strict: false }",
+            "Asked { file: \"people.csv\", to: There(\"Label\"), from: [], header: true, examples: [], replace: false, lookups: [], depth: 1, states: false, only_sure: false, profile: 3, quiet: false, explain: false, strict: false, save: None }",
         ),
         (
             "--state --only=sure people.csv --profile 2 --to=Label --from Name,City --no-header --from 5",
-            "Asked { file: \"people.csv\", to: There(\"Label\"), from: [\"Name\", \"City\", \"5\"], header: false, examples: [], replace: false, lookups: [], depth: 1, states: true, only_sure: true, profile: 2, quiet: false, explain: false, strict: false }",
+            "Asked { file: \"people.csv\", to: There(\"Label\"), from: [\"Name\", \"City\", \"5\"], header: false, examples: [], replace: false, lookups: [], depth: 1, states: true, only_sure: true, profile: 2, quiet: false, explain: false, strict: false, save: None }",
         ),
         (
             "people.csv --new Initials --example 2=AB --replace --example=30= --quiet --example 4=a=b --strict",
-            "Asked { file: \"people.csv\", to: New(\"Initials\"), from: [], header: true, examples: [Typed { row: 2, text: \"AB\" }, Typed { row: 30, text: \"\" }, Typed { row: 4, text: \"a=b\" }], replace: true, lookups: [], depth: 1, states: false, only_sure: false, profile: 3, quiet: true, explain: false, strict: true }",
+            "Asked { file: \"people.csv\", to: New(\"Initials\"), from: [], header: true, examples: [Typed { row: 2, text: \"AB\" }, Typed { row: 30, text: \"\" }, Typed { row: 4, text: \"a=b\" }], replace: true, lookups: [], depth: 1, states: false, only_sure: false, profile: 3, quiet: true, explain: false, strict: true, save: None }",
         ),
         (
             "sales.csv --to Month --key months:1 --table months=months.csv --depth 2 --table=a=b=c --key a:2,1,30",
-            "Asked { file: \"sales.csv\", to: There(\"Month\"), from: [], header: true, examples: [], replace: false, lookups: [Table { name: \"months\", file: \"months.csv\" }, Table { name: \"a\", file: \"b=c\" }, Key { table: \"months\", columns: [1] }, Key { table: \"a\", columns: [2, 1, 30] }], depth: 2, states: false, only_sure: false, profile: 3, quiet: false, explain: false, strict: false }",
+            "Asked { file: \"sales.csv\", to: There(\"Month\"), from: [], header: true, examples: [], replace: false, lookups: [Table { name: \"months\", file: \"months.csv\" }, Table { name: \"a\", file: \"b=c\" }, Key { table: \"months\", columns: [1] }, Key { table: \"a\", columns: [2, 1, 30] }], depth: 2, states: false, only_sure: false, profile: 3, quiet: false, explain: false, strict: false, save: None }",
+        ),
+        (
+            "people.csv --to Label --save label.rule",
+            "Asked { file: \"people.csv\", to: There(\"Label\"), from: [], header: true, examples: [], replace: false, lookups: [], depth: 1, states: false, only_sure: false, profile: 3, quiet: false, explain: false, strict: false, save: Some(\"label.rule\") }",
+        ),
+        (
+            "--rule=label.rule --quiet",
+            "Saved { rule: \"label.rule\", quiet: true }",
         ),
         (
             "--to -- --people.csv",
@@ -53,7 +62,7 @@ fn words_that_ask(rt: HostRuntime) -> Result<(), Fail> {
         ),
         (
             "--to 3 -- --people.csv",
-            "Asked { file: \"--people.csv\", to: There(\"3\"), from: [], header: true, examples: [], replace: false, lookups: [], depth: 1, states: false, only_sure: false, profile: 3, quiet: false, explain: false, strict: false }",
+            "Asked { file: \"--people.csv\", to: There(\"3\"), from: [], header: true, examples: [], replace: false, lookups: [], depth: 1, states: false, only_sure: false, profile: 3, quiet: false, explain: false, strict: false, save: None }",
         ),
     ];
     for (line, wanted) in table {
@@ -64,14 +73,14 @@ fn words_that_ask(rt: HostRuntime) -> Result<(), Fail> {
 
 #[test]
 fn words_that_are_wrong(rt: HostRuntime) -> Result<(), Fail> {
-    let table: [(&str, &str); 20] = [
+    let table: [(&str, &str); 23] = [
         (
             "people.csv",
             "wrong: error: the following required arguments were not provided:\n  <--to <COLUMN>|--new <NAME>>\n\nFor more information, try '--help'.\n",
         ),
         (
             "--to Label",
-            "wrong: error: the following required arguments were not provided:\n  <FILE>\n\nUsage: fillcsv [OPTIONS] <--to <COLUMN>|--new <NAME>> <FILE>\n\nFor more information, try '--help'.\n",
+            "wrong: error: the following required arguments were not provided:\n  <FILE>\n\nUsage: fillcsv [OPTIONS] <--to <COLUMN>|--new <NAME>> <FILE>\n       fillcsv --rule <RULE> [--quiet]\n\nFor more information, try '--help'.\n",
         ),
         (
             "people.csv --to Label --new Name",
@@ -79,7 +88,7 @@ fn words_that_are_wrong(rt: HostRuntime) -> Result<(), Fail> {
         ),
         (
             "people.csv --to Label --form Name",
-            "wrong: error: unexpected argument '--form' found\n\n  tip: a similar argument exists: '--from'\n\nUsage: fillcsv [OPTIONS] <--to <COLUMN>|--new <NAME>> <FILE>\n\nFor more information, try '--help'.\n",
+            "wrong: error: unexpected argument '--form' found\n\n  tip: a similar argument exists: '--from'\n\nUsage: fillcsv [OPTIONS] <--to <COLUMN>|--new <NAME>> <FILE>\n       fillcsv --rule <RULE> [--quiet]\n\nFor more information, try '--help'.\n",
         ),
         (
             "people.csv --to Label --only often",
@@ -95,7 +104,7 @@ fn words_that_are_wrong(rt: HostRuntime) -> Result<(), Fail> {
         ),
         (
             "people.csv --to Label --to Name",
-            "wrong: error: the argument '--to <COLUMN>' cannot be used multiple times\n\nUsage: fillcsv [OPTIONS] <--to <COLUMN>|--new <NAME>> <FILE>\n\nFor more information, try '--help'.\n",
+            "wrong: error: the argument '--to <COLUMN>' cannot be used multiple times\n\nUsage: fillcsv [OPTIONS] <--to <COLUMN>|--new <NAME>> <FILE>\n       fillcsv --rule <RULE> [--quiet]\n\nFor more information, try '--help'.\n",
         ),
         (
             "people.csv --to Label --example five",
@@ -142,6 +151,18 @@ fn words_that_are_wrong(rt: HostRuntime) -> Result<(), Fail> {
             "wrong: error: invalid value 'months:1,2,1' for '--key <TABLE:COLUMN,..>': a table's name and ':' stand in front of the numbers of one to three of its columns\n\nFor more information, try '--help'.\n",
         ),
         (
+            "people.csv --to Label --save label.rule --table months=months.csv",
+            "wrong: error: the argument '--save <RULE>' cannot be used with '--table <NAME=FILE>'\n\nFor more information, try '--help'.\n",
+        ),
+        (
+            "--rule label.rule people.csv",
+            "wrong: error: unexpected argument 'people.csv' found\n\nUsage: fillcsv --rule <RULE> [--quiet] < SHEET > FILLED\n\nFor more information, try '--help'.\n",
+        ),
+        (
+            "--rule",
+            "wrong: error: a value is required for '--rule <RULE>' but none was supplied\n\nFor more information, try '--help'.\n",
+        ),
+        (
             "people.csv --to Label --depth 4",
             "wrong: error: invalid value '4' for '--depth <NUMBER>'\n  [possible values: 1, 2, 3]\n\nFor more information, try '--help'.\n",
         ),
@@ -157,6 +178,7 @@ const HELP: &str =
 other columns, and writes the sheet with the empty ones filled.
 
 Usage: fillcsv [OPTIONS] <--to <COLUMN>|--new <NAME>> <FILE>
+       fillcsv --rule <RULE> [--quiet]
 
 Arguments:
   <FILE>  The sheet, a CSV file
@@ -177,6 +199,7 @@ Options:
       --strict                 Status 1 also where a cell is neither given nor sure
       --quiet                  Tell nothing of a sheet that was filled
       --explain                Tell what else the first ten cells in doubt could be, and by which rule
+      --save <RULE>            Save the rule in this file, for --rule
   -h, --help                   Print help
   -V, --version                Print version
 
@@ -186,6 +209,8 @@ Examples:
   fillcsv people.csv --to Label --example '5=Noether (Erlangen)' --example 7=
   fillcsv people.csv --new Initials --example 2=AB
   fillcsv sales.csv --to Month --table months=months.csv --key months:1
+  fillcsv people.csv --to Label --save label.rule
+  fillcsv --rule label.rule < more.csv > filled.csv
 ";
 
 #[test]

@@ -1,14 +1,12 @@
 //! A sheet with one of its columns filled: `fillcsv people.csv --to Label`.
 #![tactic(auto)]
 
-ghost use Rattle.std.specs.Prelude.{◌≡◌};
-
-use fill_csv::{MEMORY_LINE, run, say};
-use fill_edge::{FolderCabinet, Ledger, StdSink, Steps};
+use fill_csv::{Folder, MEMORY_LINE, run, say};
+use fill_edge::{FolderCabinet, StdSink};
+use fill_files::{FolderStore, InputCabinet};
+use fill_stream::StdSource;
 use std::alloc::AllocError;
-use std::marker::Brand;
 use std::process::ExitCode;
-use std::sync::ledger::Blank;
 use std::{env, io};
 
 /// The words after the program's name; none where one of them is not UTF-8, and then they ask for nothing.
@@ -31,23 +29,20 @@ fn words(rt: &HostRuntime) -> Result<Vec<String>, AllocError> {
 }
 
 /// Runs the program over the current folder and the standard streams.
-fn start<L: Ledger>(rt: HostRuntime, words: &[String], blank: Blank) -> u8
-    requires name { blank.name ≡ L.name }
-    requires parts { blank.parts ≡ L.parts }
-    requires one { blank.parts ≡ 1 }
-{
-    let alloc = rt.alloc();
+fn start(rt: &HostRuntime, words: &[String]) -> u8 {
+    let mut folder = Folder {
+        cabinet: InputCabinet::new(FolderCabinet::new(rt), rt.stdin()),
+        store: FolderStore::new(rt),
+    };
+    let input = StdSource::new(rt.stdin());
     let mut out = StdSink::new(rt.stdout());
     let mut err = StdSink::new(rt.stderr());
-    let mut cabinet = FolderCabinet::new(rt);
-    let (book, share) = blank.open::<L>();
-    let mut steps = Steps::new(book, share);
-    run(alloc, words, &mut cabinet, &mut out, &mut err, &mut steps)
+    run(rt.alloc(), words, &mut folder, input, &mut out, &mut err)
 }
 
 fn main(rt: HostRuntime) -> ExitCode {
     match words(&rt) {
-        Ok(words) => ExitCode::from(start::<Brand>(rt, &words, Blank::new(1))),
+        Ok(words) => ExitCode::from(start(&rt, &words)),
         Err(AllocError) => {
             let mut err = StdSink::new(rt.stderr());
             say(&mut err, MEMORY_LINE);

@@ -5,7 +5,7 @@ use Rattle.clap.specs.Kinds.{HasKind}
 use Rattle.fill_words.specs.Words.{Answers}
 use Rattle.fill_words.proofs.OneKind.{app_is_simple, app_is_simple_and_free, refusal_says, taken_means}
 use Rattle.fill_words.proofs.Proper.{rows_proper}
-use Rattle.fill_words.proofs.reading.read_words.Goals as goal
+use Rattle.fill_words.proofs.reading.sheet_words.Goals as goal
 
 pub returns-in-Ok-clause-answer : goal.returns-in-Ok-clause-answer
 returns-in-Ok-clause-answer c =

@@ -1,0 +1,188 @@
+//! The rule that was learned, as the text that `--rule` reads.
+ghost use Rattle.std.specs.Prelude.{◌≡◌, ℕ, List as Listed, All, IfOk, OnErr, OnOk, Some, map, option_map, string_bytes};
+ghost use Rattle.fill_edge.specs.Outside.{Rose};
+ghost use Rattle.fill_records.specs.Records.{field_of};
+ghost use Rattle.fill_sheet.specs.Columns.{IsColumn, rising};
+ghost use Rattle.fill_tree.specs.Switch.{switch_tree};
+ghost use Rattle.fill_rule.specs.Rule.{rule_text};
+ghost use Rattle.fill_words.specs.Words.{data_of, target_data};
+ghost use Rattle.fill_csv.specs.Read.{AreParts, columns_data, read_data};
+ghost use Rattle.fill_csv.specs.Saved.{IsSavedText, columns_of, lacks_rule, output_name, rule_with, saving_of, stored};
+
+use crate::opening::{SheetRead, header_of};
+use fill_edge::Failed;
+use fill_files::Store;
+use fill_records::Record;
+use fill_rule::{Names, Rule, rule_text};
+use fill_session::Session;
+use fill_text::{List, NoMemory};
+use fill_tree::Switch;
+use fill_words::{Asked, Target};
+use std::alloc::Global;
+
+/// The columns of a rule, and their names where the first record of the sheet names them.
+#[derive(Drop)]
+pub(crate) struct RuleColumns {
+    /// The names.
+    pub names: Option<Names>,
+    /// The columns that it reads, in rising order.
+    pub inputs: Vec<u32>,
+    /// The column that it fills.
+    pub output: u32,
+}
+
+/// The columns of the rule that is to be saved, if one is.
+pub(crate) fn saving_of(
+    alloc: Global,
+    asked: &Asked,
+    read: &SheetRead,
+) -> Result<Option<RuleColumns>, NoMemory>
+    requires { AreParts (data_of asked.now) read.now }
+    ensures { IfOk result (λ saving. option_map columns_data saving ≡ saving_of (data_of asked.now) (read_data read.now)) }
+{
+    match asked.save {
+        Some(_) => Ok(Some(columns_of(alloc, asked, read)?)),
+        None => Ok(None),
+    }
+}
+
+/// The columns of the rule for a sheet.
+fn columns_of(alloc: Global, asked: &Asked, read: &SheetRead) -> Result<RuleColumns, NoMemory>
+    requires { AreParts (data_of asked.now) read.now }
+    ensures { IfOk result (λ columns. columns_data columns ≡ columns_of (data_of asked.now) (read_data read.now)) }
+{
+    let inputs = rising(alloc, &read.choice.from)?;
+    let output = read.choice.to;
+    let names = match header_of(asked.header, read.records.as_slice()) {
+        Some(header) => Some(rule_names(alloc, asked, &inputs, output, header)?),
+        None => None,
+    };
+    Ok(RuleColumns {
+        names,
+        inputs,
+        output,
+    })
+}
+
+/// The names of a rule's columns in a header.
+fn rule_names(
+    alloc: Global,
+    asked: &Asked,
+    inputs: &[u32],
+    output: u32,
+    header: &Record,
+) -> Result<Names, NoMemory>
+    requires inputs { All IsColumn inputs.now }
+    requires output { IsColumn output }
+    ensures { IfOk result (λ names. names ≡ record { inputs = map (λ column. field_of column header.now) inputs.now; output = output_name (data_of asked.now).to output header.now }) }
+{
+    Ok(Names {
+        inputs: names_of(alloc, header, inputs)?,
+        output: output_name(alloc, &asked.to, output, header)?,
+    })
+}
+
+/// Columns in rising order.
+fn rising(alloc: Global, columns: &[u32]) -> Result<Vec<u32>, NoMemory>
+    ensures { IfOk result (λ v. v.items ≡ rising columns.now) }
+{
+    let mut rising = Vec::from_slice(alloc, columns)?;
+    rising.sort()?;
+    Ok(rising)
+}
+
+/// The names of these columns in a header.
+fn names_of(alloc: Global, header: &Record, columns: &[u32]) -> Result<List<List<u8>>, NoMemory>
+    requires { All IsColumn columns.now }
+    ensures { IfOk result (λ names. names ≡ map (λ column. field_of column header.now) columns.now) }
+{
+    let mut names = List::new(alloc);
+    for column in columns {
+        names.push(name_of(alloc, header, *column)?)?;
+    }
+    Ok(names)
+}
+
+/// The name of a column in a header.
+fn name_of(alloc: Global, header: &Record, column: u32) -> Result<List<u8>, NoMemory>
+    requires { IsColumn column }
+    ensures { IfOk result (λ name. name ≡ field_of column header.now) }
+{
+    let mut name = List::new(alloc);
+    name.append(header.field(column))?;
+    Ok(name)
+}
+
+/// The name of the column that is filled.
+fn output_name(
+    alloc: Global,
+    to: &Target,
+    column: u32,
+    header: &Record,
+) -> Result<List<u8>, NoMemory>
+    requires { IsColumn column }
+    ensures { IfOk result (λ name. name ≡ output_name (target_data to.now) column header.now) }
+{
+    match to {
+        Target::There(_) => name_of(alloc, header, column),
+        Target::New(name) => {
+            let mut copy = List::new(alloc);
+            copy.append(name.as_bytes())?;
+            Ok(copy)
+        }
+    }
+}
+
+/// The text that is saved: that of the rule of a session, where it is to be saved and there is one.
+pub(crate) fn saved_text(
+    alloc: Global,
+    saving: Option<RuleColumns>,
+    session: &Session,
+) -> Result<Option<List<u8>>, NoMemory>
+    ensures { IfOk result (IsSavedText (option_map columns_data saving) session.now.spaces.ground session.now.examples) }
+{
+    let Some(columns) = saving else {
+        return Ok(None);
+    };
+    match session.switch(alloc)? {
+        Some(switch) => Ok(Some(text_of(alloc, columns, switch)?)),
+        None => Ok(None),
+    }
+}
+
+/// The text of the rule with these columns and this program.
+fn text_of(alloc: Global, columns: RuleColumns, switch: Switch) -> Result<List<u8>, NoMemory>
+    ensures { IfOk result (λ text. text ≡ rule_text (rule_with (columns_data columns) (switch_tree switch))) }
+{
+    let rule = Rule {
+        names: columns.names,
+        inputs: columns.inputs,
+        output: columns.output,
+        switch,
+    };
+    rule_text(alloc, &rule)
+}
+
+/// Saves a text under a path, where both are there.
+pub(crate) fn store_text<T: Store>(
+    store: &mut T,
+    path: &Option<String>,
+    text: &Option<List<u8>>,
+) -> Result<(), Failed>
+    ensures ok { OnOk result (T.saved store.new ≡ stored (option_map string_bytes path.now) text.now (T.saved store.old)) }
+    ensures err { OnErr result (Rose (T.faults store.old) (T.faults store.new)) }
+    ensures unsaved { OnErr result (T.saved store.new ≡ T.saved store.old) }
+    ensures both { OnErr result ((at : Listed ℕ) × (what : Listed ℕ) × (option_map string_bytes path.now ≡ Some at) × (text.now ≡ Some what)) }
+{
+    match (path, text) {
+        (Some(path), Some(text)) => store.save(path.as_str(), text.as_slice()),
+        _ => Ok(()),
+    }
+}
+
+/// Whether a rule is to be saved, and there is none.
+pub(crate) fn lacks_rule(path: &Option<String>, text: &Option<List<u8>>) -> bool
+    ensures { result ≡ lacks_rule (option_map string_bytes path.now) text.now }
+{
+    path.is_some() && text.is_none()
+}
