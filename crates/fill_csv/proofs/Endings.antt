@@ -9,10 +9,12 @@ use Rattle.fill_open.specs.declared.stop.Stop.{Stop}
 use Rattle.fill_open.specs.declared.stop.Stop.TheVariants as stop
 use Rattle.fill_open.proofs.Binds.{told_one}
 use Rattle.fill_words.specs.Words.{AskedData}
-use Rattle.fill_csv.specs.Ends.{EndsFilled, Opens, WritesFilled, WritesFilledPart, WritesFilledRows}
-use Rattle.fill_csv.specs.Lines.{unread_line}
+use Rattle.fill_lookups.specs.Lines.{memory_line}
+use Rattle.fill_csv.specs.Ends.{EndsFilled, FailsToSave, Opens, WritesFilled, WritesFilledPart, WritesFilledRows}
+use Rattle.fill_csv.specs.Lines.{output_line, unread_line}
 use Rattle.fill_csv.specs.Opening.{SheetRead, sheet_opens}
 use Rattle.fill_csv.specs.Said.{status_of, stop_line}
+use Rattle.fill_csv.specs.Saved.{StoreAt}
 
 told_all : (files : Files) (P : Held → Type 0) → ((held : Held) → P held) → Told files P
 told_all None P f = tt
@@ -45,13 +47,13 @@ module _ (asked : AskedData) (files : Files) (r : ℕ) where
     passed_no_refused : Told files NotRefused
     passed_no_refused = told_one files (λ held. (sheet_opens asked held).outcome ≡ Passed read) NotRefused (λ held h line k. absurd (passed_refused read line (sym h ∙ k))) opens
 
-module _ (asked : AskedData) (files : Files) (before now : Counts) (old new : Option (List ℕ)) (Said : List ℕ → Type 0) (r : ℕ) where
+module _ (asked : AskedData) (files : Files) (before now : Counts) (old new : Option (List ℕ)) (held kept : StoreAt) (Said : List ℕ → Type 0) (r : ℕ) where
   abbrev Ending : Type 0
-  Ending = EndsFilled asked files r before now old new Said
+  Ending = EndsFilled asked files r before now old new held kept Said
 
   -- the file is not there, or could not be read
-  unread_ends : r ≡ 3 → Keeps old new → (name : List ℕ) → IsUnread (sheet_opens asked) files name ⊎ ReadFails (sheet_opens asked) files before now name → Said (unread_line name) → Ending
-  unread_ends is keeps name why said = record {
+  unread_ends : r ≡ 3 → kept.files ≡ held.files → Keeps old new → (name : List ℕ) → IsUnread (sheet_opens asked) files name ⊎ ReadFails (sheet_opens asked) files before now name → Said (unread_line name) → Ending
+  unread_ends is same keeps name why said = record {
     done = λ e. absurd (omega arith);
     refusing = λ e. absurd (omega arith);
     worded = λ e. absurd (omega arith);
@@ -60,14 +62,15 @@ module _ (asked : AskedData) (files : Files) (before now : Counts) (old new : Op
     refused = λ e. absurd (omega arith);
     memory = λ e. absurd (omega arith);
     quiet = λ e. keeps;
+    unsaved = λ e. same;
     always_unread = told_all files (NotUnread asked files r) (λ held other h. inl is);
     always_refused = told_all files (NotRefused asked files r) (λ held line h. inr (inr is));
     always_ready = told_all files (AlwaysReady asked files r) (λ held h. inr (inr (inl is)));
   }
 
   -- the file is refused
-  refused_ends : r ≡ 5 → Keeps old new → (line : List ℕ) → Told files (λ held. (sheet_opens asked held).outcome ≡ Refused line) → Said line → Ending
-  refused_ends is keeps line why said = record {
+  refused_ends : r ≡ 5 → kept.files ≡ held.files → Keeps old new → (line : List ℕ) → Told files (λ held. (sheet_opens asked held).outcome ≡ Refused line) → Said line → Ending
+  refused_ends is same keeps line why said = record {
     done = λ e. absurd (omega arith);
     refusing = λ e. absurd (omega arith);
     worded = λ e. absurd (omega arith);
@@ -76,36 +79,39 @@ module _ (asked : AskedData) (files : Files) (before now : Counts) (old new : Op
     refused = λ e. (line, why, said);
     memory = λ e. absurd (omega arith);
     quiet = λ e. keeps;
+    unsaved = λ e. same;
     always_unread = told_one files (λ held. (sheet_opens asked held).outcome ≡ Refused line) (NotUnread asked files r) (λ held h name k. absurd (refused_unread line name (sym h ∙ k))) why;
     always_refused = told_all files (NotRefused asked files r) (λ held other h. inl is);
     always_ready = told_one files (λ held. (sheet_opens asked held).outcome ≡ Refused line) (AlwaysReady asked files r) (λ held h p. absurd (subst (λ (o : Opened SheetRead). IsPassed o) h p)) why;
   }
 
   -- memory ran out
-  pub memory_ends : r ≡ 6 → Keeps old new ⊎ WritesFilledRows asked files old new → Ending
-  memory_ends is wrote = record {
+  pub memory_ends : r ≡ 6 → kept.files ≡ held.files → Keeps old new ⊎ WritesFilledRows asked files old new → Said memory_line → Ending
+  memory_ends is same wrote said = record {
     done = λ e. absurd (omega arith);
     refusing = λ e. absurd (omega arith);
     worded = λ e. absurd (omega arith);
     unread = λ e. absurd (omega arith);
     part = λ e. absurd (omega arith);
     refused = λ e. absurd (omega arith);
-    memory = λ e. wrote;
+    memory = λ e. (wrote, said);
     quiet = λ e. elim e [ inl three ↦ absurd (omega arith) | inr five ↦ absurd (omega arith) ];
+    unsaved = λ e. same;
     always_unread = told_all files (NotUnread asked files r) (λ held other h. inr is);
     always_refused = told_all files (NotRefused asked files r) (λ held line h. inr (inl is));
     always_ready = told_all files (AlwaysReady asked files r) (λ held h. inr (inl is));
   }
 
   -- the steps stopped
-  pub stopped_ends : (why : Stop) → Stops (sheet_opens asked) files before now why → Keeps old new → (r ≢ 6 → (r ≡ status_of why) × Said (stop_line why)) → (r ≡ status_of why) ⊎ (r ≡ 6) → Ending
-  stopped_ends why stops keeps said (inr six) = memory_ends six (inl keeps)
-  stopped_ends (stop.Unread name) stops keeps said (inl three) = unread_ends three keeps (string_bytes name) stops (said (λ e. absurd (omega arith))).1
-  stopped_ends (stop.Refused line) stops keeps said (inl five) = refused_ends five keeps (string_bytes line) stops (said (λ e. absurd (omega arith))).1
-  stopped_ends stop.NoMemory stops keeps said (inl six) = memory_ends six (inl keeps)
+  pub stopped_ends : (why : Stop) → Stops (sheet_opens asked) files before now why → kept.files ≡ held.files → Keeps old new
+      → (r ≢ 6 → (r ≡ status_of why) × Said (stop_line why)) → (r ≡ 6 → Said memory_line) → (r ≡ status_of why) ⊎ (r ≡ 6) → Ending
+  stopped_ends why stops same keeps said out (inr six) = memory_ends six same (inl keeps) (out six)
+  stopped_ends (stop.Unread name) stops same keeps said out (inl three) = unread_ends three same keeps (string_bytes name) stops (said (λ e. absurd (omega arith))).1
+  stopped_ends (stop.Refused line) stops same keeps said out (inl five) = refused_ends five same keeps (string_bytes line) stops (said (λ e. absurd (omega arith))).1
+  stopped_ends stop.NoMemory stops same keeps said out (inl six) = memory_ends six same (inl keeps) (out six)
 
   -- all was written, and nothing is left to do
-  pub done_ends : r ≡ 0 → WritesFilled false asked files old new → Ending
+  pub done_ends : r ≡ 0 → WritesFilled false asked files old new held.files kept.files → Ending
   done_ends is wrote = record {
     done = λ e. wrote;
     refusing = λ e. absurd (omega arith);
@@ -115,13 +121,14 @@ module _ (asked : AskedData) (files : Files) (before now : Counts) (old new : Op
     refused = λ e. absurd (omega arith);
     memory = λ e. absurd (omega arith);
     quiet = λ e. elim e [ inl three ↦ absurd (omega arith) | inr five ↦ absurd (omega arith) ];
+    unsaved = λ e. absurd (omega arith);
     always_unread = passed_no_unread asked files r wrote.0 wrote.4;
     always_refused = passed_no_refused asked files r wrote.0 wrote.4;
     always_ready = told_all files (AlwaysReady asked files r) (λ held h. inl (omega arith));
   }
 
   -- all was written, and something is left to do
-  pub refusing_ends : r ≡ 1 → WritesFilled true asked files old new → Ending
+  pub refusing_ends : r ≡ 1 → WritesFilled true asked files old new held.files kept.files → Ending
   refusing_ends is wrote = record {
     done = λ e. absurd (omega arith);
     refusing = λ e. wrote;
@@ -131,14 +138,16 @@ module _ (asked : AskedData) (files : Files) (before now : Counts) (old new : Op
     refused = λ e. absurd (omega arith);
     memory = λ e. absurd (omega arith);
     quiet = λ e. elim e [ inl three ↦ absurd (omega arith) | inr five ↦ absurd (omega arith) ];
+    unsaved = λ e. absurd (omega arith);
     always_unread = passed_no_unread asked files r wrote.0 wrote.4;
     always_refused = passed_no_refused asked files r wrote.0 wrote.4;
     always_ready = told_all files (AlwaysReady asked files r) (λ held h. inl (omega arith));
   }
 
-  -- a write failed
-  pub part_ends : r ≡ 4 → WritesFilledPart asked files old new → Ending
-  part_ends is wrote = record {
+  -- a write failed, after the steps passed
+  write_ends : r ≡ 4 → kept.files ≡ held.files → (read : SheetRead) → Opens asked files read
+      → (WritesFilledPart asked files old new × Said output_line) ⊎ FailsToSave asked files old new held kept Said → Ending
+  write_ends is same read opens wrote = record {
     done = λ e. absurd (omega arith);
     refusing = λ e. absurd (omega arith);
     worded = λ e. absurd (omega arith);
@@ -147,7 +156,16 @@ module _ (asked : AskedData) (files : Files) (before now : Counts) (old new : Op
     refused = λ e. absurd (omega arith);
     memory = λ e. absurd (omega arith);
     quiet = λ e. elim e [ inl three ↦ absurd (omega arith) | inr five ↦ absurd (omega arith) ];
-    always_unread = passed_no_unread asked files r wrote.0 wrote.4;
-    always_refused = passed_no_refused asked files r wrote.0 wrote.4;
+    unsaved = λ e. same;
+    always_unread = passed_no_unread asked files r read opens;
+    always_refused = passed_no_refused asked files r read opens;
     always_ready = told_all files (AlwaysReady asked files r) (λ held h. inr (inr (inr is)));
   }
+
+  -- a part of the sheet was written
+  pub part_ends : r ≡ 4 → kept.files ≡ held.files → WritesFilledPart asked files old new → Said output_line → Ending
+  part_ends is same wrote said = write_ends is same wrote.0 wrote.4 (inl (wrote, said))
+
+  -- the rule could not be saved
+  pub unsaved_ends : r ≡ 4 → kept.files ≡ held.files → FailsToSave asked files old new held kept Said → Ending
+  unsaved_ends is same wrote = write_ends is same wrote.0 wrote.5 (inr wrote)

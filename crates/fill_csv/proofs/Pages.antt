@@ -11,6 +11,7 @@ use Rattle.fill_filled.specs.Filled.{AreCellStates, WritesPart, WritesRows, is_u
 use Rattle.fill_filled.specs.Learned.{AreLearned}
 use Rattle.fill_filled.specs.declared.form.Form.{Form}
 use Rattle.fill_filled.specs.declared.learning.Refused.{Refused}
+use Rattle.fill_csv.specs.Saved.{ColumnsData, IsSavedText}
 
 -- all that the writing of a sheet depends on
 pub record Whole : Type 0 where
@@ -19,14 +20,16 @@ pub record Whole : Type 0 where
   pub over : Ground
   pub rows : List Fields
   pub head : List ℕ
+  pub saving : Option ColumnsData
 
 module _ (old new : Option (List ℕ)) where
-  abbrev pub IsDone : Whole → List Refused → Bool → Type 0
-  IsDone p refused unsure = (examples : List Example) × (states : List RowState)
+  abbrev pub IsDone : Whole → List Refused → Bool → Option (List ℕ) → Type 0
+  IsDone p refused unsure text = (examples : List Example) × (states : List RowState)
       × AreLearned p.typed p.over examples refused
       × AreCellStates p.typed p.over examples (length p.rows) states
       × (unsure ≡ list_any is_unsure states)
       × WritesRows p.form p.typed p.over examples p.rows p.head (length p.rows) old new
+      × IsSavedText p.saving p.over examples text
 
   abbrev pub IsPart : Whole → Type 0
   IsPart p = (examples : List Example) × (refused : List Refused) × (n : ℕ) × AreLearned p.typed p.over examples refused

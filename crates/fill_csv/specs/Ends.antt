@@ -119,7 +119,12 @@ pub record EndsFilled (asked : AskedData) (files : Files) (status : ℕ) (before
   pub always_refused : Told files (λ held. (line : List ℕ) → (sheet_opens asked held).outcome ≡ Refused line → (status ≡ 5) ⊎ (status ≡ 6) ⊎ (status ≡ 3))
   pub always_ready : Told files (λ held. IsPassed (sheet_opens asked held).outcome → (status ≤ 1) ⊎ (status ≡ 6) ⊎ (status ≡ 3) ⊎ (status ≡ 4))
 
--- how a run ends whose words ask for help: nothing is read or saved
+-- how a run ends whose words are wrong
+pub record EndsWrong (status : ℕ) (Said : List ℕ → Type 0) : Type 0 where
+  pub statuses : (status ≡ 2) ⊎ (status ≡ 6)
+  pub memory : status ≡ 6 → Said memory_line
+
+-- how a run ends whose words ask for help
 pub record EndsShown (status : ℕ) (Said : List ℕ → Type 0) : Type 0 where
   pub statuses : (status ≡ 0) ⊎ (status ≡ 4) ⊎ (status ≡ 6)
   pub part : status ≡ 4 → Said output_line

@@ -2,6 +2,7 @@ pub mod Ends
 pub mod Fills
 pub mod Ground
 pub mod Lines
+pub mod Near
 pub mod Opening
 pub mod Read
 pub mod Said

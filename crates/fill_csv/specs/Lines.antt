@@ -1,11 +1,12 @@
 -- The lines that say why no sheet was written, or not all of it.
-use Rattle.std.specs.Prelude.{◌≡◌, ℕ, List, ◌++◌, codes}
+use Rattle.std.specs.Prelude.{◌≡◌, ℕ, List, ◌++◌, Option, None, Some, codes}
 use Rattle.std.specs.Fmt.{decimal}
 use Rattle.fill_sheet.specs.declared.error.SheetError.{SheetError}
 use Rattle.fill_sheet.specs.declared.error.SheetError.TheVariants as sheet
 use Rattle.fill_lookups.specs.Lines.{line_of, memory_line}
 use Rattle.fill_columns.specs.declared.error.ChoiceError.{ChoiceError}
 use Rattle.fill_columns.specs.declared.error.ChoiceError.TheVariants as choice
+use Rattle.fill_csv.specs.Near.{near}
 use Rattle.fill_columns.specs.Choice.{Refusal, Missing, Ambiguous, Filled, Again, Present, Full, TooMany, Nothing}
 
 abbrev pub unread_line : List ℕ → List ℕ
@@ -29,25 +30,30 @@ sheet_line name sheet.NoMemory = memory_line
 abbrev pub row_line : List ℕ → ℕ → List ℕ
 row_line name row = line_of name (codes "row " ++ (decimal row ++ codes ": no such row, and --example names it\n"))
 
--- the line of words that choose no columns
-abbrev pub choice_line : List ℕ → Refusal → List ℕ
-choice_line name (Missing word) = line_of name (codes "no column \"" ++ (word ++ codes "\"\n"))
-choice_line name (Ambiguous word) = line_of name (codes "more than one column \"" ++ (word ++ codes "\"\n"))
-choice_line name (Filled word) = line_of name (codes "column \"" ++ (word ++ codes "\" is filled, and cannot be read too\n"))
-choice_line name (Again word) = line_of name (codes "column \"" ++ (word ++ codes "\" is named twice\n"))
-choice_line name (Present word) = line_of name (codes "column \"" ++ (word ++ codes "\" is there already\n"))
-choice_line name Full = line_of name (codes "1000 columns are there, and no more can be named\n")
-choice_line name TooMany = line_of name (codes "more than 8 columns to read\n")
-choice_line name Nothing = line_of name (codes "no column to read\n")
+-- the question after a name that is not there, where a column has one like it
+abbrev pub question : Option (List ℕ) → List ℕ
+question None = codes "\n"
+question (Some near) = codes ", did you mean \"" ++ (near ++ codes "\"?\n")
+
+-- the line of words that choose no columns among those of these names
+abbrev pub choice_line : List ℕ → List (List ℕ) → Refusal → List ℕ
+choice_line name names (Missing word) = line_of name (codes "no column \"" ++ (word ++ (codes "\"" ++ question (near word names))))
+choice_line name names (Ambiguous word) = line_of name (codes "more than one column \"" ++ (word ++ codes "\"\n"))
+choice_line name names (Filled word) = line_of name (codes "column \"" ++ (word ++ codes "\" is filled, and cannot be read too\n"))
+choice_line name names (Again word) = line_of name (codes "column \"" ++ (word ++ codes "\" is named twice\n"))
+choice_line name names (Present word) = line_of name (codes "column \"" ++ (word ++ codes "\" is there already\n"))
+choice_line name names Full = line_of name (codes "1000 columns are there, and no more can be named\n")
+choice_line name names TooMany = line_of name (codes "more than 8 columns to read\n")
+choice_line name names Nothing = line_of name (codes "no column to read\n")
 
 -- the line says the refusal of the code
-abbrev pub IsChoiceLine : List ℕ → ChoiceError → List ℕ → Type 0
-IsChoiceLine name (choice.Missing word) line = line ≡ choice_line name (Missing word.now)
-IsChoiceLine name (choice.Ambiguous word) line = line ≡ choice_line name (Ambiguous word.now)
-IsChoiceLine name (choice.Filled word) line = line ≡ choice_line name (Filled word.now)
-IsChoiceLine name (choice.Again word) line = line ≡ choice_line name (Again word.now)
-IsChoiceLine name (choice.Present word) line = line ≡ choice_line name (Present word.now)
-IsChoiceLine name choice.Full line = line ≡ choice_line name Full
-IsChoiceLine name choice.TooMany line = line ≡ choice_line name TooMany
-IsChoiceLine name choice.Nothing line = line ≡ choice_line name Nothing
-IsChoiceLine name choice.NoMemory line = ⊥
+abbrev pub IsChoiceLine : List ℕ → List (List ℕ) → ChoiceError → List ℕ → Type 0
+IsChoiceLine name names (choice.Missing word) line = line ≡ choice_line name names (Missing word.now)
+IsChoiceLine name names (choice.Ambiguous word) line = line ≡ choice_line name names (Ambiguous word.now)
+IsChoiceLine name names (choice.Filled word) line = line ≡ choice_line name names (Filled word.now)
+IsChoiceLine name names (choice.Again word) line = line ≡ choice_line name names (Again word.now)
+IsChoiceLine name names (choice.Present word) line = line ≡ choice_line name names (Present word.now)
+IsChoiceLine name names choice.Full line = line ≡ choice_line name names Full
+IsChoiceLine name names choice.TooMany line = line ≡ choice_line name names TooMany
+IsChoiceLine name names choice.Nothing line = line ≡ choice_line name names Nothing
+IsChoiceLine name names choice.NoMemory line = ⊥

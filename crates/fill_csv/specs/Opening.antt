@@ -88,7 +88,7 @@ rows_in asked bytes choice = with_rows asked bytes choice (read_sheet asked.head
 
 abbrev pub with_choice : AskedData → List ℕ → Result ChoiceData Refusal → Opened SheetRead
 with_choice asked bytes (Ok choice) = rows_in asked bytes choice
-with_choice asked bytes (Err e) = Refused (choice_line asked.file e)
+with_choice asked bytes (Err e) = Refused (choice_line asked.file (names_of (header_of asked.header (records_in bytes))) e)
 
 -- the columns are chosen, and then the rows are read
 abbrev pub sheet_in : AskedData → List ℕ → Opened SheetRead

@@ -1,9 +1,9 @@
 //! The run of `fillcsv`, over any cabinet of files, any store, any input and any sinks.
-ghost use Rattle.std.specs.Prelude.{◌≡◌, ◌⊎◌, ◌≤◌, ℕ, List as Listed, [], All, Option as Optional, map, option_map, string_bytes, true, unwrap_or};
+ghost use Rattle.std.specs.Prelude.{◌≡◌, ◌⊎◌, ◌≤◌, [], All, map, option_map, string_bytes, true, unwrap_or};
 ghost use Rattle.fill_edge.specs.Outside.{Rose};
 ghost use Rattle.fill_filter.specs.RuleFile.{RanFile};
 ghost use Rattle.fill_words.specs.Words.{AskedData, Asks, IsLookup, Runs, SavedData, Shows, Wrong, asked_in, data_of, lookup_data};
-ghost use Rattle.fill_csv.specs.Ends.{EndsFilled, EndsShown};
+ghost use Rattle.fill_csv.specs.Ends.{EndsFilled, EndsShown, EndsWrong};
 ghost use Rattle.fill_csv.specs.Fills.{EndsTold};
 ghost use Rattle.fill_csv.specs.Said.{IsUnsaved, Says};
 
@@ -61,13 +61,13 @@ pub fn run<C: Cabinet, T: Store, S: Source + Drop, O: Sink, E: Sink>(
         (Says (E.written err.old) (E.written err.new) (E.faults err.old) (E.faults err.new)) }
 
     // Where they name a saved rule, it ends as the run of that rule does, with the input at some place.
-    ensures ran { (saved : SavedData) → asked_in (map string_bytes words.now) ≡ Runs saved → (left : Optional (Listed ℕ)) × (faults : ℕ)
-        × RanFile saved.rule (C.files folder.old.cabinet) (C.faults folder.old.cabinet) (C.faults folder.new.cabinet) result (S.left input) left (S.faults input) faults
+    ensures ran { (saved : SavedData) → asked_in (map string_bytes words.now) ≡ Runs saved → (after : S)
+        × RanFile saved.rule (C.files folder.old.cabinet) (C.faults folder.old.cabinet) (C.faults folder.new.cabinet) result (S.left input) (S.left after) (S.faults input) (S.faults after)
         (O.written out.old) (O.written out.new) (O.faults out.old) (O.faults out.new) (Says (E.written err.old) (E.written err.new) (E.faults err.old) (E.faults err.new)) }
     ensures stays { (saved : SavedData) → asked_in (map string_bytes words.now) ≡ Runs saved → folder.new.store ≡ folder.old.store }
 
     // Where they are wrong, nothing is read and nothing is written to `out`.
-    ensures wrong { asked_in (map string_bytes words.now) ≡ Wrong → ((result ≡ 2) ⊎ (result ≡ 6)) × (folder.new ≡ folder.old) × (out.new ≡ out.old) }
+    ensures wrong { asked_in (map string_bytes words.now) ≡ Wrong → EndsWrong result (Says (E.written err.old) (E.written err.new) (E.faults err.old) (E.faults err.new)) × (folder.new ≡ folder.old) × (out.new ≡ out.old) }
 
     // Where they ask for help, nothing is read.
     ensures shown { asked_in (map string_bytes words.now) ≡ Shows → EndsShown result (Says (E.written err.old) (E.written err.new) (E.faults err.old) (E.faults err.new)) × (folder.new ≡ folder.old) }

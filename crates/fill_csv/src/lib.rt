@@ -6,6 +6,7 @@ mod explain;
 mod fill;
 mod head;
 mod lines;
+mod near;
 mod opening;
 mod saving;
 mod stop;

@@ -1,8 +1,13 @@
 //! The lines that say why no sheet was written.
-ghost use Rattle.std.specs.Prelude.{◌≡◌, ◌≢◌, IfOk, string_bytes};
-ghost use Rattle.fill_csv.specs.Lines.{IsChoiceLine, row_line, sheet_line, unread_line, unsaved_line};
+ghost use Rattle.std.specs.Prelude.{◌≡◌, ◌≢◌, ◌++◌, IfOk, codes, option_copied, option_map, string_bytes};
+ghost use Rattle.fill_columns.specs.Columns.{names_of};
+ghost use Rattle.fill_lookups.specs.Lines.{line_of};
+ghost use Rattle.fill_csv.specs.Near.{near};
+ghost use Rattle.fill_csv.specs.Lines.{IsChoiceLine, question, row_line, sheet_line, unread_line, unsaved_line};
 
+use crate::near::near;
 use fill_columns::ChoiceError;
+use fill_records::Record;
 use fill_sheet::SheetError;
 use std::alloc::{AllocError, Global};
 
@@ -43,18 +48,53 @@ pub(crate) fn row_line(alloc: Global, name: &str, row: u32) -> Result<String, Al
     format!(in alloc; "fillcsv: {name}: row {row}: no such row, and --example names it\n")
 }
 
-/// The line of words that choose no columns.
+/// The line of a name that is not there, with the one that is like it.
+fn missing_line(
+    alloc: Global,
+    name: &str,
+    word: &str,
+    near: Option<&str>,
+) -> Result<String, AllocError>
+    ensures { IfOk result (λ line. string_bytes line ≡ line_of name.now (codes "no column \"" ++ (word.now ++ (codes "\"" ++ question (option_map (λ n. n.now) near.entry))))) }
+{
+    match near {
+        Some(near) => {
+            format!(in alloc; "fillcsv: {name}: no column \"{word}\", did you mean \"{near}\"?\n")
+        }
+        None => format!(in alloc; "fillcsv: {name}: no column \"{word}\"\n"),
+    }
+}
+
+/// The name in a header that is like a word, if there is a header.
+fn near_in<'a>(
+    alloc: Global,
+    word: &str,
+    header: Option<&'a Record>,
+) -> Result<Option<&'a str>, AllocError>
+    ensures { IfOk result (λ found. option_map (λ name. name.now) found ≡ near word.now (names_of (option_copied header.entry))) }
+{
+    match header {
+        Some(header) => near(alloc, word, header),
+        None => Ok(None),
+    }
+}
+
+/// The line of words that choose no columns among those of a header.
 pub(crate) fn choice_line(
     alloc: Global,
     name: &str,
+    header: Option<&Record>,
     error: ChoiceError<'_>,
 ) -> Result<String, AllocError>
-    ensures { IfOk result (λ line. IsChoiceLine name.now error.entry (string_bytes line)) }
+    ensures { IfOk result (λ line. IsChoiceLine name.now (names_of (option_copied header.entry)) error.entry (string_bytes line)) }
 {
     match error {
-        ChoiceError::Missing(word) => {
-            format!(in alloc; "fillcsv: {name}: no column \"{word}\"\n")
-        }
+        ChoiceError::Missing(word) => missing_line(
+            alloc,
+            name,
+            word,
+            near_in(alloc, word, header)?,
+        ),
         ChoiceError::Ambiguous(word) => {
             format!(in alloc; "fillcsv: {name}: more than one column \"{word}\"\n")
         }

@@ -116,12 +116,12 @@ fn choice_in(alloc: Global, asked: &Asked, records: &[Record]) -> Result<Choice,
     ensures ready { IfOk result (λ choice. choice_of (data_of asked.now) records.now ≡ Ok (choice_data choice)) }
     ensures inputs { IfOk result (λ choice. AreInputs choice.from.items) }
     ensures output { IfOk result (λ choice. IsOutput choice.from.items (Some choice.to)) }
-    ensures stopped { IfErr result (λ why. (bytes : Listed ℕ) → IsRefusedBy (with_choice (data_of asked.now) bytes (choice_of (data_of asked.now) records.now)) why) }
+    ensures stopped { IfErr result (λ why. (bytes : Listed ℕ) → records.now ≡ records_in bytes → IsRefusedBy (with_choice (data_of asked.now) bytes (choice_of (data_of asked.now) records.now)) why) }
 {
     let header = header_of(asked.header, records);
     match choice_for(alloc, &asked.to, header, width(records), &asked.from) {
         Ok(choice) => Ok(choice),
-        Err(e) => Err(refused(choice_line(alloc, asked.file.as_str(), e))),
+        Err(e) => Err(refused(choice_line(alloc, asked.file.as_str(), header, e))),
     }
 }
 

@@ -1,20 +1,22 @@
 -- From what a run promises of its sinks to what is answered.
-use Rattle.std.proofs.Common.{◌≡◌, ◌⊎◌, ◌≤◌, ℕ, List, [], Some, true, inl, inr, arith}
+use Rattle.std.proofs.Common.{◌≡◌, ◌⊎◌, ◌≤◌, ℕ, List, [], Option, Some, true, inl, inr, arith, subst}
 use Rattle.fill_edge.specs.Outside.{Files, Rose}
 use Rattle.fill_open.specs.Apply.{Names}
 use Rattle.fill_open.specs.Asked.{application_in, keys_file_in}
 use Rattle.fill_open.specs.Command.{command_in, made}
 use Rattle.fill_open.specs.Lines.{memory_line}
-use Rattle.fill_words.specs.Words.{AskedData, Asks, Shows, Wrong, asked_in}
+use Rattle.fill_words.specs.Words.{AskedData, Asks, Runs, SavedData, Shows, Wrong, asked_in}
 use Rattle.fill_command.specs.Answer.{IsOfSession, Says, usage_line}
 use Rattle.fill_command.specs.Applied.{EndsApplied}
 use Rattle.fill_command.specs.Keys.{EndsKeys}
 use Rattle.fill_command.specs.Sessions.{EndsSession}
-use Rattle.fill_csv.specs.Ends.{EndsFilled}
-use Rattle.fill_lookups.specs.Lines.{memory_line as filled_memory_line}
+use Rattle.fill_filter.specs.RuleFile.{RanFile}
+use Rattle.fill_csv.specs.Ends.{EndsFilled, EndsShown, EndsWrong}
+use Rattle.fill_csv.specs.Saved.{StoreAt}
 use Rattle.fill_csv.specs.Said.{Says as SaysFilled}
 use Rattle.fill_engine.specs.Answer.{AnswerData}
-use Rattle.fill_engine.specs.Programs.{EndsFillcsv, EndsFlashfill, IsNoCommand, no_faults}
+use Rattle.fill_engine.specs.Programs.{EndsFillcsv, EndsFlashfill, IsNoCommand, Stores, files_of, no_faults, nothing_stored}
+use Rattle.fill_engine.specs.Request.{input_in}
 
 -- a fault is counted
 no_rise : Rose 0 0 → ⊥
@@ -58,30 +60,31 @@ pub flashfill_ends : (words : List (List ℕ)) (files : Files) (a : AnswerData) 
 flashfill_ends words files a r old new before now quiet said ago lately first last is_r is_new is_said is_old is_quiet is_before is_now is_ago is_lately ran =
     flashfill_answers words files a first last (rw (is_r, is_new, is_said) (rw (is_old, is_quiet, is_before, is_now, is_ago, is_lately) at ran))
 
--- what the run of `fillcsv` promises, likewise
-pub record RanFillcsv (words : List (List ℕ)) (files : Files) (r : ℕ) (old new : List ℕ) (before now : ℕ) (quiet said : List ℕ) (ago lately : ℕ) : Type 0 where
-  pub filled : (asked : AskedData) → asked_in words ≡ Asks asked → EndsFilled asked files r no_faults no_faults (Some old) (Some new) (SaysFilled (Some quiet) (Some said) ago lately)
-  pub wrong : asked_in words ≡ Wrong → ((r ≡ 2) ⊎ (r ≡ 6)) × (new ≡ old)
-  pub shown : asked_in words ≡ Shows → (r ≡ 0) ⊎ (r ≡ 4) ⊎ (r ≡ 6)
+-- what the run of `fillcsv` promises, likewise, and by its input and its store, of which no read and no save failed
+pub record RanFillcsv (words : List (List ℕ)) (files : List (List ℕ × List ℕ)) (r : ℕ) (old new : List ℕ) (before now : ℕ) (quiet said : List ℕ) (ago lately : ℕ) (first : List ℕ) (held kept : StoreAt) : Type 0 where
+  pub filled : (asked : AskedData) → asked_in words ≡ Asks asked → EndsFilled asked (files_of files) r no_faults no_faults (Some old) (Some new) held kept (SaysFilled (Some quiet) (Some said) ago lately)
+  pub ran : (saved : SavedData) → asked_in words ≡ Runs saved → (left : Option (List ℕ))
+      × RanFile saved.rule (files_of files) no_faults no_faults r (Some first) left 0 0 (Some old) (Some new) before now (SaysFilled (Some quiet) (Some said) ago lately)
+  pub wrong : asked_in words ≡ Wrong → EndsWrong r (SaysFilled (Some quiet) (Some said) ago lately) × (new ≡ old)
+  pub shown : asked_in words ≡ Shows → EndsShown r (SaysFilled (Some quiet) (Some said) ago lately)
   pub silent : (asked : AskedData) → asked_in words ≡ Asks asked → asked.quiet ≡ true → r ≤ 1 → said ≡ quiet
-  pub memory : r ≡ 6 → SaysFilled (Some quiet) (Some said) ago lately filled_memory_line
-  pub fault : r ≡ 4 → Rose before now
+  pub fault : r ≡ 4 → Rose before now ⊎ Rose held.faults kept.faults
   pub statuses : r ≤ 6
 
-fillcsv_answers : (words : List (List ℕ)) (files : Files) (a : AnswerData) →
-    RanFillcsv words files a.status [] a.out 0 0 [] a.err 0 0 → EndsFillcsv words files a
-fillcsv_answers words files a ran = record {
-  filled = ran.filled;
+fillcsv_answers : (words : List (List ℕ)) (files : List (List ℕ × List ℕ)) (a : AnswerData) (kept : StoreAt) → Stores a.saved kept →
+    RanFillcsv words files a.status [] a.out 0 0 [] a.err 0 0 (input_in files) nothing_stored kept → EndsFillcsv words files a
+fillcsv_answers words files a kept stores ran = record {
+  filled = λ asked is. (kept, stores, ran.filled asked is);
+  ran = ran.ran;
   wrong = ran.wrong;
-  shown = λ is. not_second (a.status ≡ 0) (a.status ≡ 4) (a.status ≡ 6) (λ four. no_rise (ran.fault four)) (ran.shown is);
+  shown = ran.shown;
   silent = ran.silent;
-  memory = ran.memory;
-  written = λ four. no_rise (ran.fault four);
+  written = λ four. elim (ran.fault four) [ inl rose ↦ no_rise rose | inr rose ↦ no_rise (subst (λ (s : StoreAt). Rose 0 s.faults) stores.1 rose) ];
   statuses = ran.statuses;
 }
 
-pub fillcsv_ends : (words : List (List ℕ)) (files : Files) (a : AnswerData) (r : ℕ) (old new : List ℕ) (before now : ℕ) (quiet said : List ℕ) (ago lately : ℕ) →
-    a.status ≡ r → a.out ≡ new → a.err ≡ said → old ≡ [] → quiet ≡ [] → before ≡ 0 → now ≡ 0 → ago ≡ 0 → lately ≡ 0 →
-    RanFillcsv words files r old new before now quiet said ago lately → EndsFillcsv words files a
-fillcsv_ends words files a r old new before now quiet said ago lately is_r is_new is_said is_old is_quiet is_before is_now is_ago is_lately ran =
-    fillcsv_answers words files a (rw (is_r, is_new, is_said) (rw (is_old, is_quiet, is_before, is_now, is_ago, is_lately) at ran))
+pub fillcsv_ends : (words : List (List ℕ)) (files : List (List ℕ × List ℕ)) (a : AnswerData) (r : ℕ) (old new : List ℕ) (before now : ℕ) (quiet said : List ℕ) (ago lately : ℕ) (first : List ℕ) (held kept : StoreAt) →
+    a.status ≡ r → a.out ≡ new → a.err ≡ said → old ≡ [] → quiet ≡ [] → before ≡ 0 → now ≡ 0 → ago ≡ 0 → lately ≡ 0 → first ≡ input_in files → held ≡ nothing_stored → Stores a.saved kept →
+    RanFillcsv words files r old new before now quiet said ago lately first held kept → EndsFillcsv words files a
+fillcsv_ends words files a r old new before now quiet said ago lately first held kept is_r is_new is_said is_old is_quiet is_before is_now is_ago is_lately is_first is_held stores ran =
+    fillcsv_answers words files a kept stores (rw (is_r, is_new, is_said) (rw (is_old, is_quiet, is_before, is_now, is_ago, is_lately, is_first, is_held) at ran))

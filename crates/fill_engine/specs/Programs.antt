@@ -7,18 +7,20 @@ use Rattle.fill_open.specs.Asked.{application_in, keys_file_in}
 use Rattle.fill_open.specs.Command.{command_in, made}
 use Rattle.fill_open.specs.Lines.{memory_line}
 use Rattle.fill_open.specs.Stops.{Counts}
-use Rattle.fill_words.specs.Words.{AskedData, Asks, Shows, Wrong, asked_in}
+use Rattle.fill_words.specs.Words.{AskedData, Asks, Runs, SavedData, Shows, Wrong, asked_in}
+use Rattle.fill_files.specs.Saves.{last_bytes}
+use Rattle.fill_filter.specs.RuleFile.{RanFile}
+use Rattle.fill_csv.specs.Saved.{StoreAt}
 use Rattle.fill_command.specs.Answer.{IsOfSession, Says, usage_line}
 use Rattle.fill_command.specs.Applied.{EndsApplied}
 use Rattle.fill_command.specs.Keys.{EndsKeys}
 use Rattle.fill_command.specs.Sessions.{EndsSession}
-use Rattle.fill_csv.specs.Ends.{EndsFilled}
-use Rattle.fill_lookups.specs.Lines.{memory_line as filled_memory_line}
+use Rattle.fill_csv.specs.Ends.{EndsFilled, EndsShown, EndsWrong}
 use Rattle.fill_csv.specs.Said.{Says as SaysFilled}
 use Rattle.fill_engine.specs.declared.request.Program.{Program}
 use Rattle.fill_engine.specs.declared.request.Program.TheVariants.{Flashfill, Fillcsv}
 use Rattle.fill_engine.specs.Answer.{AnswerData, malformed, no_memory}
-use Rattle.fill_engine.specs.Request.{CallData, request_in}
+use Rattle.fill_engine.specs.Request.{CallData, input_in, request_in}
 
 -- files that are told, each its name and its bytes, those that come last first
 abbrev pub files_of : List (List ℕ × List ℕ) → Files
@@ -53,15 +55,25 @@ pub record EndsFlashfill (words : List (List ℕ)) (files : Files) (a : AnswerDa
   pub written : a.status ≢ 4
   pub statuses : a.status ≤ 6
 
+-- a store that holds nothing, and one whose last file has these bytes, or none; no save fails
+abbrev pub Stores : List ℕ → StoreAt → Type 0
+Stores saved store = (files : List (List ℕ × List ℕ)) × (store ≡ record { files = Some files; faults = 0 }) × (saved ≡ last_bytes files)
+
+abbrev pub nothing_stored : StoreAt
+nothing_stored = record { files = Some []; faults = 0 }
+
 -- what `fillcsv` answers to these words over these files
-pub record EndsFillcsv (words : List (List ℕ)) (files : Files) (a : AnswerData) : Type 0 where
+pub record EndsFillcsv (words : List (List ℕ)) (files : List (List ℕ × List ℕ)) (a : AnswerData) : Type 0 where
   -- words that ask for a sheet end as its filling does
-  pub filled : (asked : AskedData) → asked_in words ≡ Asks asked → EndsFilled asked files a.status no_faults no_faults (Some []) (Some a.out) (SaysFilled (Some []) (Some a.err) 0 0)
-  pub wrong : asked_in words ≡ Wrong → ((a.status ≡ 2) ⊎ (a.status ≡ 6)) × (a.out ≡ [])
-  pub shown : asked_in words ≡ Shows → (a.status ≡ 0) ⊎ (a.status ≡ 6)
+  pub filled : (asked : AskedData) → asked_in words ≡ Asks asked → (store : StoreAt) × Stores a.saved store
+      × EndsFilled asked (files_of files) a.status no_faults no_faults (Some []) (Some a.out) nothing_stored store (SaysFilled (Some []) (Some a.err) 0 0)
+  -- words that name a saved rule end as its run over standard input does, of which no read fails
+  pub ran : (saved : SavedData) → asked_in words ≡ Runs saved → (left : Option (List ℕ))
+      × RanFile saved.rule (files_of files) no_faults no_faults a.status (Some (input_in files)) left 0 0 (Some []) (Some a.out) 0 0 (SaysFilled (Some []) (Some a.err) 0 0)
+  pub wrong : asked_in words ≡ Wrong → EndsWrong a.status (SaysFilled (Some []) (Some a.err) 0 0) × (a.out ≡ [])
+  pub shown : asked_in words ≡ Shows → EndsShown a.status (SaysFilled (Some []) (Some a.err) 0 0)
   -- where they ask for quiet, nothing is said of a sheet that was written
   pub silent : (asked : AskedData) → asked_in words ≡ Asks asked → asked.quiet ≡ true → a.status ≤ 1 → a.err ≡ []
-  pub memory : a.status ≡ 6 → SaysFilled (Some []) (Some a.err) 0 0 filled_memory_line
   -- no write fails
   pub written : a.status ≢ 4
   pub statuses : a.status ≤ 6
@@ -69,13 +81,13 @@ pub record EndsFillcsv (words : List (List ℕ)) (files : Files) (a : AnswerData
 -- what a program answers
 abbrev pub Ends : Program → List (List ℕ) → List (List ℕ × List ℕ) → AnswerData → Type 0
 Ends Flashfill words files a = EndsFlashfill words (files_of files) a
-Ends Fillcsv words files a = EndsFillcsv words (files_of files) a
+Ends Fillcsv words files a = EndsFillcsv words files a
 
 -- the answer of what is asked, or that nothing is
 abbrev pub AnswersCall : Option CallData → AnswerData → Type 0
 AnswersCall None a = a ≡ malformed
 AnswersCall (Some call) a = Ends call.program call.words call.files a
 
--- the answer of a request, or want of memory
+-- the answer of a request, or that memory ran out
 abbrev pub Answers : List ℕ → AnswerData → Type 0
 Answers request a = AnswersCall (request_in request) a ⊎ (a ≡ no_memory)

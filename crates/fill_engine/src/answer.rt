@@ -5,12 +5,13 @@ ghost use Rattle.fill_engine.specs.Answer.{answer_bytes, answer_data, piece_byte
 use fill_text::NoMemory;
 use std::alloc::Global;
 
-/// What a program answers: its status, and all that it wrote to its output and to its errors.
+/// What a program answers: its status, all that it wrote to its output and to its errors, and the file that it saved.
 #[derive(Drop)]
 pub struct Answer {
     pub status: u8,
     pub out: Vec<u8>,
     pub err: Vec<u8>,
+    pub saved: Vec<u8>,
 }
 
 impl Answer {
@@ -22,6 +23,7 @@ impl Answer {
         bytes.push(self.status)?;
         put_piece(&mut bytes, &self.out)?;
         put_piece(&mut bytes, &self.err)?;
+        put_piece(&mut bytes, &self.saved)?;
         Ok(bytes)
     }
 }

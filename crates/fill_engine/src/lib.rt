@@ -8,6 +8,7 @@ ghost use Rattle.fill_engine.specs.Request.{request_in};
 
 mod answer;
 mod files;
+mod input;
 mod page;
 mod programs;
 mod request;
@@ -21,18 +22,21 @@ use std::alloc::Global;
 /// The status of a request that has not the form of one.
 const MALFORMED: u8 = 7;
 
-/// The answer of want of memory: status 6, and two empty texts.
-const NO_MEMORY: [u8; 17] = [6, 0, 0, 0, 0, 0, 0, 0, 0, 0, 0, 0, 0, 0, 0, 0, 0];
+/// The answer where memory runs out: status 6, and three empty texts.
+const NO_MEMORY: [u8; 25] = [
+    6, 0, 0, 0, 0, 0, 0, 0, 0, 0, 0, 0, 0, 0, 0, 0, 0, 0, 0, 0, 0, 0, 0, 0, 0,
+];
 
 /// Answers a request: leaves the bytes of the answer at the front of the room, and returns
 /// their number. Where that is more than the room has, the room stays as it was: call again with one of that size.
 ///
 /// A request is a program's name, `flashfill` or `fillcsv`, the number of its words, the words, the number of files, and the
-/// name and the bytes of each; of two files with one name the later one is seen. A number has eight bytes, the lowest first;
-/// a text is the number of its bytes and then these. Names and words are UTF-8.
+/// name and the bytes of each; of two files with one name the later one is seen, and `-` is standard input. A number has
+/// eight bytes, the lowest first; a text is the number of its bytes and then these. Names and words are UTF-8.
 ///
-/// An answer is the status of the program, one byte, and the texts that it wrote to its output and to its errors. What has
-/// not the form of a request is answered by status 7, and want of memory by 6, each with two empty texts.
+/// An answer is the status of the program, one byte, the texts that it wrote to its output and to its errors, and the bytes of
+/// the file that it saved, none where it saved none. What has not the form of a request is answered by status 7, and a lack of
+/// memory by 6, each with three empty texts.
 #[unsafe(no_mangle)]
 pub extern "C" fn fill_engine(alloc: Global, request: &[u8], room: &mut [u8]) -> usize
     ensures { (answer : AnswerData) × Answers request.now answer × Leaves room.old room.new result (answer_bytes answer) }
@@ -56,7 +60,7 @@ fn answer_of(alloc: Global, request: &[u8]) -> Result<Answer, NoMemory>
     ensures { IfOk result (λ answer. AnswersCall (request_in request.now) (answer_data answer)) }
 {
     match read_request(alloc, request)? {
-        Some(mut call) => run_program(alloc, call.program, &call.words, &mut call.files),
+        Some(call) => run_program(alloc, call.program, &call.words, call.files),
         None => Ok(malformed(alloc)),
     }
 }
@@ -69,6 +73,7 @@ fn malformed(alloc: Global) -> Answer
         status: MALFORMED,
         out: Vec::new(alloc),
         err: Vec::new(alloc),
+        saved: Vec::new(alloc),
     }
 }
 

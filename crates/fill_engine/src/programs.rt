@@ -5,9 +5,12 @@ ghost use Rattle.fill_engine.specs.Programs.{Ends, EndsFillcsv, EndsFlashfill, f
 
 use crate::answer::Answer;
 use crate::files::NamedFiles;
+use crate::input::Input;
 use crate::page::Page;
 use crate::request::Program;
+use fill_csv::Folder;
 use fill_edge::{Ledger, Steps};
+use fill_files::MemoryStore;
 use fill_text::NoMemory;
 use std::alloc::Global;
 use std::marker::Brand;
@@ -18,57 +21,56 @@ pub fn run_program(
     alloc: Global,
     program: Program,
     words: &[String],
-    files: &mut NamedFiles,
+    files: NamedFiles,
 ) -> Result<Answer, NoMemory>
-    ensures { IfOk result (λ answer. Ends program (map string_bytes words.now) files.old.files (answer_data answer)) }
+    ensures { IfOk result (λ answer. Ends program (map string_bytes words.now) files.files (answer_data answer)) }
 {
     match program {
         Program::Flashfill => run_flashfill::<Brand>(alloc, words, files, Blank::new(1)),
-        Program::Fillcsv => run_fillcsv::<Brand>(alloc, words, files, Blank::new(1)),
+        Program::Fillcsv => run_fillcsv(alloc, words, files),
     }
 }
 
 fn run_flashfill<L: Ledger>(
     alloc: Global,
     words: &[String],
-    files: &mut NamedFiles,
+    mut files: NamedFiles,
     blank: Blank,
 ) -> Result<Answer, NoMemory>
     requires name { blank.name ≡ L.name }
     requires parts { blank.parts ≡ L.parts }
     requires one { blank.parts ≡ 1 }
-    ensures { IfOk result (λ answer. EndsFlashfill (map string_bytes words.now) (files_of files.old.files) (answer_data answer)) }
+    ensures { IfOk result (λ answer. EndsFlashfill (map string_bytes words.now) (files_of files.files) (answer_data answer)) }
 {
     let (book, share) = blank.open::<L>();
     let mut steps = Steps::new(book, share);
     let mut out = Page::new(alloc);
     let mut err = Page::new(alloc);
-    let status = fill_command::run(alloc, words, files, &mut out, &mut err, &mut steps);
-    whole(status, out, err)
+    let status = fill_command::run(alloc, words, &mut files, &mut out, &mut err, &mut steps);
+    whole(status, out, err, Vec::new(alloc))
 }
 
-fn run_fillcsv<L: Ledger>(
-    alloc: Global,
-    words: &[String],
-    files: &mut NamedFiles,
-    blank: Blank,
-) -> Result<Answer, NoMemory>
-    requires name { blank.name ≡ L.name }
-    requires parts { blank.parts ≡ L.parts }
-    requires one { blank.parts ≡ 1 }
-    ensures { IfOk result (λ answer. EndsFillcsv (map string_bytes words.now) (files_of files.old.files) (answer_data answer)) }
+fn run_fillcsv(alloc: Global, words: &[String], files: NamedFiles) -> Result<Answer, NoMemory>
+    ensures { IfOk result (λ answer. EndsFillcsv (map string_bytes words.now) files.files (answer_data answer)) }
 {
-    let (book, share) = blank.open::<L>();
-    let mut steps = Steps::new(book, share);
+    let input = Input::new(files.input()?);
+    let mut folder = Folder {
+        cabinet: files,
+        store: MemoryStore::new(alloc),
+    };
     let mut out = Page::new(alloc);
     let mut err = Page::new(alloc);
-    let status = fill_csv::run(alloc, words, files, &mut out, &mut err, &mut steps);
-    whole(status, out, err)
+    let status = fill_csv::run(alloc, words, &mut folder, input, &mut out, &mut err);
+    if folder.store.faults() > 0 {
+        return Err(NoMemory);
+    }
+    let saved = folder.store.last().to_vec(alloc)?;
+    whole(status, out, err, saved)
 }
 
-/// The answer of a status and of what was written, where no write failed.
-fn whole(status: u8, out: Page, err: Page) -> Result<Answer, NoMemory>
-    ensures { IfOk result (IsWhole status out err) }
+/// The answer of a status, of what was written, where no write failed, and of what was saved.
+fn whole(status: u8, out: Page, err: Page, saved: Vec<u8>) -> Result<Answer, NoMemory>
+    ensures { IfOk result (IsWhole status out err saved.items) }
 {
     if out.faults > 0 {
         return Err(NoMemory);
@@ -80,5 +82,6 @@ fn whole(status: u8, out: Page, err: Page) -> Result<Answer, NoMemory>
         status,
         out: out.bytes,
         err: err.bytes,
+        saved,
     })
 }

@@ -1,5 +1,5 @@
 -- Files that were saved, as plain data.
-use Rattle.std.specs.Prelude.{ℕ, List, [], ◌∷◌, Option, option_map}
+use Rattle.std.specs.Prelude.{ℕ, Bool, List, [], ◌∷◌, Option, option_map}
 
 -- the name and the bytes of each file that was saved, the last one first; none where a store does not tell them
 abbrev pub SavedFiles : Type 0
@@ -14,9 +14,10 @@ abbrev pub last_bytes : List (List ℕ × List ℕ) → List ℕ
 last_bytes [] = []
 last_bytes (file ∷ more) = file.1
 
--- a store in memory: its files, and how many saves failed
+-- a store in memory: its files, whether every save is to fail, and how many failed
 pub record Kept : Type 0 where
   pub files : List (List ℕ × List ℕ)
+  pub fails : Bool
   pub faults : ℕ
 
 -- how many saves on a disk failed

@@ -1,5 +1,5 @@
 //! Saved files in memory, which tell everything.
-ghost use Rattle.std.specs.Prelude.{◌≡◌, ◌∷◌, ◌≤◌, [], IfOk, OnOk, OnErr};
+ghost use Rattle.std.specs.Prelude.{◌≡◌, ◌∷◌, ◌≤◌, [], IfOk, IsErr, OnOk, OnErr, false, true};
 ghost use Rattle.fill_edge.specs.Outside.{Rose, counted};
 ghost use Rattle.fill_files.specs.Saves.{last_bytes};
 
@@ -43,11 +43,12 @@ impl File {
 
 /// Saved files in memory, for tests and for callers that take them from there.
 ///
-/// A save fails where memory runs out.
+/// A save fails where memory runs out, and where all are set to fail.
 #[derive(Drop)]
 pub struct MemoryStore {
     alloc: Global,
     files: Vec<File>,
+    fails: bool,
     faults: u64,
 }
 
@@ -56,19 +57,34 @@ impl Model for MemoryStore {
 
     ghost Value = { Kept };
 
-    ghost view = { λ store. record { files = store.files.items; faults = store.faults } };
+    ghost view = { λ store. record { files = store.files.items; fails = store.fails; faults = store.faults } };
 }
 
 impl MemoryStore {
     /// No files.
     pub fn new(alloc: Global) -> MemoryStore
-        ensures { result ≡ record { files = []; faults = 0 } }
+        ensures { result ≡ record { files = []; fails = false; faults = 0 } }
     {
         MemoryStore {
             alloc,
             files: Vec::new(alloc),
+            fails: false,
             faults: 0,
         }
+    }
+
+    /// Makes every save fail from now on.
+    pub fn fail(&mut self)
+        ensures { self.new ≡ record self.old { fails = true } }
+    {
+        self.fails = true;
+    }
+
+    /// How many saves failed.
+    pub fn faults(&self) -> u64
+        ensures { result ≡ self.now.faults }
+    {
+        self.faults
     }
 
     /// The bytes of the file that was saved last, none where none was saved.
@@ -81,11 +97,15 @@ impl MemoryStore {
         }
     }
 
-    /// Adds a file.
+    /// Adds a file, where none is set to fail.
     fn add(&mut self, name: &str, bytes: &[u8]) -> Result<(), NoMemory>
         ensures ok { OnOk result (self.new ≡ record self.old { files = (name.now, bytes.now) ∷ self.old.files }) }
+        ensures set { self.old.fails ≡ true → IsErr result }
         ensures err { OnErr result (self.new ≡ self.old) }
     {
+        if self.fails {
+            return Err(NoMemory);
+        }
         let file = File::new(self.alloc, name, bytes)?;
         self.files.insert(0, file)?;
         Ok(())

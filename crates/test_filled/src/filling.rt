@@ -1,11 +1,6 @@
 //! Whole runs of `fillcsv`.
-ghost use Rattle.std.specs.Prelude.{◌≡◌};
-
-use fill_csv::run;
-use fill_edge::{Ledger, MemoryCabinet, MemorySink, Steps};
+use crate::scene::{Scene, empty_scene, status};
 use std::alloc::Global;
-use std::marker::Brand;
-use std::sync::ledger::Blank;
 use std::test::Fail;
 
 /// A run, and what it comes to.
@@ -20,58 +15,20 @@ struct Row<'a> {
     output: &'a [u8],
 }
 
-/// All that a run reads and writes.
-#[derive(Drop)]
-struct Scene {
-    words: Vec<String>,
-    cabinet: MemoryCabinet,
-    out: MemorySink,
-    err: MemorySink,
-}
-
-fn empty_scene(alloc: Global) -> Result<Scene, Fail> {
-    let out = MemorySink::new(alloc, 10_000, 10_000)?;
-    let err = MemorySink::new(alloc, 10_000, 10_000)?;
-    Ok(Scene {
-        words: Vec::new(alloc),
-        cabinet: MemoryCabinet::new(alloc, 7),
-        out,
-        err,
-    })
-}
-
 /// Puts the words and the file there, and sets what fails.
 fn set(alloc: Global, scene: &mut Scene, row: &Row) -> Result<(), Fail> {
     for word in row.words {
         scene.words.push(String::from_str(alloc, word)?)?;
     }
-    scene.cabinet.put("s.csv", row.sheet)?;
-    scene.cabinet.put("m.csv", MONTHS)?;
+    scene.folder.cabinet.put("s.csv", row.sheet)?;
+    scene.folder.cabinet.put("m.csv", MONTHS)?;
     scene.out.fail_at(row.failing)?;
     Ok(())
 }
 
-/// The status of a run.
-fn status<L: Ledger>(alloc: Global, scene: &mut Scene, blank: Blank) -> u8
-    requires name { blank.name ≡ L.name }
-    requires parts { blank.parts ≡ L.parts }
-    requires one { blank.parts ≡ 1 }
-{
-    let (book, share) = blank.open::<L>();
-    let mut steps = Steps::new(book, share);
-    run(
-        alloc,
-        &scene.words,
-        &mut scene.cabinet,
-        &mut scene.out,
-        &mut scene.err,
-        &mut steps,
-    )
-}
-
 fn ends_in(alloc: Global, scene: &mut Scene, row: &Row) -> Result<bool, Fail> {
     set(alloc, scene, row)?;
-    let status = status::<Brand>(alloc, scene, Blank::new(1));
+    let status = status(alloc, scene, b"");
     Ok(status == row.status && scene.out.written() == row.output)
 }
 

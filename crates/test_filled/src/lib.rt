@@ -3,3 +3,7 @@
 
 #[cfg(test)]
 mod filling;
+#[cfg(test)]
+mod rules;
+#[cfg(test)]
+mod scene;

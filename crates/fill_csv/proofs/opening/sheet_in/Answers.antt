@@ -10,7 +10,7 @@ returns-in-Err-choice_in-clause-stopped c =
     let d = data_of c.args.asked.now in
     let records : c.as_slice-2.result.now ≡ records_in c.args.bytes = c.as_slice-2.ensures ∙ (rw c.as_slice.ensures at c.in-Ok.ensures) in
     subst (λ (l : List (List (List ℕ))). Refuses (with_choice d c.args.bytes (choice_of d l)) c.in-Err-choice_in.stop) records
-    (c.in-Err-choice_in.ensures.stopped c.args.bytes)
+    (c.in-Err-choice_in.ensures.stopped c.args.bytes records)
 
 pub returns-in-Err-rows_in-clause-stopped : goal.returns-in-Err-rows_in-clause-stopped
 returns-in-Err-rows_in-clause-stopped c =

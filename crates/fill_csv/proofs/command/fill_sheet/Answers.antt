@@ -1,0 +1,7 @@
+use Rattle.fill_words.specs.Words.{data_of}
+use Rattle.fill_csv.proofs.Tolds.{told_ends}
+use Rattle.fill_csv.proofs.command.fill_sheet.Goals as goal
+
+pub returns-in-Ok-clause-ends : goal.returns-in-Ok-clause-ends
+returns-in-Ok-clause-ends g c =
+    told_ends (data_of c.args.asked.now) (g.C.Cabinet.files c.args.folder.now.cabinet) _ _ _ _ _ _ _ c.end.result c.in-Ok.told c.in-Ok.ensures.filled c.end.ensures.ends

@@ -1,0 +1,43 @@
+//! What whole runs of `fillcsv` read and write.
+use fill_csv::{Folder, run};
+use fill_edge::{MemoryCabinet, MemorySink};
+use fill_files::MemoryStore;
+use fill_stream::MemorySource;
+use std::alloc::Global;
+use std::test::Fail;
+
+/// All that a run reads and writes.
+#[derive(Drop)]
+pub(crate) struct Scene {
+    pub words: Vec<String>,
+    pub folder: Folder<MemoryCabinet, MemoryStore>,
+    pub out: MemorySink,
+    pub err: MemorySink,
+}
+
+/// A run without words or files. A read gives at most seven bytes.
+pub(crate) fn empty_scene(alloc: Global) -> Result<Scene, Fail> {
+    let out = MemorySink::new(alloc, 10_000, 10_000)?;
+    let err = MemorySink::new(alloc, 10_000, 10_000)?;
+    Ok(Scene {
+        words: Vec::new(alloc),
+        folder: Folder {
+            cabinet: MemoryCabinet::new(alloc, 7),
+            store: MemoryStore::new(alloc),
+        },
+        out,
+        err,
+    })
+}
+
+/// The status of a run over this input.
+pub(crate) fn status(alloc: Global, scene: &mut Scene, input: &[u8]) -> u8 {
+    run(
+        alloc,
+        &scene.words,
+        &mut scene.folder,
+        MemorySource::new(input, 7, 0),
+        &mut scene.out,
+        &mut scene.err,
+    )
+}
