@@ -17,6 +17,7 @@ ghost use Rattle.fill_csv.specs.Ground.{ground_of, profile_of, settings_of};
 ghost use Rattle.fill_csv.specs.Said.{Says};
 ghost use Rattle.fill_csv.specs.Read.{AreParts, columns_data, read_data};
 
+use crate::clash::clashes_of;
 use crate::explain::Spoken;
 use crate::head;
 use crate::opening::{SheetRead, open_sheet};
@@ -230,6 +231,7 @@ fn write_page<O: Sink, L: Ledger>(
     match write_filled(alloc, &filling, &mut summary, out) {
         Ok(()) => Ok(Told {
             text: saved_text(alloc, saving, session)?,
+            clashes: clashes_of(alloc, session, refused.as_slice()).unwrap_or(Vec::new(alloc)),
             refused,
             summary,
             rule: page

@@ -1,6 +1,7 @@
 //! The run of `fillcsv`: a sheet with one of its columns filled.
 #![tactic(auto)]
 
+mod clash;
 mod command;
 mod explain;
 mod fill;

@@ -3,6 +3,7 @@ ghost use Rattle.std.specs.Prelude.{◌≡◌, ◌||◌, ◌&&◌, true};
 ghost use Rattle.std.specs.List.{list_any};
 ghost use Rattle.fill_filled.specs.Learned.{counts};
 
+use crate::clash::MOST_REFUSALS;
 use crate::stop::say;
 use fill_edge::{Sink, write_all};
 use fill_filled::{Counts, Refused, Summary};
@@ -15,6 +16,8 @@ use std::alloc::{AllocError, Global};
 pub(crate) struct Told {
     /// The given texts that are no examples.
     pub refused: List<Refused>,
+    /// For each of the first of them that count the row of an example that reads the same cells, 0 where there is none.
+    pub clashes: Vec<u32>,
     /// How many cells have each state.
     pub summary: Summary,
     /// The rule that was learned, a line for each of its cases.
@@ -43,12 +46,14 @@ impl Told {
     pub(crate) fn say<E: Sink>(&self, alloc: Global, header: bool, err: &mut E) {
         let above = if header { 1 } else { 0 };
         let refused = self.refused.as_slice();
-        for cell in refused
+        for (i, cell) in refused
             .iter()
             .filter(|cell| cell.counts())
             .take(MOST_REFUSALS)
+            .enumerate()
         {
-            say_line(err, refused_text(alloc, above, cell));
+            let clash = self.clashes.get(i).copied().unwrap_or(0);
+            say_line(err, refused_text(alloc, above, cell, clash));
         }
         let counted = refused.iter().filter(|cell| cell.counts()).count();
         say_line(err, more_text(alloc, counted));
@@ -87,9 +92,6 @@ fn any_counts(refused: &[Refused]) -> bool
 {
     refused.iter().any(|cell| cell.counts())
 }
-
-/// How many refused cells are told one by one.
-const MOST_REFUSALS: usize = 10;
 
 /// Writes a line, where there was memory for it.
 fn say_line<E: Sink>(err: &mut E, line: Result<String, AllocError>) {
@@ -153,9 +155,20 @@ fn doubtful_text(alloc: Global, above: u32, counts: &Counts) -> Result<String, A
     Ok(text)
 }
 
-/// Why a given cell is refused.
-fn refused_text(alloc: Global, above: u32, cell: &Refused) -> Result<String, AllocError> {
+/// Why a given cell is refused, which clashes with the example of a row, or with none where that is 0.
+fn refused_text(
+    alloc: Global,
+    above: u32,
+    cell: &Refused,
+    clash: u32,
+) -> Result<String, AllocError> {
     let number = cell.row.saturating_add(above);
+    if clash > 0 {
+        let other = clash.saturating_add(above);
+        return format!(in alloc;
+            "fillcsv: row {number}: not learned from: row {other} reads the same cells and has another text\n"
+        );
+    }
     match cell.reason {
         EditError::TooLong {
             part: Part::Text,

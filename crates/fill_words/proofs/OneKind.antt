@@ -24,7 +24,7 @@ use Rattle.clap.proofs.FaultLemmas.{leaf_fault}
 use Rattle.fill_words.specs.declared.refusal.Refusal.{Refusal}
 use Rattle.fill_words.specs.declared.refusal.Refusal.TheVariants.{NoMemory}
 use Rattle.fill_words.specs.Options.{app, run_app}
-use Rattle.fill_words.specs.Words.{IsRefusedBy, Meaning, meaning_of, meaning_of_kind, meaning_of_rows, run_meaning, run_of_rows, sheet_meaning}
+use Rattle.fill_words.specs.Words.{IsRefusedBy, Meaning, asked_in, is_rule_word, meaning_of, meaning_of_kind, meaning_of_rows, run_meaning, run_of_rows, sheet_meaning}
 
 pub app_is_simple : is_simple app ≡ true
 unfolding app
@@ -261,3 +261,13 @@ taken_means words rows fine are = means meaning_of_rows (fault_of app words) (ma
 pub run_taken_means : (words : List Text) (rows : List Row) → fault_of run_app words ≡ [] → rows ≡ matches_of run_app words → run_of_rows rows ≡ run_meaning words
 unfolding run_meaning
 run_taken_means words rows fine are = means run_of_rows (fault_of run_app words) (matches_of run_app words) rows fine are
+
+-- ---- which of both the words are
+
+pub asks_run : (words : List Text) (t : Bool) → t ≡ list_any is_rule_word words → t ≡ true → asked_in words ≡ run_meaning words
+unfolding asked_in
+asks_run words t is yes = let test : list_any is_rule_word words ≡ true = sym is ∙ yes in rw test refl
+
+pub asks_sheet : (words : List Text) (t : Bool) → t ≡ list_any is_rule_word words → t ≡ false → asked_in words ≡ sheet_meaning words
+unfolding asked_in
+asks_sheet words t is no = let test : list_any is_rule_word words ≡ false = sym is ∙ no in rw test refl

@@ -65,3 +65,8 @@ split word front back row inside first last is =
     let test : nat_lt (position_or_len (λ b. b == 61) word) (length word) ≡ true = grind (arith, nat_tests) in
     let number : row_in (before_first (λ b. b == 61) word) ≡ row = ap row_in (sym first) ∙ sym is in
     rw (test, number, ← last) refl
+
+-- a test of mapped values
+pub any_mapped : {A B : Type 0} (f : A → B) (P : B → Bool) (xs : List A) → list_any P (map f xs) ≡ list_any (λ x. P (f x)) xs
+any_mapped f P [] = refl
+any_mapped f P (x ∷ more) = ap (λ (b : Bool). P (f x) || b) (any_mapped f P more)

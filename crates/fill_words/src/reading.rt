@@ -172,6 +172,13 @@ fn is_rule_word(word: &str) -> bool
 fn wants_rule(words: &[String]) -> bool
     ensures { result ≡ list_any is_rule_word (map string_bytes words.now) }
 {
+    has_rule_word(words)
+}
+
+/// Whether one of these words names a saved rule.
+fn has_rule_word(words: &[String]) -> bool
+    ensures { result ≡ list_any (λ word. is_rule_word (string_bytes word)) words.now }
+{
     words.iter().any(|word| is_rule_word(word.as_str()))
 }
 
@@ -183,8 +190,14 @@ pub fn read_words(alloc: Global, words: &[String]) -> Result<Order, Refusal>
     ensures proper { IfOk result IsProper }
 {
     if wants_rule(words) {
-        Ok(Order::Run(run_words(alloc, words)?))
+        match run_words(alloc, words) {
+            Ok(saved) => Ok(Order::Run(saved)),
+            Err(why) => Err(why),
+        }
     } else {
-        Ok(Order::Fill(sheet_words(alloc, words)?))
+        match sheet_words(alloc, words) {
+            Ok(asked) => Ok(Order::Fill(asked)),
+            Err(why) => Err(why),
+        }
     }
 }

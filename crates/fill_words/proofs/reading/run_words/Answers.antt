@@ -9,7 +9,7 @@ use Rattle.fill_words.proofs.reading.run_words.Goals as goal
 pub returns-in-Ok : goal.returns-in-Ok
 returns-in-Ok c =
     let words = map string_bytes c.args.words.now in
-    let app_is = c.in_ok-run_options.ensures in
+    let app_is = c.in_ok-options.ensures in
     let rows = rows_of (found_of c.in-Ok.matches) in
     let fine = ap (λ a. fault_of a words) (sym app_is) ∙ c.in-Ok.ensures.kinds (ap is_simple_and_free app_is ∙ run_is_simple_and_free) in
     let are = (c.in-Ok.ensures.matches (ap is_simple app_is ∙ run_is_simple)).0 ∙ ap (λ a. matches_of a words) app_is in
@@ -18,6 +18,6 @@ returns-in-Ok c =
 pub returns-in-Err : goal.returns-in-Err
 returns-in-Err c =
     let words = map string_bytes c.args.words.now in
-    let app_is = c.in_ok-run_options.ensures in
+    let app_is = c.in_ok-options.ensures in
     let kinds = subst (λ a. HasKind (fault_of a words) c.in-Err.error) app_is (c.in-Err.ensures.kinds (ap is_simple_and_free app_is ∙ run_is_simple_and_free)) in
     run_refusal_says words c.in-Err.error c.of.result kinds c.of.ensures.meaning c.of.ensures.memory

@@ -1,0 +1,60 @@
+//! Which example a given text clashes with that is not learned from. No contract says what is found.
+ghost use Rattle.std.specs.Prelude.{◌≡◌, ◌≤◌, length, true};
+
+use fill_filled::Refused;
+use fill_session::Session;
+use fill_sheet::Sheet;
+use fill_text::NoMemory;
+use std::alloc::Global;
+
+/// How many refused texts are told one by one.
+pub(crate) const MOST_REFUSALS: usize = 10;
+
+/// For each of the first refusals that count the row of an example that reads the same cells, and 0 where there is none.
+pub(crate) fn clashes_of(
+    alloc: Global,
+    session: &Session,
+    refused: &[Refused],
+) -> Result<Vec<u32>, NoMemory> {
+    let mut rows = Vec::new(alloc);
+    for cell in refused
+        .iter()
+        .filter(|cell| cell.counts())
+        .take(MOST_REFUSALS)
+    {
+        rows.push(clash_of(session, cell.row))?;
+    }
+    Ok(rows)
+}
+
+/// The row of the first example that reads the same cells as this row, and 0 where there is none.
+fn clash_of(session: &Session, row: u32) -> u32 {
+    for example in session.examples() {
+        if is_pair(session.sheet(), row, example.row)
+            && reads_same(session.sheet(), row, example.row)
+        {
+            return example.row;
+        }
+    }
+    0
+}
+
+/// Whether these are two rows of the sheet.
+fn is_pair(sheet: &Sheet, row: u32, other: u32) -> bool
+    ensures { result ≡ true → (1 ≤ row) × (row ≤ length sheet.now.rows) × (1 ≤ other) × (other ≤ length sheet.now.rows) }
+{
+    row >= 1 && row <= sheet.rows() && other >= 1 && other <= sheet.rows() && row != other
+}
+
+/// Whether two rows have the same cells to read.
+fn reads_same(sheet: &Sheet, row: u32, other: u32) -> bool
+    requires first { (1 ≤ row) × (row ≤ length sheet.now.rows) }
+    requires second { (1 ≤ other) × (other ≤ length sheet.now.rows) }
+{
+    for column in sheet.inputs() {
+        if !sheet.cell(row, *column).same(sheet.cell(other, *column)) {
+            return false;
+        }
+    }
+    true
+}
