@@ -266,8 +266,8 @@ run_taken_means words rows fine are = means run_of_rows (fault_of run_app words)
 
 pub asks_run : (words : List Text) (t : Bool) → t ≡ list_any is_rule_word words → t ≡ true → asked_in words ≡ run_meaning words
 unfolding asked_in
-asks_run words t is yes = let test : list_any is_rule_word words ≡ true = sym is ∙ yes in rw test refl
+asks_run words t is held = let test : list_any is_rule_word words ≡ true = sym is ∙ held in rw test refl
 
 pub asks_sheet : (words : List Text) (t : Bool) → t ≡ list_any is_rule_word words → t ≡ false → asked_in words ≡ sheet_meaning words
 unfolding asked_in
-asks_sheet words t is no = let test : list_any is_rule_word words ≡ false = sym is ∙ no in rw test refl
+asks_sheet words t is held = let test : list_any is_rule_word words ≡ false = sym is ∙ held in rw test refl
