@@ -1,7 +1,7 @@
 -- The fields of a record with another field in one column.
-use Rattle.std.proofs.Common.{◌≡◌, ◌≢◌, ℕ, zero, suc, ◌+◌, ◌-◌, ◌<◌, ◌≤◌, max, List, [], ◌∷◌, ◌++◌, length, length-append, take, map, get_or, set, replicate, Bor, Option, None, Some, refl, sym, ap, subst, ◌∙◌, arith}
+use Rattle.std.proofs.Common.{◌≡◌, ◌≢◌, ℕ, zero, suc, ◌-◌, ◌<◌, max, List, [], ◌∷◌, ◌++◌, length, length-append, get_or, replicate, refl, sym, ap, ◌∙◌, arith}
 use Rattle.std.specs.Prelude.{slice_get, unwrap_or}
-use Rattle.std.proofs.lemmas.List.{get_or-set_same, get_or-set_other, length-replicate, map_push, take_more}
+use Rattle.std.proofs.lemmas.List.{get_or-set_same, get_or-set_other, length-replicate}
 use Rattle.std.proofs.lemmas.Option.{slice_get-get_or}
 use Rattle.std.proofs.Math.ListN.{length-set}
 use Rattle.fill_columns.specs.Fields.{padded, with_field}
@@ -36,10 +36,3 @@ field_there column field fields i other = sym (get_or-set_other (padded column f
 -- the field at a place of a record
 pub field_in : (fields : List (List ℕ)) (i : ℕ) → i < length fields → unwrap_or (slice_get fields i) [] ≡ get_or fields i []
 field_in fields i lt = ap (λ o. unwrap_or o []) (slice_get-get_or fields i [] lt)
-
--- one field more is taken
-pub fields_more : (xs : List (List ℕ)) (done : List (Bor (List ℕ))) (i : ℕ) (r : Bor (List ℕ)) → i < length xs → map (λ (f : Bor (List ℕ)). f.now) done ≡ take i xs
-    → r.now ≡ get_or xs i [] → map (λ (f : Bor (List ℕ)). f.now) (done ++ r ∷ []) ≡ take (i + 1) xs
-fields_more xs done i r lt here next =
-    map_push (λ (f : Bor (List ℕ)). f.now) done r ∙ ap (λ (x : List (List ℕ)). x ++ r.now ∷ []) here
-    ∙ ap (λ (x : List ℕ). take i xs ++ x ∷ []) next ∙ sym (take_more xs i [] lt)

@@ -1,11 +1,11 @@
 -- From the parts of a pass to what a run has written.
-use Rattle.std.proofs.Common.{◌≡◌, ℕ, zero, suc, ◌+◌, ◌<◌, ◌≤◌, List, [], ◌∷◌, ◌++◌, length, take, map, Bool, true, false, ◌⊎◌, inl, inr, Option, None, Some, Result, Ok, Err, refl, sym, ap, subst, ◌∙◌, arith, append_assoc, append-nil, add-one}
-use Rattle.std.specs.Prelude.{slice_get, if◌then◌else◌, option_map}
+use Rattle.std.proofs.Common.{◌≡◌, ℕ, ◌+◌, ◌≤◌, List, [], ◌∷◌, ◌++◌, length, take, Bool, true, false, inl, inr, Option, None, Some, Ok, refl, sym, ap, subst, ◌∙◌, arith, append_assoc, add-one}
+use Rattle.std.specs.Prelude.{slice_get, option_map}
 use Rattle.std.specs.List.{AllZip, flat_map}
 use Rattle.std.proofs.Math.Seq.{take-length}
 use Rattle.std.specs.Io.KnownBytes.{Appends, IsAtEnd, Keeps, prepend_known}
 use Rattle.std.proofs.KnownBytes.{Appends-trans, Appends-nil}
-use Rattle.fill_edge.specs.Outside.{AppendsPart, Rose}
+use Rattle.fill_edge.specs.Outside.{Rose}
 use Rattle.fill_records.specs.Records.{records_of}
 use Rattle.fill_records.specs.Texts.{bad_column}
 use Rattle.fill_sheet.specs.Report.{record_text}
@@ -13,7 +13,7 @@ use Rattle.fill_sheet.specs.Sheet.{headers}
 use Rattle.std.specs.Option.{is_some}
 use Rattle.fill_stream.specs.Records.{Rows}
 use Rattle.fill_stream.specs.Filters.{Filtered, Held, joined}
-use Rattle.fill_stream.specs.Fronts.{IsMarked, is_marked}
+use Rattle.fill_stream.specs.Fronts.{IsMarked}
 use Rattle.fill_stream.specs.declared.filter.Ending.{Ending}
 use Rattle.fill_stream.specs.declared.filter.Ending.TheVariants as ending
 use Rattle.fill_stream.proofs.Filterings.{held_part, rose_later}
@@ -22,7 +22,7 @@ use Rattle.fill_rule.specs.declared.rule.Names.{Names}
 use Rattle.fill_filter.specs.Filled.{AreMade, IsFilled, MakesText, named_head}
 use Rattle.fill_filter.specs.Passing.{Begins, BeginsBy, EndsPass, FailsFirst, Finishes, PassWrites, after, mark_text, status_after}
 use Rattle.fill_filter.specs.Places.{PlacesData, places_in, placed}
-use Rattle.fill_filter.specs.Run.{EndWrites, EndsSink, EndsSource, IsBad, IsTextOf, RunWrites, Writes, WritesPart, WritesSome, code_of, mark_of}
+use Rattle.fill_filter.specs.Run.{EndWrites, EndsSink, EndsSource, IsTextOf, RunWrites, Writes, WritesPart, WritesSome, code_of, mark_of}
 use Rattle.fill_filter.specs.declared.pass.How.{How}
 use Rattle.fill_filter.specs.declared.pass.How.TheVariants as how
 use Rattle.fill_filter.specs.declared.status.Status.{Status}

@@ -1,5 +1,5 @@
 -- Where the columns of a rule stand in a stream.
-use Rattle.std.specs.Prelude.{◌≡◌, ℕ, ◌+◌, List, [], ◌∷◌, length, Option, None, Some, Result, Ok, Err}
+use Rattle.std.specs.Prelude.{ℕ, ◌+◌, List, [], ◌∷◌, length, Option, None, Some, Result, Ok, Err}
 use Rattle.fill_columns.specs.Columns.{named}
 use Rattle.fill_rule.specs.Rule.{RuleData}
 use Rattle.fill_rule.specs.declared.rule.Names.{Names}

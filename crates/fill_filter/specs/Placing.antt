@@ -1,5 +1,5 @@
 -- The code's places, and why columns have none.
-use Rattle.std.specs.Prelude.{◌≡◌, ℕ, ◌<◌, length, All, ⊤, Result, Ok, Err}
+use Rattle.std.specs.Prelude.{◌≡◌, ℕ, ◌<◌, length, All, ⊤, Result, Err}
 use Rattle.fill_filter.specs.Places.{Misplaced, Missing, Ambiguous, PlacesData}
 use Rattle.fill_filter.specs.declared.places.Places.{Places}
 use Rattle.fill_filter.specs.declared.places.Unplaced.{Unplaced}

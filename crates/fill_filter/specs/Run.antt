@@ -1,5 +1,5 @@
 -- What a run of a rule over a stream writes.
-use Rattle.std.specs.Prelude.{◌≡◌, ℕ, ◌+◌, ◌<◌, ◌≤◌, List, [], ◌∷◌, ◌++◌, length, take, slice_get, if◌then◌else◌, ⊤, ◌⊎◌, Option, None, Some, Ok, Err}
+use Rattle.std.specs.Prelude.{◌≡◌, ℕ, ◌≤◌, List, [], ◌∷◌, ◌++◌, length, take, slice_get, if◌then◌else◌, ⊤, ◌⊎◌, Option, None, Some, Ok, Err}
 use Rattle.std.specs.List.{flat_map}
 use Rattle.std.specs.Io.KnownBytes.{Appends, IsAtEnd}
 use Rattle.fill_edge.specs.Outside.{AppendsPart, Rose}
@@ -9,7 +9,7 @@ use Rattle.fill_sheet.specs.Report.{record_text}
 use Rattle.fill_stream.specs.Fronts.{is_marked}
 use Rattle.fill_rule.specs.Rule.{RuleData}
 use Rattle.fill_filter.specs.Filled.{AreMade}
-use Rattle.fill_filter.specs.Places.{Misplaced, Missing, Ambiguous, PlacesData, places_in}
+use Rattle.fill_filter.specs.Places.{Missing, Ambiguous, PlacesData, places_in}
 use Rattle.fill_filter.specs.declared.status.Status.{Status}
 use Rattle.fill_filter.specs.declared.status.Status.TheVariants as status
 

@@ -11,6 +11,7 @@ mod progress;
 mod rows;
 mod run;
 mod status;
+mod text;
 
 pub use command::{Ran, run_rule};
 pub use file::{RuleFile, run_rule_file};

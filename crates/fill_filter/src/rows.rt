@@ -1,6 +1,5 @@
 //! What becomes of a record.
-ghost use Rattle.std.specs.Prelude.{◌≡◌, ◌<◌, ◌++◌, [], IfErr, IfOk, List, OnErr, OnOk, Some, get_or, length, map, unwrap_or, ℕ};
-ghost use Rattle.std.specs.Borrow.{Bor};
+ghost use Rattle.std.specs.Prelude.{◌≡◌, ◌<◌, ◌++◌, [], IfErr, IfOk, OnErr, OnOk, Some, get_or, length, unwrap_or};
 ghost use Rattle.csv.specs.Records.{fields_of};
 ghost use Rattle.fill_records.specs.Records.{field_of};
 ghost use Rattle.fill_records.specs.Texts.{IsText, bad_column};
@@ -14,7 +13,8 @@ ghost use Rattle.fill_filter.specs.Placed.{IsPlaced, Makes};
 
 use crate::fields::{bad_column, field, field_at, texts};
 use crate::places::Places;
-use csv::{ByteRecord, WriterBuilder};
+use crate::text::row_bytes;
+use csv::ByteRecord;
 use fill_cells::switch_value;
 use fill_rule::Rule;
 use fill_stream::{Cell, Filter, Unmade};
@@ -129,51 +129,22 @@ pub(crate) fn put_row(
     ensures ok { OnOk result (to.new.items ≡ to.old.items ++ record_text (with_field column field.now (fields_of row.now))) }
     ensures err { OnErr result (to.new.items ≡ to.old.items) }
 {
-    let fields = with_field(alloc, row, column, field)?;
-    let text = record_bytes(alloc, &fields)?;
+    let text = row_bytes(alloc, row, column, field)?;
     to.extend_from_slice(&text)?;
     Ok(())
 }
 
-/// The fields of a record with this one in a column.
-fn with_field<'a>(
-    alloc: Global,
+/// The field at a place of a record with this one in a column.
+pub(crate) fn other_field<'a>(
     row: &'a ByteRecord,
     column: usize,
     field: &'a [u8],
-) -> Result<Vec<&'a [u8]>, NoMemory>
-    requires { 0 < column }
-    ensures { IfOk result (λ fields. map (λ (f : Bor (List ℕ)). f.now) fields.items ≡ with_field column field.now (fields_of row.now)) }
-{
-    let width = row.len().max(column);
-    let mut fields: Vec<&[u8]> = Vec::with_capacity(alloc, width)?;
-    for i in 0..width {
-        fields.push(other_field(row, column, field, i))?;
-    }
-    Ok(fields)
-}
-
-/// The field at a place of a record with this one in a column.
-fn other_field<'a>(row: &'a ByteRecord, column: usize, field: &'a [u8], i: usize) -> &'a [u8]
+    i: usize,
+) -> &'a [u8]
     requires column { 0 < column }
     requires place { i < length (with_field column field.now (fields_of row.now)) }
     ensures { result.now ≡ get_or (with_field column field.now (fields_of row.now)) i [] }
 {
     let here = column - 1;
     if i == here { field } else { field_at(row, i) }
-}
-
-/// The bytes of a record.
-#[tactic(auto, unfolding(fill_sheet::specs::Report::record_text))]
-fn record_bytes(alloc: Global, fields: &[&[u8]]) -> Result<Vec<u8>, NoMemory>
-    ensures { IfOk result (λ text. text.items ≡ record_text (map (λ f. f.now) fields.now)) }
-{
-    let mut writer = WriterBuilder::new().from_writer(Vec::new(alloc));
-    if writer.write_fields(fields).is_err() {
-        return Err(NoMemory);
-    }
-    match writer.into_inner() {
-        Ok(text) => Ok(text),
-        Err(_) => Err(NoMemory),
-    }
 }

@@ -1,4 +1,4 @@
-use Rattle.std.proofs.Common.{◌≡◌, ◌<◌, All, drop, length, take}
+use Rattle.std.proofs.Common.{◌≡◌, ◌<◌, All, drop, length}
 use Rattle.csv.specs.Records.{fields_of}
 use Rattle.fill_filter.specs.Places.{sources_in}
 use Rattle.fill_filter.proofs.Names.{after_places}
