@@ -1,4 +1,5 @@
 pub mod Endings
+pub mod Nears
 pub mod Pages
 pub mod Rows
 pub mod Steps

@@ -33,7 +33,7 @@ pub told_ends : (asked : AskedData) (files : Files) (before now : Counts) (old n
     → Fills asked files old new told → EndsTold asked told r held kept Said → EndsFilled asked files r before now old new held kept Said
 told_ends asked files before now old new held kept Said r told w ends = elim ends.statuses [
   | inl few ↦ elim (few_cases r few) [
-    | inl zero ↦ let d = ends.done zero in done_ends asked files before now old new held kept Said r zero
+    | inl naught ↦ let d = ends.done naught in done_ends asked files before now old new held kept Said r naught
         (w.0, w.1, told.refused, w.2, w.3, w.4, w.5, w.7, told.text, w.8, d.1, left_is asked told w.2 false w.6 d.0)
     | inr one ↦ let d = ends.refusing one in refusing_ends asked files before now old new held kept Said r one
         (w.0, w.1, told.refused, w.2, w.3, w.4, w.5, w.7, told.text, w.8, d.1, left_is asked told w.2 true w.6 d.0)

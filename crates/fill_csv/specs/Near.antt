@@ -1,5 +1,5 @@
 -- The column whose name is most like a word.
-use Rattle.std.specs.Prelude.{ℕ, ◌/◌, ◌&&◌, List, [], ◌∷◌, length, nat_eq, nat_le, nat_lt, Bool, if◌then◌else◌, Option, None, Some}
+use Rattle.std.specs.Prelude.{ℕ, ◌/◌, ◌&&◌, List, [], ◌∷◌, length, nat_eq, nat_le, nat_lt, Bool, if◌then◌else◌, Option, None, Some, option_and_then}
 use Rattle.std.specs.Str.{chars, is_utf8}
 use Rattle.strsim.specs.Edits.{levenshtein_row}
 
@@ -7,18 +7,29 @@ use Rattle.strsim.specs.Edits.{levenshtein_row}
 abbrev pub edits : List ℕ → List ℕ → ℕ
 edits word name = levenshtein_row nat_eq (chars word) (chars name) (length (chars name))
 
--- a name of at most 100 bytes that is like the word: at most half as many edits as the word has characters
-abbrev pub is_like : List ℕ → List ℕ → Bool
-is_like word name = is_utf8 name && (nat_le (length name) 100 && nat_le (edits word name) (length (chars word) / 2))
+-- a name of at most 100 bytes with at most half as many edits as the word has bytes
+abbrev pub is_close : List ℕ → List ℕ → Bool
+is_close word name = nat_le (length name) 100 && nat_le (edits word name) (length word / 2)
 
--- the nearer one of a name that was found and another one, if that is like the word
-abbrev pub nearer : List ℕ → Option (List ℕ) → List ℕ → Option (List ℕ)
-nearer word None name = if is_like word name then Some name else None
-nearer word (Some best) name = if is_like word name && nat_lt (edits word name) (edits word best) then Some name else Some best
+abbrev pub if_close : List ℕ → List ℕ → Option (List ℕ)
+if_close word name = if is_close word name then Some name else None
+
+abbrev pub as_text : List ℕ → Option (List ℕ)
+as_text name = if is_utf8 name then Some name else None
+
+-- a name that is text and like the word
+abbrev pub like : List ℕ → List ℕ → Option (List ℕ)
+like word name = option_and_then (if_close word) (as_text name)
+
+-- the nearer one of two names, the first where none is
+abbrev pub better : List ℕ → Option (List ℕ) → Option (List ℕ) → Option (List ℕ)
+better word best None = best
+better word None (Some name) = Some name
+better word (Some best) (Some name) = if nat_lt (edits word name) (edits word best) then Some name else Some best
 
 abbrev pub near_from : List ℕ → Option (List ℕ) → List (List ℕ) → Option (List ℕ)
 near_from word best [] = best
-near_from word best (name ∷ more) = near_from word (nearer word best name) more
+near_from word best (name ∷ more) = near_from word (better word best (like word name)) more
 
 -- of the names that are like a word of at most 100 bytes the nearest one, the first of several
 abbrev pub near : List ℕ → List (List ℕ) → Option (List ℕ)

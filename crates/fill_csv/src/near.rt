@@ -1,7 +1,6 @@
 //! The column whose name is most like a word.
-ghost use Rattle.std.specs.Prelude.{◌≡◌, if◌then◌else◌, None, Some, IfOk, option_map};
-ghost use Rattle.std.specs.Str.{chars, is_utf8};
-ghost use Rattle.fill_csv.specs.Near.{edits, is_like, near, nearer};
+ghost use Rattle.std.specs.Prelude.{◌≡◌, ◌<◌, [], IfOk, get_or, length, option_map};
+ghost use Rattle.fill_csv.specs.Near.{as_text, better, if_close, is_close, like, near};
 
 use fill_records::Record;
 use std::alloc::{AllocError, Global};
@@ -12,6 +11,7 @@ use strsim::levenshtein;
 const LONGEST: usize = 100;
 
 /// Of the names in a header that are like a word the nearest one, the first of several.
+#[tactic(auto, using(crate::proofs::Nears::near_more, crate::proofs::Nears::near_all))]
 pub(crate) fn near<'a>(
     alloc: Global,
     word: &str,
@@ -24,53 +24,77 @@ pub(crate) fn near<'a>(
         return Ok(best);
     }
     for i in 0..header.len() {
-        best = nearer(alloc, word, best, header.get(i).unwrap_or(b""))?;
+        let name = like(alloc, word, name_at(header, i))?;
+        best = better(alloc, word, best, name)?;
     }
     Ok(best)
 }
 
-/// The nearer one of a name that was found and another one, if that is like the word.
-fn nearer<'a>(
+/// The name at a place of a header.
+fn name_at(header: &Record, i: usize) -> &[u8]
+    requires { i < length header.now }
+    ensures { result.now ≡ get_or header.now i [] }
+{
+    header.get(i).unwrap_or(b"")
+}
+
+/// The nearer one of two names, the first where none is.
+fn better<'a>(
     alloc: Global,
     word: &str,
     best: Option<&'a str>,
-    name: &'a [u8],
+    name: Option<&'a str>,
 ) -> Result<Option<&'a str>, AllocError>
-    ensures { IfOk result (λ found. option_map (λ n. n.now) found ≡ nearer word.now (option_map (λ n. n.now) best.entry) name.now) }
+    ensures { IfOk result (λ found. option_map (λ n. n.now) found ≡ better word.now (option_map (λ n. n.now) best.entry) (option_map (λ n. n.now) name.entry)) }
 {
-    let Some(name) = like(alloc, word, name)? else {
+    let Some(other) = name else {
         return Ok(best);
     };
     let Some(found) = best else {
-        return Ok(Some(name));
+        return Ok(Some(other));
     };
-    if levenshtein(alloc, word, name)? < levenshtein(alloc, word, found)? {
-        Ok(Some(name))
+    if levenshtein(alloc, word, other)? < levenshtein(alloc, word, found)? {
+        Ok(Some(other))
     } else {
-        Ok(best)
+        Ok(Some(found))
     }
 }
 
-/// A name that is like the word: of at most 100 bytes, with at most half as many edits as the word has characters.
+/// A name that is text and like the word.
 fn like<'a>(alloc: Global, word: &str, name: &'a [u8]) -> Result<Option<&'a str>, AllocError>
-    ensures { IfOk result (λ found. option_map (λ n. n.now) found ≡ (if is_like word.now name.now then Some name.now else None)) }
+    ensures { IfOk result (λ found. option_map (λ n. n.now) found ≡ like word.now name.now) }
 {
-    let Some(name) = as_text(name) else {
-        return Ok(None);
-    };
-    if name.len() > LONGEST {
-        return Ok(None);
+    match as_text(name) {
+        Some(name) => if_close(alloc, word, name),
+        None => Ok(None),
     }
-    if levenshtein(alloc, word, name)? <= word.chars().count() / 2 {
+}
+
+/// A name that is close to the word.
+fn if_close<'a>(alloc: Global, word: &str, name: &'a str) -> Result<Option<&'a str>, AllocError>
+    ensures { IfOk result (λ found. option_map (λ n. n.now) found ≡ if_close word.now name.now) }
+{
+    if is_close(alloc, word, name)? {
         Ok(Some(name))
     } else {
         Ok(None)
     }
 }
 
+/// Whether a name has at most 100 bytes, and at most half as many edits as the word has bytes.
+fn is_close(alloc: Global, word: &str, name: &str) -> Result<bool, AllocError>
+    ensures { IfOk result (λ is. is ≡ is_close word.now name.now) }
+{
+    if name.len() > LONGEST {
+        return Ok(false);
+    }
+    let edits = levenshtein(alloc, word, name)?;
+    Ok(edits <= word.len() / 2)
+}
+
 /// Bytes that are UTF-8, as text.
 fn as_text(bytes: &[u8]) -> Option<&str>
-    ensures { option_map (λ text. text.now) result ≡ (if is_utf8 bytes.now then Some bytes.now else None) }
+    ensures { option_map (λ text. text.now) result ≡ as_text bytes.now }
 {
     match str::from_utf8(bytes) {
         Ok(text) => Some(text),

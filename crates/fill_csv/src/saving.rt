@@ -1,5 +1,5 @@
 //! The rule that was learned, as the text that `--rule` reads.
-ghost use Rattle.std.specs.Prelude.{◌≡◌, ℕ, List as Listed, All, IfOk, OnErr, OnOk, Some, map, option_map, string_bytes};
+ghost use Rattle.std.specs.Prelude.{◌≡◌, ℕ, List as Listed, All, IfOk, OnErr, OnOk, Some, map, option_copied, option_map, string_bytes};
 ghost use Rattle.fill_edge.specs.Outside.{Rose};
 ghost use Rattle.fill_records.specs.Records.{field_of};
 ghost use Rattle.fill_sheet.specs.Columns.{IsColumn, rising};
@@ -53,15 +53,34 @@ fn columns_of(alloc: Global, asked: &Asked, read: &SheetRead) -> Result<RuleColu
 {
     let inputs = rising(alloc, &read.choice.from)?;
     let output = read.choice.to;
-    let names = match header_of(asked.header, read.records.as_slice()) {
-        Some(header) => Some(rule_names(alloc, asked, &inputs, output, header)?),
-        None => None,
-    };
+    let header = header_of(asked.header, read.records.as_slice());
+    let names = names_in(alloc, asked, header, &inputs, output)?;
     Ok(RuleColumns {
         names,
         inputs,
         output,
     })
+}
+
+/// The names of a rule's columns, where there is a header.
+fn names_in(
+    alloc: Global,
+    asked: &Asked,
+    header: Option<&Record>,
+    inputs: &[u32],
+    output: u32,
+) -> Result<Option<Names>, NoMemory>
+    requires inputs { All IsColumn inputs.now }
+    requires output { IsColumn output }
+    ensures { IfOk result (λ names. names ≡ option_map (λ fields. record { inputs = map (λ column. field_of column fields) inputs.now; output = output_name (data_of asked.now).to output fields }) (option_copied header.entry)) }
+{
+    match header {
+        Some(header) => match rule_names(alloc, asked, inputs, output, header) {
+            Ok(names) => Ok(Some(names)),
+            Err(NoMemory) => Err(NoMemory),
+        },
+        None => Ok(None),
+    }
 }
 
 /// The names of a rule's columns in a header.
@@ -84,7 +103,9 @@ fn rule_names(
 
 /// Columns in rising order.
 fn rising(alloc: Global, columns: &[u32]) -> Result<Vec<u32>, NoMemory>
-    ensures { IfOk result (λ v. v.items ≡ rising columns.now) }
+    requires { All IsColumn columns.now }
+    ensures value { IfOk result (λ v. v.items ≡ rising columns.now) }
+    ensures columns { IfOk result (λ v. All IsColumn v.items) }
 {
     let mut rising = Vec::from_slice(alloc, columns)?;
     rising.sort()?;

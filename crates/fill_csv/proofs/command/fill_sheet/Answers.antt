@@ -1,7 +1,9 @@
+use Rattle.std.proofs.Common.{◌≡◌}
 use Rattle.fill_words.specs.Words.{data_of}
 use Rattle.fill_csv.proofs.Tolds.{told_ends}
 use Rattle.fill_csv.proofs.command.fill_sheet.Goals as goal
 
 pub returns-in-Ok-clause-ends : goal.returns-in-Ok-clause-ends
 returns-in-Ok-clause-ends g c =
-    told_ends (data_of c.args.asked.now) (g.C.Cabinet.files c.args.folder.now.cabinet) _ _ _ _ _ _ _ c.end.result c.in-Ok.told c.in-Ok.ensures.filled c.end.ensures.ends
+    let same : c.fill-filled.new.err ≡ c.args.err.now = c.in-Ok.ensures.silent tt in
+    told_ends (data_of c.args.asked.now) (g.C.Cabinet.files c.args.folder.now.cabinet) _ _ _ _ _ _ _ c.end.result c.in-Ok.told c.in-Ok.ensures.filled (rw same at c.end.ensures.ends)
