@@ -73,8 +73,8 @@ def wanted(request, programs):
         for name, text in files.items():
             pathlib.Path(folder, name).write_bytes(text)
         ran = subprocess.run([programs[program], *words], cwd=folder, input=files.get("-", b""), capture_output=True, timeout=300)
-        saved = pathlib.Path(folder, SAVED)
-        return ran.returncode, ran.stdout, ran.stderr, saved.read_bytes() if saved.exists() and SAVED not in files else b""
+        saved = [it.read_bytes() for it in pathlib.Path(folder).iterdir() if it.name not in files]
+        return ran.returncode, ran.stdout, ran.stderr, b"".join(saved)
 
 
 def is_told(request, answer):
