@@ -1,7 +1,8 @@
 #!/usr/bin/env python3
 """Compares the engine's answers with those of the programs, byte for byte: compare.py FLASHFILL FILLCSV NUMBER [SEED]
 
-All sessions of examples/, and so many random requests, some of them damaged, from four threads at once.
+All sessions of examples/, and so many random requests, some of them damaged, from four threads at once. Each rule that the
+engine saves is run by both over another sheet.
 """
 import concurrent.futures
 import ctypes
@@ -15,7 +16,8 @@ HERE = pathlib.Path(__file__).resolve().parent
 sys.path.insert(0, str(HERE / "python"))
 import flashfill  # noqa: E402
 
-EXAMPLES = {it.name: it.read_bytes() for it in sorted((HERE.parent / "examples").glob("*.csv"))}
+EXAMPLES = {it.name: it.read_bytes() for end in ("csv", "rule") for it in sorted((HERE.parent / "examples").glob(f"*.{end}"))}
+SAVED = "saved.rule"
 SESSIONS = [it for it in EXAMPLES if it.endswith("-session.csv")]
 COLUMNS = ["Label", "Name", "Mail", "City", "1", "4", "5", "Month", "2", "", "no", "Name,City", "1,2,3", "Name,Name"]
 
@@ -64,19 +66,20 @@ def wanted(request, programs):
     try:
         program, words, files = call_of(request)
     except ValueError:
-        return 7, b"", b""
+        return 7, b"", b"", b""
     if any("\0" in it for it in [*words, *files]) or any("/" in it or it in ("", ".", "..") for it in files):
         return None
     with tempfile.TemporaryDirectory() as folder:
         for name, text in files.items():
             pathlib.Path(folder, name).write_bytes(text)
-        ran = subprocess.run([programs[program], *words], cwd=folder, stdin=subprocess.DEVNULL, capture_output=True, timeout=300)
-        return ran.returncode, ran.stdout, ran.stderr
+        ran = subprocess.run([programs[program], *words], cwd=folder, input=files.get("-", b""), capture_output=True, timeout=300)
+        saved = [it.read_bytes() for it in pathlib.Path(folder).iterdir() if it.name not in files]
+        return ran.returncode, ran.stdout, ran.stderr, b"".join(saved)
 
 
 def is_told(request, answer):
     """Whether a room that is too small is told the size, and stays as it was, and one of that size is filled."""
-    size = 17 + len(answer.out) + len(answer.err)
+    size = 25 + len(answer.out) + len(answer.err) + len(answer.saved)
     call = flashfill._library.fill_engine
     for given in (0, 1, size - 1, size):
         room = ctypes.create_string_buffer(b"\xaa" * (size + 1), size + 1)
@@ -116,10 +119,25 @@ def filled(random):
     words += ["--from", random.choice(COLUMNS)] if random.random() < 0.5 else []
     words += [it for it in ("--state", "--no-header", "--only=sure", "--profile=2", "--explain", "--help", "--what") if random.random() < 0.2]
     words += random.choice([[]] * 2 + [["--table=months=months.csv", "--key=months:1"], ["--table=m=gone.csv"], ["--key=m:1,1"], ["--key=m:2"]])
+    words += [f"--save={SAVED}"] if random.random() < 0.4 else []
     files = dict(EXAMPLES)
     if random.random() < 0.5:
         files["people.csv"] = damaged(random, files["people.csv"], random.randrange(1, 5))
+    if random.random() < 0.2:
+        words[0], files["-"] = "-", files["people.csv"]
     return "fillcsv", words, files
+
+
+def ruled(random):
+    """A run of a saved rule; the rule and the sheet may be damaged, and standard input may be left out."""
+    rule = random.choice([EXAMPLES["label.rule"], damaged(random, EXAMPLES["label.rule"], random.randrange(1, 4))])
+    files = {"a.rule": rule, "-": random.choice([EXAMPLES["more-people.csv"], EXAMPLES["people.csv"], EXAMPLES["sales.csv"], b""])}
+    if random.random() < 0.5 and files["-"]:
+        files["-"] = damaged(random, files["-"], random.randrange(1, 5))
+    if random.random() < 0.1:
+        del files["-"]
+    words = random.choice([["--rule", "a.rule"]] * 5 + [["--rule", "-"], ["--rule", "gone.rule"], ["--rule"]])
+    return "fillcsv", words + random.choice([[], [], ["--quiet"], ["--state"]]), files
 
 
 def other(random):
@@ -137,7 +155,7 @@ def other(random):
 
 
 def random_request(random):
-    kind = random.choice([session, session, filled, filled, other])
+    kind = random.choice([session, session, filled, filled, ruled, other])
     request = flashfill.request_of(*kind(random))
     if random.random() < 0.2:  # damage to its form
         request = request[: random.randrange(len(request))] if random.random() < 0.5 else damaged(random, request[:80], 1) + request[80:]
@@ -147,11 +165,16 @@ def random_request(random):
 def main(programs, number, seed):
     made = random.Random(seed)
     requests = [flashfill.request_of("flashfill", ["replay", it], EXAMPLES) for it in SESSIONS]
+    requests += [flashfill.request_of("fillcsv", ["people.csv", "--to=Label", f"--save={SAVED}"], EXAMPLES)]
     requests += [random_request(made) for _ in range(number)]
 
     def differs(request):
         want, got = wanted(request, programs), flashfill.answer_of(request)
-        return want is not None and want != got or not is_told(request, got), want
+        if want is not None and want != got or not is_told(request, got):
+            return True, want
+        if got.saved:
+            return differs(flashfill.request_of("fillcsv", ["--rule", "a.rule"], {"a.rule": got.saved, "-": EXAMPLES["more-people.csv"]}))
+        return False, want
 
     with concurrent.futures.ThreadPoolExecutor(4) as pool:
         answers = list(pool.map(differs, requests))

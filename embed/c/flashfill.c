@@ -24,6 +24,13 @@ static size_t number_at(const uint8_t *at) {
     return (size_t)number;
 }
 
+/* Reads a text of an answer, and returns where the next one begins. */
+static const uint8_t *piece_at(const uint8_t *at, const char **text, size_t *size) {
+    *text = (const char *)at + 8;
+    *size = number_at(at);
+    return at + 8 + *size;
+}
+
 /* The bytes of a request, which the caller frees; null for want of memory. */
 static uint8_t *request_of(const char *program, const char *const *words, size_t word_count,
                            const struct flashfill_file *files, size_t file_count, size_t *size) {
@@ -67,19 +74,17 @@ int flashfill_run(const char *program, const char *const *words, size_t word_cou
     uint8_t *request = request_of(program, words, word_count, files, file_count, &size);
     uint8_t *bytes = request ? answer_of(request, size) : NULL;
     free(request);
-    *answer = (struct flashfill_answer){.status = 6, .out = "", .err = "", .block = bytes};
+    *answer = (struct flashfill_answer){.status = 6, .out = "", .err = "", .saved = "", .block = bytes};
     if (bytes) {
-        const uint8_t *out = bytes + 9, *err = out + number_at(bytes + 1) + 8;
         answer->status = bytes[0];
-        answer->out = (const char *)out;
-        answer->out_size = number_at(bytes + 1);
-        answer->err = (const char *)err;
-        answer->err_size = number_at(err - 8);
+        const uint8_t *rest = piece_at(bytes + 1, &answer->out, &answer->out_size);
+        rest = piece_at(rest, &answer->err, &answer->err_size);
+        piece_at(rest, &answer->saved, &answer->saved_size);
     }
     return answer->status;
 }
 
 void flashfill_free(struct flashfill_answer *answer) {
     free(answer->block);
-    *answer = (struct flashfill_answer){.out = "", .err = ""};
+    *answer = (struct flashfill_answer){.out = "", .err = "", .saved = ""};
 }

@@ -20,3 +20,7 @@ try:
     flashfill.report("sheet,people.csv\ninputs,1\nbegin\n", {})
 except flashfill.MissingFile as error:
     print(error)
+
+rule = flashfill.learn(rows, to="Label", examples={0: "Byron (London)", 2: "Meitner (Graz)"})
+for row in flashfill.run_rule(rule, [{"City": "Paris", "Name": "Marie Curie", "Id": 7}]):
+    print(row)

@@ -56,7 +56,8 @@ export class Engine {
 
     /**
      * Runs `fillcsv` or `flashfill` with the words after its name over files, bytes by name.
-     * Answers its status and the bytes of its output and its errors. Throws where the engine stops in the middle.
+     * Answers its status and the bytes of its output, of its errors and of the file that it saved. The file `-` is standard input.
+     * Throws where the engine stops in the middle.
      */
     run(program, words, files) {
         const request = requestOf(program, words, files);
@@ -82,12 +83,19 @@ export class Engine {
         reset();
         const from = room(BigInt(request.length));
         const to = room(BigInt(size));
-        if (from === 0n || to === 0n) return { needed: 0, status: 6, out: new Uint8Array(), err: new Uint8Array() };
+        const none = new Uint8Array();
+        if (from === 0n || to === 0n) return { needed: 0, status: 6, out: none, err: none, saved: none };
         new Uint8Array(memory.buffer).set(request, Number(from));
         const needed = Number(call(from, BigInt(request.length), to, BigInt(size)));
         if (needed > size) return { needed };
         const bytes = new Uint8Array(memory.buffer, Number(to), needed).slice();
-        const outSize = new DataView(bytes.buffer).getUint32(1, true);
-        return { needed, status: bytes[0], out: bytes.subarray(9, 9 + outSize), err: bytes.subarray(17 + outSize) };
+        const view = new DataView(bytes.buffer);
+        let at = 1;
+        const piece = () => {
+            const from = at + 8;
+            at = from + view.getUint32(at, true);
+            return bytes.subarray(from, at);
+        };
+        return { needed, status: bytes[0], out: piece(), err: piece(), saved: piece() };
     }
 }

@@ -10,7 +10,7 @@ import { Filling } from "./filling.js";
 import { Grid } from "./grid.js";
 import { History, Sheet, firstChoices } from "./model.js";
 import { showCell, showNothing, showOther, showResult, showRule } from "./panel.js";
-import { ruleFiles } from "./rule.js";
+import { savedRule } from "./rule.js";
 import { TablesCard } from "./tables.js";
 import { fileWord, resultWords, shellLine } from "./words.js";
 
@@ -284,9 +284,10 @@ class Page {
 
     async saveRule() {
         const { filled } = this;
-        const rule = await ruleFiles(this.filling, this.sheet, this.choices, filled);
+        const rule = await savedRule(this.filling, this.sheet, this.choices);
         if (filled !== this.filled) return;
-        showRule(rule, { copy: (text) => this.copy(text), save: ({ name, text }) => download(name, new TextEncoder().encode(text)) });
+        if (!rule.problem) download(rule.name, rule.bytes);
+        showRule(rule, { copy: (text) => this.copy(text) });
     }
 
     async download() {

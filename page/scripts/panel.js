@@ -81,20 +81,19 @@ export function showResult(line, choices, filled, calls) {
         ...(rule.length > 0 ? [element("h2", {}, "The rule"), element("ul", { class: "rule-lines" }, rule.map((it) => element("li", {}, it)))] : []),
         element("p", {}, "The proved program writes the same bytes from this line:"),
         element("pre", {}, code),
-        element("p", { class: "row-of-buttons" }, element("button", { type: "button", onclick: () => calls.copy(line) }, "Copy this line"), element("button", { type: "button", disabled: !isWhole || filled.counts[GIVEN] === 0, onclick: calls.saveRule }, "Save the rule…")),
+        element("p", { class: "row-of-buttons" }, element("button", { type: "button", onclick: () => calls.copy(line) }, "Copy this line"), element("button", { type: "button", disabled: !isWhole || filled.counts[GIVEN] === 0, onclick: calls.saveRule }, "Save the rule")),
     );
 }
 
-/** Offers the rule's files below the result; null as the rule where it cannot be saved. `calls` has `copy(text)` and `save(file)`. */
-export function showRule(rule, calls) {
+/** Shows below the result how the rule that was saved is run, or why none was. `calls` has `copy(text)`. */
+export function showRule({ problem, name, line }, calls) {
     byId("rule")?.remove();
-    const parts = rule === null
-        ? [element("p", {}, "The rule of this sheet cannot be saved yet: the program that saves rules knows none that fills every row alike.")]
+    const parts = problem
+        ? [element("p", {}, problem)]
         : [
-              element("p", { class: "row-of-buttons" }, rule.files.map((file) => element("button", { type: "button", onclick: () => calls.save(file) }, file.name))),
-              element("p", {}, "With both files, for another sheet with these columns:"),
-              element("pre", {}, element("code", { tabindex: 0, "aria-label": "The command for another sheet" }, rule.line)),
-              element("p", { class: "row-of-buttons" }, element("button", { type: "button", onclick: () => calls.copy(rule.line) }, "Copy this line")),
+              element("p", {}, `${name} fills other sheets with these columns, of any length:`),
+              element("pre", {}, element("code", { tabindex: 0, "aria-label": "The command for another sheet" }, line)),
+              element("p", { class: "row-of-buttons" }, element("button", { type: "button", onclick: () => calls.copy(line) }, "Copy this line")),
           ];
     byId("result").append(element("section", { id: "rule" }, parts));
 }

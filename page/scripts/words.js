@@ -38,6 +38,12 @@ export function resultWords(sheet, choices) {
     return words;
 }
 
+/** The words that save the rule under a name, and those that run it. */
+export function ruleWords(sheet, choices, name) {
+    const file = fileWord(name);
+    return { words: [...fillWords(sheet, choices), "--save", file], run: ["--rule", file] };
+}
+
 function fillWords(sheet, choices) {
     const { header, column, newName, sources, typed, cleared, tables, depth } = choices;
     const words = [fileWord(sheet.name)];

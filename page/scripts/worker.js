@@ -49,8 +49,8 @@ const kinds = {
 
     /** A program's answer as it is; `more` are files that this call alone sees. */
     run({ program, words, more }) {
-        const { status, out, err } = engine.run(program, words, withMore(more));
-        return { status, lines: decoder.decode(err), out };
+        const { status, out, err, saved } = engine.run(program, words, withMore(more));
+        return { status, lines: decoder.decode(err), out, saved };
     },
 };
 

@@ -332,7 +332,7 @@ def many_rows(trial):
 
 
 def saved_rule(trial):
-    """The rule can be saved as two files by which `flashfill apply` gives the same texts."""
+    """The saved rule is the file of `fillcsv --save`, its line gives the same texts, and what cannot be saved is told."""
     trial.start()
     path = EXAMPLES / "people.csv"
     trial.open_file(path)
@@ -342,21 +342,32 @@ def saved_rule(trial):
         old.unlink()
     trial.browser.run("[...document.querySelectorAll('#result button')].find((it) => it.textContent.startsWith('Save the rule')).click();")
     trial.browser.wait("document.querySelector('#rule code') !== null", "the rule is shown")
-    names = ["people-session.csv", "people-rule.csv"]
-    trial.browser.run("for (const it of document.querySelectorAll('#rule button')) if (it.textContent.endsWith('.csv')) it.click();")
     end = time.monotonic() + 20
-    while not all((trial.browser.downloads / it).exists() for it in names):
+    while not (trial.browser.downloads / "people.rule").exists():
         assert time.monotonic() < end, [it.name for it in trial.browser.downloads.iterdir()]
         time.sleep(0.05)
-    for name in names:
-        (trial.folder / name).write_bytes((trial.browser.downloads / name).read_bytes())
-    (trial.folder / "OTHER.csv").write_bytes(path.read_bytes())
+    rule = (trial.browser.downloads / "people.rule").read_bytes()
+    saved = trial.folder / "saved.rule"
+    words = shlex.split(trial.line())[1:]
+    subprocess.run([trial.programs["fillcsv"], *words, "--save", saved], cwd=path.parent, check=True, capture_output=True, timeout=60)
+    assert rule == saved.read_bytes(), (rule, saved.read_bytes())
+    (trial.folder / "people.rule").write_bytes(rule)
     words = shlex.split(trial.browser.run("return document.querySelector('#rule code').textContent;"))
-    ran = subprocess.run([trial.programs["flashfill"], *words[1:]], cwd=trial.folder, capture_output=True, text=True, timeout=60)
-    texts = [it[2] for it in csv.reader(io.StringIO(ran.stdout))]
+    assert words[0] == "./fillcsv" and words[3:] == ["<", "OTHER.csv", ">", "FILLED.csv"], words
+    with open(path, "rb") as other:
+        ran = subprocess.run([trial.programs["fillcsv"], *words[1:3]], cwd=trial.folder, stdin=other, capture_output=True, text=True, timeout=60)
+    texts = [it[3] for it in csv.reader(io.StringIO(ran.stdout))][1:]
     assert ran.returncode == 0 and texts == [text for _, (text, _) in sorted(trial.shown().items())], (texts, ran.stderr)
+
+    # a rule that looks up in a table cannot be saved yet
+    trial.open_file(EXAMPLES / "sales.csv")
+    trial.add_table(EXAMPLES / "months.csv", [["1"]])
+    trial.browser.run("[...document.querySelectorAll('#result button')].find((it) => it.textContent.startsWith('Save the rule')).click();")
+    trial.browser.wait("document.querySelector('#rule') !== null", "it is told that the rule is not saved")
+    said = trial.browser.run("return document.querySelector('#rule').textContent;")
+    assert "'--save <RULE>' cannot be used with" in said, said
     trial.is_clean()
-    return f"{len(texts)} rows alike"
+    return f"{len(texts)} rows alike; {said}"
 
 
 def pasted(trial):
