@@ -10,7 +10,7 @@ near_more word names all best now found i lt before is put =
     before ∙ (at_drop_more (near_from word best) names i [] lt ∙ ap (λ b. near_from word b (drop (i + 1) names)) (sym (put ∙ ap (better word best) is)))
 
 pub near_all : (word : List ℕ) (names : List (List ℕ)) (all best : Option (List ℕ)) (i : ℕ) → length names ≤ i → all ≡ near_from word best (drop i names) → all ≡ best
-near_all word names all best i past is = is ∙ ap (near_from word best) (drop_all names i past)
+near_all word names all best i past is = is ∙ ap (near_from word best) (drop_all i names past)
 
 -- a name that is no text is not like a word, and one that is text is as that is close
 pub like_text : (word bytes : List ℕ) (text : Option (Bor (List ℕ))) → option_map (λ t. t.now) text ≡ as_text bytes → (t : Bor (List ℕ)) → text ≡ Some t → like word bytes ≡ if_close word t.now

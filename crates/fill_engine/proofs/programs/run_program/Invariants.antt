@@ -2,6 +2,3 @@ use Rattle.fill_engine.proofs.programs.run_program.Given as goal
 
 abbrev pub ghosts-run_flashfill : goal.ghosts-run_flashfill
 ghosts-run_flashfill a = record { name = a.blank.name; parts = a.blank.parts }
-
-abbrev pub ghosts-run_fillcsv : goal.ghosts-run_fillcsv
-ghosts-run_fillcsv a = record { name = a.blank.name; parts = a.blank.parts }
