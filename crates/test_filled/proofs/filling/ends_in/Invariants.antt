@@ -1,4 +1,0 @@
-use Rattle.test_filled.proofs.filling.ends_in.Given as goal
-
-abbrev pub ghosts-status : goal.ghosts-status
-ghosts-status a = record { name = a.blank.name; parts = a.blank.parts }
