@@ -119,6 +119,10 @@ pub record EndsFilled (asked : AskedData) (files : Files) (status : ℕ) (before
   pub always_refused : Told files (λ held. (line : List ℕ) → (sheet_opens asked held).outcome ≡ Refused line → (status ≡ 5) ⊎ (status ≡ 6) ⊎ (status ≡ 3))
   pub always_ready : Told files (λ held. IsPassed (sheet_opens asked held).outcome → (status ≤ 1) ⊎ (status ≡ 6) ⊎ (status ≡ 3) ⊎ (status ≡ 4))
 
+-- memory ran out before anything was done
+abbrev pub OutBefore : ℕ → Option (List ℕ) → Option (List ℕ) → (List ℕ → Type 0) → Type 0
+OutBefore status old new Said = (status ≡ 6) × (new ≡ old) × Said memory_line
+
 -- how a run ends whose words are wrong
 pub record EndsWrong (status : ℕ) (Said : List ℕ → Type 0) : Type 0 where
   pub statuses : (status ≡ 2) ⊎ (status ≡ 6)

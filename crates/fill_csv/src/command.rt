@@ -3,7 +3,7 @@ ghost use Rattle.std.specs.Prelude.{◌≡◌, ◌⊎◌, ◌≤◌, [], All, ma
 ghost use Rattle.fill_edge.specs.Outside.{Rose};
 ghost use Rattle.fill_filter.specs.RuleFile.{RanFile};
 ghost use Rattle.fill_words.specs.Words.{AskedData, Asks, IsLookup, Runs, SavedData, Shows, Wrong, asked_in, data_of, lookup_data};
-ghost use Rattle.fill_csv.specs.Ends.{EndsFilled, EndsShown, EndsWrong};
+ghost use Rattle.fill_csv.specs.Ends.{EndsFilled, EndsShown, EndsWrong, OutBefore};
 ghost use Rattle.fill_csv.specs.Fills.{EndsTold};
 ghost use Rattle.fill_csv.specs.Said.{IsUnsaved, Says};
 
@@ -60,10 +60,10 @@ pub fn run<C: Cabinet, T: Store, S: Source + Drop, O: Sink, E: Sink>(
         (record { files = T.saved folder.old.store; faults = T.faults folder.old.store }) (record { files = T.saved folder.new.store; faults = T.faults folder.new.store })
         (Says (E.written err.old) (E.written err.new) (E.faults err.old) (E.faults err.new)) }
 
-    // Where they name a saved rule, it ends as the run of that rule does, with the input at some place.
-    ensures ran { (saved : SavedData) → asked_in (map string_bytes words.now) ≡ Runs saved → (after : S)
+    // Where they name a saved rule, it ends as the run of that rule does, with the input at some place, or memory runs out before.
+    ensures ran { (saved : SavedData) → asked_in (map string_bytes words.now) ≡ Runs saved → OutBefore result (O.written out.old) (O.written out.new) (Says (E.written err.old) (E.written err.new) (E.faults err.old) (E.faults err.new)) ⊎ ((after : S)
         × RanFile saved.rule (C.files folder.old.cabinet) (C.faults folder.old.cabinet) (C.faults folder.new.cabinet) result (S.left input) (S.left after) (S.faults input) (S.faults after)
-        (O.written out.old) (O.written out.new) (O.faults out.old) (O.faults out.new) (Says (E.written err.old) (E.written err.new) (E.faults err.old) (E.faults err.new)) }
+        (O.written out.old) (O.written out.new) (O.faults out.old) (O.faults out.new) (Says (E.written err.old) (E.written err.new) (E.faults err.old) (E.faults err.new))) }
     ensures stays { (saved : SavedData) → asked_in (map string_bytes words.now) ≡ Runs saved → folder.new.store ≡ folder.old.store }
 
     // Where they are wrong, nothing is read and nothing is written to `out`.

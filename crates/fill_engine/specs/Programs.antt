@@ -15,7 +15,7 @@ use Rattle.fill_command.specs.Answer.{IsOfSession, Says, usage_line}
 use Rattle.fill_command.specs.Applied.{EndsApplied}
 use Rattle.fill_command.specs.Keys.{EndsKeys}
 use Rattle.fill_command.specs.Sessions.{EndsSession}
-use Rattle.fill_csv.specs.Ends.{EndsFilled, EndsShown, EndsWrong}
+use Rattle.fill_csv.specs.Ends.{EndsFilled, EndsShown, EndsWrong, OutBefore}
 use Rattle.fill_csv.specs.Said.{Says as SaysFilled}
 use Rattle.fill_engine.specs.declared.request.Program.{Program}
 use Rattle.fill_engine.specs.declared.request.Program.TheVariants.{Flashfill, Fillcsv}
@@ -68,8 +68,8 @@ pub record EndsFillcsv (words : List (List ℕ)) (files : List (List ℕ × List
   pub filled : (asked : AskedData) → asked_in words ≡ Asks asked → (store : StoreAt) × Stores a.saved store
       × EndsFilled asked (files_of files) a.status no_faults no_faults (Some []) (Some a.out) nothing_stored store (SaysFilled (Some []) (Some a.err) 0 0)
   -- words that name a saved rule end as its run over standard input does, of which no read fails
-  pub ran : (saved : SavedData) → asked_in words ≡ Runs saved → (left : Option (List ℕ))
-      × RanFile saved.rule (files_of files) no_faults no_faults a.status (Some (input_in files)) left 0 0 (Some []) (Some a.out) 0 0 (SaysFilled (Some []) (Some a.err) 0 0)
+  pub ran : (saved : SavedData) → asked_in words ≡ Runs saved → OutBefore a.status (Some []) (Some a.out) (SaysFilled (Some []) (Some a.err) 0 0) ⊎ ((left : Option (List ℕ))
+      × RanFile saved.rule (files_of files) no_faults no_faults a.status (Some (input_in files)) left 0 0 (Some []) (Some a.out) 0 0 (SaysFilled (Some []) (Some a.err) 0 0))
   pub wrong : asked_in words ≡ Wrong → EndsWrong a.status (SaysFilled (Some []) (Some a.err) 0 0) × (a.out ≡ [])
   pub shown : asked_in words ≡ Shows → EndsShown a.status (SaysFilled (Some []) (Some a.err) 0 0)
   -- where they ask for quiet, nothing is said of a sheet that was written

@@ -1,5 +1,4 @@
-use Rattle.std.proofs.Common.{◌≡◌, ◌∙◌, ap, inr, refl, sym}
-use Rattle.fill_filter.specs.declared.file.NoRule.TheVariants as norule
+use Rattle.std.proofs.Common.{◌≡◌, ◌∙◌, ap, inl, inr, refl, sym}
 use Rattle.fill_words.specs.Words.{Runs, SavedData, saved_data}
 use Rattle.fill_csv.proofs.command.run.Goals as goal
 
@@ -9,8 +8,7 @@ rule_same a b e = let same : a ≡ b = cc in ap (λ (s : SavedData). s.rule) sam
 pub returns-in-Ok-Run-clause-ran : goal.returns-in-Ok-Run-clause-ran
 returns-in-Ok-Run-clause-ran g c = λ saved is.
     let rule : c.as_str.result.now ≡ saved.rule = c.as_str.ensures.value ∙ rule_same (saved_data c.in-Ok-Run.saved) saved (sym c.in-Ok-Run.ensures.answer ∙ is) in
-    (c.run_rule_file.result.source, rw rule at c.run_rule_file.ensures.ran)
+    inr (c.run_rule_file.result.source, rw rule at c.run_rule_file.ensures.ran)
 
 pub returns-clause-ran : goal.returns-clause-ran
-returns-clause-ran g c = λ saved is.
-    (c.args.input, inr (norule.NoMemory, tt, refl, c.say.ensures, record { stream = refl; reads = refl; written = refl; writes = refl }))
+returns-clause-ran g c = λ saved is. inl (refl, refl, c.say.ensures)

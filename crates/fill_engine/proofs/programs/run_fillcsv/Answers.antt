@@ -1,4 +1,4 @@
-use Rattle.std.proofs.Common.{ap, refl, ◌∙◌}
+use Rattle.std.proofs.Common.{ap, inl, inr, refl}
 use Rattle.std.specs.Prelude.{map, string_bytes}
 use Rattle.fill_engine.specs.Answer.{answer_data}
 use Rattle.fill_engine.proofs.Results.{if_ok_map}
@@ -12,7 +12,7 @@ returns g c = if_ok_map c.whole.result (λ a w.
     refl refl _
     (record {
       filled = c.run-status.ensures.filled;
-      ran = λ saved is. let r = c.run-status.ensures.ran saved is in (_, r.1);
+      ran = λ saved is. elim (c.run-status.ensures.ran saved is) [ inl out ↦ inl out | inr r ↦ inr (_, r.1) ];
       wrong = λ is. ((c.run-status.ensures.wrong is).0, ap (λ page. page.bytes.items) (c.run-status.ensures.wrong is).2);
       shown = λ is. (c.run-status.ensures.shown is).0;
       silent = λ asked is quiet done. ap (λ page. page.bytes.items) (c.run-status.ensures.silent asked is quiet done);
