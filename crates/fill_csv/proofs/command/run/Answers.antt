@@ -1,5 +1,5 @@
 use Rattle.std.proofs.Common.{◌≡◌, ◌∙◌, ap, inl, inr, refl, sym}
-use Rattle.fill_words.specs.Words.{Runs, SavedData, saved_data}
+use Rattle.fill_words.specs.Words.{Runs, SavedData, order_meaning, saved_data}
 use Rattle.fill_csv.proofs.command.run.Goals as goal
 
 rule_same : (a b : SavedData) → Runs a ≡ Runs b → a.rule ≡ b.rule
@@ -7,7 +7,7 @@ rule_same a b e = let same : a ≡ b = cc in ap (λ (s : SavedData). s.rule) sam
 
 pub returns-in-Ok-Run-clause-ran : goal.returns-in-Ok-Run-clause-ran
 returns-in-Ok-Run-clause-ran g c = λ saved is.
-    let rule : c.as_str.result.now ≡ saved.rule = c.as_str.ensures.value ∙ rule_same (saved_data c.in-Ok-Run.saved) saved (sym c.in-Ok-Run.ensures.answer ∙ is) in
+    let rule : c.as_str.result.now ≡ saved.rule = c.as_str.ensures.value ∙ rule_same (saved_data c.in-Ok-Run.saved) saved (sym (c.in-Ok-Run.ensures.answer ∙ ap order_meaning c.in-Ok-Run.field-0-is) ∙ is) in
     inr (c.run_rule_file.result.source, rw rule at c.run_rule_file.ensures.ran)
 
 pub returns-clause-ran : goal.returns-clause-ran
