@@ -16,7 +16,7 @@ mod request;
 use answer::Answer;
 use fill_text::NoMemory;
 use programs::run_program;
-use request::read_request;
+use request::{Call, read_request};
 use std::alloc::Global;
 
 /// The status of a request that has not the form of one.
@@ -60,7 +60,13 @@ fn answer_of(alloc: Global, request: &[u8]) -> Result<Answer, NoMemory>
     ensures { IfOk result (λ answer. AnswersCall (request_in request.now) (answer_data answer)) }
 {
     match read_request(alloc, request)? {
-        Some(call) => run_program(alloc, call.program, &call.words, call.files),
+        Some(
+            Call {
+                program,
+                words,
+                files,
+            },
+        ) => run_program(alloc, program, &words, files),
         None => Ok(malformed(alloc)),
     }
 }
