@@ -16,7 +16,7 @@ use Rattle.fill_csv.specs.Saved.{StoreAt}
 use Rattle.fill_csv.specs.Said.{Says as SaysFilled}
 use Rattle.fill_engine.specs.Answer.{AnswerData}
 use Rattle.fill_engine.specs.Programs.{EndsFillcsv, EndsFlashfill, IsNoCommand, Stores, files_of, no_faults, nothing_stored}
-use Rattle.fill_engine.specs.Request.{input_in}
+use Rattle.fill_engine.specs.Input.{input_in}
 
 -- a fault is counted
 no_rise : Rose 0 0 → ⊥

@@ -1,7 +1,7 @@
--- Standard input of a request, as plain data.
-use Rattle.std.specs.Prelude.{ℕ, List}
+-- Standard input among the files of a request.
+use Rattle.std.specs.Prelude.{ℕ, List, [], codes, unwrap_or}
+use Rattle.fill_edge.specs.Memory.{held}
 
--- its bytes, and how many of them were read
-pub record InputData : Type 0 where
-  pub bytes : List ℕ
-  pub at : ℕ
+-- the bytes of standard input, which is the file of the name `-`; none where it is not there
+abbrev pub input_in : List (List ℕ × List ℕ) → List ℕ
+input_in files = unwrap_or (held files (codes "-")) []

@@ -20,7 +20,8 @@ use Rattle.fill_csv.specs.Said.{Says as SaysFilled}
 use Rattle.fill_engine.specs.declared.request.Program.{Program}
 use Rattle.fill_engine.specs.declared.request.Program.TheVariants.{Flashfill, Fillcsv}
 use Rattle.fill_engine.specs.Answer.{AnswerData, malformed, no_memory}
-use Rattle.fill_engine.specs.Request.{CallData, input_in, request_in}
+use Rattle.fill_engine.specs.Request.{CallData, request_in}
+use Rattle.fill_engine.specs.Input.{input_in}
 
 -- files that are told, each its name and its bytes, those that come last first
 abbrev pub files_of : List (List ℕ × List ℕ) → Files

@@ -1,6 +1,5 @@
 -- The form of a request.
-use Rattle.fill_edge.specs.Memory.{held}
-use Rattle.std.specs.Prelude.{ℕ, zero, suc, nat_eq, nat_le, if◌then◌else◌, List, [], ◌∷◌, ◌++◌, codes, length, map, string_bytes, take, drop, Option, Some, None, option_and_then, unwrap_or}
+use Rattle.std.specs.Prelude.{ℕ, zero, suc, nat_eq, nat_le, if◌then◌else◌, List, [], ◌∷◌, ◌++◌, codes, length, map, string_bytes, take, drop, Option, Some, None, option_and_then}
 use Rattle.std.specs.Int.{w64, from_le_bytes}
 use Rattle.std.specs.Str.{bytes_eq, is_utf8}
 use Rattle.fill_engine.specs.declared.request.Call.{Call}
@@ -15,10 +14,6 @@ pub record CallData : Type 0 where
 
 abbrev pub call_data : Call → CallData
 call_data a = record { program = a.program; words = map string_bytes a.words.items; files = a.files.files }
-
--- the bytes of standard input, which is the file of the name `-`; none where it is not there
-abbrev pub input_in : List (List ℕ × List ℕ) → List ℕ
-input_in files = unwrap_or (held files (codes "-")) []
 
 -- the number at the front of bytes: eight bytes, the lowest first; and the bytes after it
 abbrev pub number_in : List ℕ → Option (ℕ × List ℕ)

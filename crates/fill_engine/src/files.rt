@@ -1,6 +1,6 @@
 //! The files of a request.
 ghost use Rattle.std.specs.Prelude.{◌≡◌, ◌∷◌, [], IfOk, OnOk, OnErr};
-ghost use Rattle.fill_engine.specs.Request.{input_in};
+ghost use Rattle.fill_engine.specs.Input.{input_in};
 
 use fill_edge::{Cabinet, LARGEST_FILE, MemoryCabinet, ReadRefusal};
 use fill_text::NoMemory;
@@ -22,7 +22,7 @@ pub struct NamedFiles {
 impl Model for NamedFiles {
     ghost use Rattle.std.specs.Prelude.{◌≡◌, []};
     ghost use Rattle.fill_edge.specs.Memory.{Shelf};
-    ghost use Rattle.fill_engine.specs.Request.{input_in};
+    ghost use Rattle.fill_engine.specs.Input.{input_in};
 
     ghost Value = { Shelf };
 

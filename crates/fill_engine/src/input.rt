@@ -2,50 +2,47 @@
 ghost use Rattle.std.specs.Prelude.{◌≡◌};
 
 use fill_edge::Failed;
-use fill_stream::Source;
+use fill_stream::{MemorySource, Source};
 use std::marker::Model;
 
 /// Bytes as a stream of which no read fails.
 #[derive(Drop)]
-pub struct Input {
-    bytes: Vec<u8>,
-    at: usize,
+pub struct Input<'a> {
+    source: MemorySource<'a>,
 }
 
-impl Model for Input {
-    ghost use Rattle.std.specs.Prelude.{◌≤◌, length};
-    ghost use Rattle.fill_engine.specs.Input.{InputData};
+impl<'a> Model for Input<'a> {
+    ghost use Rattle.std.specs.Prelude.{◌≡◌};
+    ghost use Rattle.fill_stream.specs.Streams.{Tape};
 
-    ghost Value = { InputData };
+    ghost Value = { Tape };
 
-    ghost view = { λ input. record { bytes = input.bytes.items; at = input.at } };
+    ghost view = { λ input. input.source };
 
-    ghost invariant = { λ input. input.at ≤ length input.bytes.items };
+    ghost invariant = { λ input. input.source.failing ≡ 0 };
 }
 
-impl Input {
-    /// These bytes, from their front on.
-    pub fn new(bytes: Vec<u8>) -> Input
-        ensures { result ≡ record { bytes = bytes.items; at = 0 } }
+impl<'a> Input<'a> {
+    /// These bytes.
+    pub fn new(bytes: &'a [u8]) -> Input<'a>
+        ensures { result.rest ≡ bytes.now }
     {
-        Input { bytes, at: 0 }
+        Input {
+            source: MemorySource::new(bytes, usize::MAX, 0),
+        }
     }
 }
 
-impl Source for Input {
-    ghost use Rattle.std.specs.Prelude.{Some, drop};
+impl Source for Input<'_> {
+    ghost use Rattle.std.specs.Prelude.{Some};
 
-    ghost left = { λ input. Some (drop input.at input.bytes) };
+    ghost left = { λ tape. Some tape.rest };
 
-    ghost whole = { λ input. Some input.bytes };
+    ghost whole = { λ tape. Some tape.bytes };
 
-    ghost faults = { λ input. 0 };
+    ghost faults = { λ tape. 0 };
 
     fn read(&mut self, buf: &mut [u8]) -> Result<usize, Failed> {
-        let rest = &self.bytes[self.at..];
-        let count = rest.len().min(buf.len());
-        buf[..count].copy_from_slice(&rest[..count]);
-        self.at += count;
-        Ok(count)
+        self.source.read(buf)
     }
 }

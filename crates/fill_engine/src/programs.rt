@@ -53,7 +53,8 @@ fn run_flashfill<L: Ledger>(
 fn run_fillcsv(alloc: Global, words: &[String], files: NamedFiles) -> Result<Answer, NoMemory>
     ensures { IfOk result (λ answer. EndsFillcsv (map string_bytes words.now) files.files (answer_data answer)) }
 {
-    let input = Input::new(files.input()?);
+    let bytes = files.input()?;
+    let input = Input::new(&bytes);
     let mut folder = Folder {
         cabinet: files,
         store: MemoryStore::new(alloc),

@@ -1,4 +1,4 @@
-use Rattle.std.proofs.Common.{ap, inl, inr, refl}
+use Rattle.std.proofs.Common.{ap, inl, inr, refl, ◌∙◌}
 use Rattle.std.specs.Prelude.{map, string_bytes}
 use Rattle.fill_engine.specs.Answer.{answer_data}
 use Rattle.fill_engine.proofs.Results.{if_ok_map}
@@ -9,7 +9,7 @@ pub returns : goal.returns
 returns g c = if_ok_map c.whole.result (λ a w.
     fillcsv_ends (map string_bytes c.args.words.now) c.args.files.files (answer_data a) _ _ _ _ _ _ _ _ _ _ _ _
     w.status_is w.out_is w.err_is c.new-out.ensures.bytes c.new-err.ensures.bytes c.new-out.ensures.faults w.out_faults c.new-err.ensures.faults w.err_faults
-    refl refl _
+    (c.new-input.ensures ∙ (c.deref.ensures.value ∙ c.in_ok-bytes.ensures)) refl _
     (record {
       filled = c.run-status.ensures.filled;
       ran = λ saved is. elim (c.run-status.ensures.ran saved is) [ inl out ↦ inl out | inr r ↦ inr (_, r.1) ];
