@@ -6,7 +6,7 @@ use Rattle.fill_engine.proofs.Runs.{fillcsv_ends}
 use Rattle.fill_engine.proofs.programs.run_fillcsv.Goals as goal
 
 pub returns : goal.returns
-returns g c = if_ok_map c.whole.result (λ a w.
+returns c = if_ok_map c.whole.result (λ a w.
     fillcsv_ends (map string_bytes c.args.words.now) c.args.files.files (answer_data a) _ _ _ _ _ _ _ _ _ _ _ _
     w.status_is w.out_is w.err_is c.new-out.ensures.bytes c.new-err.ensures.bytes c.new-out.ensures.faults w.out_faults c.new-err.ensures.faults w.err_faults
     (c.new-input.ensures ∙ (c.deref.ensures.value ∙ c.in_ok-bytes.ensures)) refl _

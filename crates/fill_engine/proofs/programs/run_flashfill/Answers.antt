@@ -8,7 +8,7 @@ use Rattle.fill_engine.proofs.programs.run_flashfill.Goals as goal
 
 pub returns : goal.returns
 returns g c = if_ok_map c.whole.result (λ a w.
-    flashfill_ends (map string_bytes c.args.words.now) (files_of c.args.files.now.files) (answer_data a) _ _ _ _ _ _ _ _ _ c.new-steps.result c.run-status.new.steps
+    flashfill_ends (map string_bytes c.args.words.now) (files_of c.args.files.files) (answer_data a) _ _ _ _ _ _ _ _ _ c.new-steps.result c.run-status.new.steps
     w.status_is w.out_is w.err_is c.new-out.ensures.bytes c.new-err.ensures.bytes c.new-out.ensures.faults w.out_faults c.new-err.ensures.faults w.err_faults
     (record {
       session = λ is. record {
