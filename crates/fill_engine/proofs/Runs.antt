@@ -79,7 +79,7 @@ fillcsv_answers words files a kept stores ran = record {
   wrong = ran.wrong;
   shown = ran.shown;
   silent = ran.silent;
-  written = λ four. elim (ran.fault four) [ inl rose ↦ no_rise rose | inr rose ↦ no_rise (subst (λ (s : StoreAt). Rose 0 s.faults) stores.1 rose) ];
+  written = λ four. elim (ran.fault four) [ inl rose ↦ no_rise rose | inr rose ↦ no_rise (subst (Rose 0) stores.0 rose) ];
   statuses = ran.statuses;
 }
 

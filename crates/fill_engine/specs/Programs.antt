@@ -8,7 +8,7 @@ use Rattle.fill_open.specs.Command.{command_in, made}
 use Rattle.fill_open.specs.Lines.{memory_line}
 use Rattle.fill_open.specs.Stops.{Counts}
 use Rattle.fill_words.specs.Words.{AskedData, Asks, Runs, SavedData, Shows, Wrong, asked_in}
-use Rattle.fill_files.specs.Saves.{last_bytes}
+use Rattle.fill_files.specs.Saves.{SavedFiles, last_bytes}
 use Rattle.fill_filter.specs.RuleFile.{RanFile}
 use Rattle.fill_csv.specs.Saved.{StoreAt}
 use Rattle.fill_command.specs.Answer.{IsOfSession, Says, usage_line}
@@ -56,10 +56,16 @@ pub record EndsFlashfill (words : List (List ℕ)) (files : Files) (a : AnswerDa
   pub written : a.status ≢ 4
   pub statuses : a.status ≤ 6
 
--- a store that holds nothing, and one whose last file has these bytes, or none; no save fails
-abbrev pub Stores : List ℕ → StoreAt → Type 0
-Stores saved store = (files : List (List ℕ × List ℕ)) × (store ≡ record { files = Some files; faults = 0 }) × (saved ≡ last_bytes files)
+-- the last of these files has the bytes, which are none where there is no file
+abbrev pub IsLast : List ℕ → SavedFiles → Type 0
+IsLast saved None = ⊥
+IsLast saved (Some files) = saved ≡ last_bytes files
 
+-- no save failed, and the file that was saved last has these bytes
+abbrev pub Stores : List ℕ → StoreAt → Type 0
+Stores saved store = (store.faults ≡ 0) × IsLast saved store.files
+
+-- a store that holds nothing
 abbrev pub nothing_stored : StoreAt
 nothing_stored = record { files = Some []; faults = 0 }
 

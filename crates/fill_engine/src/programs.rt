@@ -1,7 +1,7 @@
 //! The runs of the two programs over the files of a request.
-ghost use Rattle.std.specs.Prelude.{◌≡◌, IfOk, map, string_bytes};
+ghost use Rattle.std.specs.Prelude.{◌≡◌, [], IfOk, Some, false, map, string_bytes};
 ghost use Rattle.fill_engine.specs.Answer.{IsWhole, answer_data};
-ghost use Rattle.fill_engine.specs.Programs.{Ends, EndsFillcsv, EndsFlashfill, files_of};
+ghost use Rattle.fill_engine.specs.Programs.{Ends, EndsFillcsv, EndsFlashfill, Stores, files_of};
 
 use crate::answer::Answer;
 use crate::files::NamedFiles;
@@ -55,18 +55,33 @@ fn run_fillcsv(alloc: Global, words: &[String], files: NamedFiles) -> Result<Ans
 {
     let bytes = files.input()?;
     let input = Input::new(&bytes);
-    let mut folder = Folder {
-        cabinet: files,
-        store: MemoryStore::new(alloc),
-    };
+    let mut folder = folder_of(alloc, files);
     let mut out = Page::new(alloc);
     let mut err = Page::new(alloc);
     let status = fill_csv::run(alloc, words, &mut folder, input, &mut out, &mut err);
-    if folder.store.faults() > 0 {
+    let saved = saved_by(alloc, &folder.store)?;
+    whole(status, out, err, saved)
+}
+
+/// These files, and a store that holds nothing.
+fn folder_of(alloc: Global, files: NamedFiles) -> Folder<NamedFiles, MemoryStore>
+    ensures cabinet { result.cabinet ≡ files }
+    ensures store { result.store ≡ record { files = []; fails = false; faults = 0 } }
+{
+    Folder {
+        cabinet: files,
+        store: MemoryStore::new(alloc),
+    }
+}
+
+/// The bytes of the file that was saved last, where no save failed.
+fn saved_by(alloc: Global, store: &MemoryStore) -> Result<Vec<u8>, NoMemory>
+    ensures { IfOk result (λ saved. Stores saved.items (record { files = Some store.now.files; faults = store.now.faults })) }
+{
+    if store.faults() > 0 {
         return Err(NoMemory);
     }
-    let saved = folder.store.last().to_vec(alloc)?;
-    whole(status, out, err, saved)
+    Ok(store.last().to_vec(alloc)?)
 }
 
 /// The answer of a status, of what was written, where no write failed, and of what was saved.

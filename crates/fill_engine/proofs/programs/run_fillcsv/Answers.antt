@@ -1,15 +1,27 @@
-use Rattle.std.proofs.Common.{ap, inl, inr, refl, ◌∙◌}
-use Rattle.std.specs.Prelude.{map, string_bytes}
+use Rattle.std.proofs.Common.{◌≡◌, ◌∙◌, ap, inl, inr, subst, sym}
+use Rattle.std.specs.Prelude.{Some, map, string_bytes}
+use Rattle.fill_edge.specs.Memory.{Shelf}
+use Rattle.fill_files.specs.Saves.{Kept}
+use Rattle.fill_csv.specs.Saved.{StoreAt}
 use Rattle.fill_engine.specs.Answer.{answer_data}
+use Rattle.fill_engine.specs.Input.{input_in}
+use Rattle.fill_engine.specs.Programs.{Stores}
 use Rattle.fill_engine.proofs.Results.{if_ok_map}
 use Rattle.fill_engine.proofs.Runs.{fillcsv_ends}
 use Rattle.fill_engine.proofs.programs.run_fillcsv.Goals as goal
 
+store_at : Kept → StoreAt
+store_at k = record { files = Some k.files; faults = k.faults }
+
 pub returns : goal.returns
-returns c = if_ok_map c.whole.result (λ a w.
-    fillcsv_ends (map string_bytes c.args.words.now) c.args.files.files (answer_data a) _ _ _ _ _ _ _ _ _ _ _ _
+returns c =
+    let same : c.folder_of-folder.result.cabinet ≡ c.args.files = c.folder_of-folder.ensures.cabinet in
+    let first : c.new-input.result.rest ≡ input_in c.folder_of-folder.result.cabinet.files =
+    c.new-input.ensures ∙ (c.deref.ensures.value ∙ (c.in_ok-bytes.ensures ∙ ap (λ (s : Shelf). input_in s.files) (sym same))) in
+    rw ← same (if_ok_map c.whole.result (λ a w.
+    fillcsv_ends (map string_bytes c.args.words.now) c.folder_of-folder.result.cabinet.files (answer_data a) _ _ _ _ _ _ _ _ _ _ _ _
     w.status_is w.out_is w.err_is c.new-out.ensures.bytes c.new-err.ensures.bytes c.new-out.ensures.faults w.out_faults c.new-err.ensures.faults w.err_faults
-    (c.new-input.ensures ∙ (c.deref.ensures.value ∙ c.in_ok-bytes.ensures)) refl _
+    first (ap store_at c.folder_of-folder.ensures.store) (subst (λ s. Stores s (store_at c.run-status.new.folder.store)) (sym w.saved_is) c.in_ok-saved.ensures)
     (record {
       filled = c.run-status.ensures.filled;
       ran = λ saved is. elim (c.run-status.ensures.ran saved is) [ inl out ↦ inl out | inr r ↦ inr (_, r.1) ];
@@ -19,4 +31,4 @@ returns c = if_ok_map c.whole.result (λ a w.
       fault = c.run-status.ensures.fault;
       statuses = c.run-status.ensures.statuses;
     }))
-    c.whole.ensures
+    c.whole.ensures)
