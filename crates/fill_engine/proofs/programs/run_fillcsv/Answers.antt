@@ -10,7 +10,7 @@ use Rattle.fill_engine.proofs.Results.{if_ok_map}
 use Rattle.fill_engine.proofs.Runs.{fillcsv_ends}
 use Rattle.fill_engine.proofs.programs.run_fillcsv.Goals as goal
 
-store_at : Kept → StoreAt
+abbrev store_at : Kept → StoreAt
 store_at k = record { files = Some k.files; faults = k.faults }
 
 pub returns : goal.returns
