@@ -1,5 +1,5 @@
 //! The arena.
-ghost use Rattle.std.specs.Prelude.{◌≡◌, ℕ, ◌+◌, ◌<◌, ◌≤◌, List, [], ◌∷◌, ◌++◌, Some, slice_get, length, take, IfOk, OnOk, OnErr};
+ghost use Rattle.std.specs.Prelude.{◌≡◌, ◌+◌, ◌<◌, ◌≤◌, List, [], ◌∷◌, ◌++◌, Some, slice_get, length, take, IfOk, OnOk, OnErr};
 ghost use Rattle.fill_arena.specs.Contents.{AreDistinct, Extends, HasEdges, HasNodes, Interns, IsAtomSet, IsGraph, IsPlaceSet, IsSourceSet};
 ghost use Rattle.fill_arena.specs.Entries.{entry_of};
 ghost use Rattle.fill_arena.specs.Index.{IsFree};

@@ -14,7 +14,7 @@ const SAMPLES: usize = 8;
 
 /// The hash of what came so far, and of one number more.
 #[tactic(auto, unfolding(crate::specs::Hash::mixed))]
-fn mix(hash: u64, number: u64) -> u64
+pub fn mix(hash: u64, number: u64) -> u64
     ensures { result ≡ mixed hash number }
 {
     hash.wrapping_mul(0x9E37_79B9_7F4A_7C15)
@@ -101,7 +101,8 @@ fn hash_seq(hash: u64, seq: &Seq) -> u64
     made
 }
 
-fn hash_place(hash: u64, place: &Place) -> u64
+/// The hash of what came so far, and of a place.
+pub fn hash_place(hash: u64, place: &Place) -> u64
     ensures { result ≡ place_hash hash place.now }
 {
     match place {

@@ -1,10 +1,9 @@
 //! Where contents stand, found by their hash.
-ghost use Rattle.std.specs.Prelude.{◌≡◌, ◌+◌, ◌%◌, ◌^◌, ◌++◌, ◌∷◌, [], take, slice_get, Some, List as Items, IfOk, OnOk, OnErr, MatchOption};
+ghost use Rattle.std.specs.Prelude.{◌≡◌, ◌+◌, ◌%◌, ◌^◌, ◌++◌, ◌∷◌, [], take, slice_get, Some, IfOk, OnOk, OnErr, MatchOption};
 ghost use Rattle.std.specs.Hash as fed;
 ghost use Rattle.std.proofs.Common.{ap, ◌∙◌, rules};
 ghost use Rattle.fill_arena.specs.Contents.{In};
 ghost use Rattle.fill_arena.specs.Index.{IsFound, IsIndexed};
-ghost use Rattle.fill_arena.specs.declared.entry.Entry.{Entry as Listed};
 
 use crate::entries::Entries;
 use crate::entry::Entry;

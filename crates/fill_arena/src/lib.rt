@@ -22,4 +22,5 @@ mod same;
 
 pub use arena::Arena;
 pub use entry::{AtomItem, ConditionItem, Edge, Entry, SelectItem, SourceItem};
+pub use hash::{hash_place, mix};
 pub use numbers::{AtomSet, GraphId, Mark, PlaceSet, SourceSet};

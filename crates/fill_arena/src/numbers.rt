@@ -59,7 +59,8 @@ impl SourceSet {
         SourceSet { number }
     }
 
-    pub(crate) fn index(self) -> usize
+    /// The number itself, by which tables may be kept of sets.
+    pub fn index(self) -> usize
         ensures { result ≡ self }
     {
         self.number
@@ -89,7 +90,8 @@ impl AtomSet {
         AtomSet { number }
     }
 
-    pub(crate) fn index(self) -> usize
+    /// The number itself, by which tables may be kept of sets.
+    pub fn index(self) -> usize
         ensures { result ≡ self }
     {
         self.number

@@ -1,5 +1,5 @@
 //! The first few of what is put together, by the cost and then in order.
-ghost use Rattle.std.specs.Prelude.{◌≡◌, ◌⊎◌, ◌+◌, ◌^◌, ◌<◌, ◌≤◌, length, take, drop, Contains, IfOk, OnOk, IsTrue, MatchOption};
+ghost use Rattle.std.specs.Prelude.{◌≡◌, ◌⊎◌, ◌+◌, ◌^◌, ◌<◌, ◌≤◌, length, Contains, IfOk, OnOk, IsTrue, MatchOption};
 ghost use Rattle.fill_best.specs.Costs.{by_cost, linked};
 ghost use Rattle.fill_best.specs.First.{AreFirst, IsMade, IsPast, IsPlaceOf, Rises};
 ghost use Rattle.fill_best.specs.declared.costed.Costed.{Costed as Cost};

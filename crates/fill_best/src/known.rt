@@ -1,5 +1,5 @@
 //! What was found of sets already, so that each is looked at once.
-ghost use Rattle.std.specs.Prelude.{◌≡◌, ℕ, List as Items, IfSome, OnOk};
+ghost use Rattle.std.specs.Prelude.{ℕ, List as Items, IfSome, OnOk};
 ghost use Rattle.fill_tokens.specs.Place.{place_cmp};
 ghost use Rattle.fill_tokens.specs.Prices.{place_cost};
 ghost use Rattle.fill_tokens.specs.declared.prices.Prices.{Prices};

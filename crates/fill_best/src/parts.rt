@@ -1,5 +1,4 @@
 //! Parts of trees that are no trees themselves.
-ghost use Rattle.std.specs.Prelude.{◌≡◌};
 ghost use Rattle.fill_tokens.specs.Place.{place_cmp};
 ghost use Rattle.fill_tokens.proofs.PlaceLaws.{exact_places, place_total};
 

@@ -1,5 +1,5 @@
 //! The first of sets of places, and of the bounds of pieces.
-ghost use Rattle.std.specs.Prelude.{◌≡◌, ℕ, ◌+◌, ◌^◌, ◌<◌, Contains, List as Items, IfOk, OnOk};
+ghost use Rattle.std.specs.Prelude.{ℕ, ◌+◌, ◌^◌, ◌<◌, Contains, List as Items, IfOk, OnOk};
 ghost use Rattle.fill_tokens.specs.Place.{place_cmp};
 ghost use Rattle.fill_tokens.specs.Prices.{place_cost};
 ghost use Rattle.fill_tokens.specs.declared.place.Place.{Place as Spot};

@@ -1,9 +1,8 @@
 //! The first rows of conditions of a lookup.
-ghost use Rattle.std.specs.Prelude.{◌≡◌, ◌⊎◌, ◌+◌, ◌^◌, ◌<◌, ◌≤◌, ◌∷◌, [], Contains, List as Items, IfOk};
+ghost use Rattle.std.specs.Prelude.{◌⊎◌, ◌+◌, ◌^◌, ◌<◌, ◌≤◌, [], Contains, List as Items, IfOk};
 ghost use Rattle.fill_tokens.specs.declared.prices.Prices.{Prices as Table};
-ghost use Rattle.fill_tree.specs.Order.{atom_cmp, atoms_cmp};
+ghost use Rattle.fill_tree.specs.Order.{atoms_cmp};
 ghost use Rattle.fill_tree.specs.Tree.{AtomTree, Atoms, more};
-ghost use Rattle.fill_arena.specs.declared.entry.ConditionItem.{ConditionItem as Listed};
 ghost use Rattle.fill_arena.specs.declared.entry.Entry.{Entry};
 ghost use Rattle.fill_best.specs.Costs.{by_cost, linked};
 ghost use Rattle.fill_best.specs.First.{AreFirst, IsMade, Rises};

@@ -2,7 +2,7 @@
 //!
 //! The first of a product of sets are made of their first, since costs add up and parts are compared one after the other.
 //! Lookups are no such product, for not all of their conditions may be constants: see [`Rows`].
-ghost use Rattle.std.specs.Prelude.{◌≡◌, ◌≤◌, ◌∷◌, length, List as Items, IfOk, OnOk};
+ghost use Rattle.std.specs.Prelude.{◌≤◌, ◌∷◌, length, List as Items, IfOk, OnOk};
 ghost use Rattle.fill_tree.specs.Cost.{atom_cost, source_cost};
 ghost use Rattle.fill_tree.specs.Order.{atom_cmp, source_cmp};
 ghost use Rattle.fill_arena.specs.Contents.{EachIn, IsAtomSet, IsSourceSet};

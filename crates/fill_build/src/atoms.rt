@@ -1,7 +1,6 @@
 //! The atoms that give a piece of the example's text.
-ghost use Rattle.std.specs.Prelude.{◌≡◌, ℕ, ◌+◌, ◌<◌, ◌≤◌, List, length, Some, slice_get, IfOk, OnOk};
-ghost use Rattle.fill_arena.specs.Contents.{EachIn, Extends};
-ghost use Rattle.fill_arena.specs.WellMade.{IsAtomItem};
+ghost use Rattle.std.specs.Prelude.{◌≡◌, ◌+◌, ◌<◌, List, Some, IfOk, OnOk};
+ghost use Rattle.fill_arena.specs.Contents.{Extends};
 ghost use Rattle.fill_sources.specs.Gives.{IsOnRow};
 ghost use Rattle.fill_sources.specs.Sets.{AreKnown, texts_of};
 ghost use Rattle.fill_build.specs.Pieces.{AddsAtoms, AreConstants, AreItemsOf, IsReadable, ReadsBetween, ReadsHit, ReadsWhole, IsPiece, IsWithin, piece_rest, piece_text};

@@ -1,5 +1,5 @@
 //! Where known texts go together with the example's text.
-ghost use Rattle.std.specs.Prelude.{◌≡◌, ◌+◌, ◌<◌, ◌≤◌, length, IfOk, OnOk};
+ghost use Rattle.std.specs.Prelude.{◌≡◌, ◌<◌, length, IfOk, OnOk};
 ghost use Rattle.fill_sources.specs.Sets.{texts_of};
 ghost use Rattle.fill_build.specs.Hits.{AreHits, GoTogether, HitsText, wide};
 

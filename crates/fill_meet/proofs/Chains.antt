@@ -1,82 +1,88 @@
--- The edges of a graph by their first nodes, gone through from the back.
-use Rattle.std.proofs.Common.{◌≡◌, ℕ, ◌+◌, ◌<◌, ◌≤◌, inl, inr, List, length, get_or, set, Some, slice_get, refl, sym, ap, ◌∙◌, subst, arith}
+-- Places by their keys, gone through from the back.
+use Rattle.std.proofs.Common.{◌≡◌, ℕ, ◌+◌, ◌%◌, ◌<◌, ◌≤◌, inl, inr, List, length, get_or, set, Some, slice_get, refl, sym, ap, ◌∙◌, subst, arith, length-set}
 use Rattle.std.proofs.lemmas.Bool.{cases_eq}
 use Rattle.std.proofs.lemmas.List.{get_or-set_same, get_or-set_other}
 use Rattle.std.proofs.lemmas.Option.{slice_get_within}
-use Rattle.std.proofs.Common.{length-set}
-use Rattle.fill_arena.specs.declared.entry.Edge.{Edge}
-use Rattle.fill_meet.specs.Outs.{IsFirstFrom, AreChainedFrom, AreOuts}
-use Rattle.fill_meet.specs.declared.outs.Outs.{Outs}
+use Rattle.fill_meet.specs.Groups.{AreChainedFrom, AreGroups, AreGroupsOf, AreKeys, IsFirstFrom}
+use Rattle.fill_meet.specs.declared.groups.Groups.{Groups}
+use Rattle.fill_arena.proofs.Lists.{get_there}
 use Rattle.fill_meet.proofs.Lists.{same_value}
 
-pub chained_start : (edges : List Edge) (firsts nexts : List ℕ) (i : ℕ) → i ≡ length edges → ((n : ℕ) → n < length firsts → get_or firsts n 0 ≡ length edges) → AreChainedFrom i edges firsts nexts
-chained_start edges firsts nexts i e none =
+pub chained_start : (keys firsts nexts : List ℕ) (i : ℕ) → i ≡ length keys → ((n : ℕ) → n < length firsts → get_or firsts n 0 ≡ length keys) → AreChainedFrom i keys firsts nexts
+chained_start keys firsts nexts i e none =
     record {
-      out_of = λ n h. subst (λ p. IsFirstFrom edges n i p) (sym (none n h)) (record {
+      out_of = λ n h. subst (λ p. IsFirstFrom keys n i p) (sym (none n h)) (record {
         past = omega arith;
-        least = λ k f le at from. omega arith;
-        here = λ f at. (let w = slice_get_within edges (length edges) f at in absurd (omega arith));
+        least = λ k le at. omega arith;
+        here = λ v at. (let w = slice_get_within keys (length keys) v at in absurd (omega arith));
       });
-      after = λ k f le at. (let w = slice_get_within edges k f at in absurd (omega arith));
+      after = λ k v le at. (let w = slice_get_within keys k v at in absurd (omega arith));
     }
 
--- an edge out of another node
-first_earlier : (edges : List Edge) (n p r : ℕ) (e : Edge) → slice_get edges p ≡ Some e → (e.from ≡ n → ⊥) → IsFirstFrom edges n (p + 1) r → IsFirstFrom edges n p r
-first_earlier edges n p r e hp ne h =
+first_earlier : (keys : List ℕ) (n p r v : ℕ) → slice_get keys p ≡ Some v → (v ≡ n → ⊥) → IsFirstFrom keys n (p + 1) r → IsFirstFrom keys n p r
+first_earlier keys n p r v hp ne h =
     record {
       past = (let a = h.past in omega arith);
-      least = λ k f le at from. elim (cases_eq k p) [
-        | inl same ↦ absurd (ne (ap (λ g. g.from) (same_value edges p k e f (sym same) hp at) ∙ from))
-        | inr other ↦ h.least k f (omega arith) at from
+      least = λ k le at. elim (cases_eq k p) [
+        | inl same ↦ absurd (ne (same_value keys p k v n (sym same) hp at))
+        | inr other ↦ h.least k (omega arith) at
       ];
       here = h.here;
     }
 
--- an edge out of the node
-first_itself : (edges : List Edge) (n p : ℕ) (e : Edge) → slice_get edges p ≡ Some e → e.from ≡ n → IsFirstFrom edges n p p
-first_itself edges n p e hp from =
+first_itself : (keys : List ℕ) (n p v : ℕ) → slice_get keys p ≡ Some v → v ≡ n → IsFirstFrom keys n p p
+first_itself keys n p v hp is =
     record {
       past = omega arith;
-      least = λ k f le at same. le;
-      here = λ f at. ap (λ g. g.from) (sym (same_value edges p p e f refl hp at)) ∙ from;
+      least = λ k le at. le;
+      here = λ u at. sym (same_value keys p p v u refl hp at) ∙ is;
     }
 
-module _ (edges : List Edge) (firsts nexts : List ℕ) (p from : ℕ) (e : Edge) (hp : slice_get edges p ≡ Some e) (is : e.from ≡ from) (lf : from < length firsts) (ln : p < length nexts) (h : AreChainedFrom (p + 1) edges firsts nexts) where
-  out_now : (n : ℕ) → n < length firsts → IsFirstFrom edges n p (get_or (set firsts from p) n 0)
-  out_now n lt = elim (cases_eq n from) [
+module _ (keys firsts nexts : List ℕ) (p v : ℕ) (hp : slice_get keys p ≡ Some v) (lf : v < length firsts) (ln : p < length nexts) (h : AreChainedFrom (p + 1) keys firsts nexts) where
+  out_now : (n : ℕ) → n < length firsts → IsFirstFrom keys n p (get_or (set firsts v p) n 0)
+  out_now n lt = elim (cases_eq n v) [
     | inl same ↦
-        let now : get_or (set firsts from p) n 0 ≡ p = ap (λ m. get_or (set firsts from p) m 0) same ∙ get_or-set_same firsts from p 0 lf in
-        subst (λ q. IsFirstFrom edges n p q) (sym now) (first_itself edges n p e hp (is ∙ sym same))
+        let now : get_or (set firsts v p) n 0 ≡ p = ap (λ m. get_or (set firsts v p) m 0) same ∙ get_or-set_same firsts v p 0 lf in
+        subst (λ q. IsFirstFrom keys n p q) (sym now) (first_itself keys n p v hp (sym same))
     | inr other ↦
-        let now : get_or (set firsts from p) n 0 ≡ get_or firsts n 0 = get_or-set_other firsts from n p 0 other in
-        subst (λ q. IsFirstFrom edges n p q) (sym now) (first_earlier edges n p (get_or firsts n 0) e hp (λ f. other (sym f ∙ is)) (h.out_of n lt))
+        let now : get_or (set firsts v p) n 0 ≡ get_or firsts n 0 = get_or-set_other firsts v n p 0 other in
+        subst (λ q. IsFirstFrom keys n p q) (sym now) (first_earlier keys n p (get_or firsts n 0) v hp (λ f. other (sym f)) (h.out_of n lt))
   ]
 
-  after_now : (k : ℕ) (f : Edge) → p ≤ k → slice_get edges k ≡ Some f → IsFirstFrom edges f.from (k + 1) (get_or (set nexts p (get_or firsts from 0)) k 0)
-  after_now k f le at = elim (cases_eq k p) [
+  after_now : (k u : ℕ) → p ≤ k → slice_get keys k ≡ Some u → IsFirstFrom keys u (k + 1) (get_or (set nexts p (get_or firsts v 0)) k 0)
+  after_now k u le at = elim (cases_eq k p) [
     | inl same ↦
-        let v = get_or firsts from 0 in
-        let now : get_or (set nexts p v) k 0 ≡ v = ap (λ m. get_or (set nexts p v) m 0) same ∙ get_or-set_same nexts p v 0 ln in
-        let of : from ≡ f.from = sym is ∙ ap (λ g. g.from) (same_value edges p k e f (sym same) hp at) in
-        subst (λ q. IsFirstFrom edges f.from (k + 1) q) (sym now) (subst (λ q. IsFirstFrom edges f.from (q + 1) v) (sym same) (subst (λ q. IsFirstFrom edges q (p + 1) v) of (h.out_of from lf)))
+        let w = get_or firsts v 0 in
+        let now : get_or (set nexts p w) k 0 ≡ w = ap (λ m. get_or (set nexts p w) m 0) same ∙ get_or-set_same nexts p w 0 ln in
+        let of : v ≡ u = same_value keys p k v u (sym same) hp at in
+        subst (λ q. IsFirstFrom keys u (k + 1) q) (sym now) (subst (λ q. IsFirstFrom keys u (q + 1) w) (sym same) (subst (λ q. IsFirstFrom keys q (p + 1) w) of (h.out_of v lf)))
     | inr other ↦
-        let v = get_or firsts from 0 in
-        let now : get_or (set nexts p v) k 0 ≡ get_or nexts k 0 = get_or-set_other nexts p k v 0 other in
-        subst (λ q. IsFirstFrom edges f.from (k + 1) q) (sym now) (h.after k f (omega arith) at)
+        let w = get_or firsts v 0 in
+        let now : get_or (set nexts p w) k 0 ≡ get_or nexts k 0 = get_or-set_other nexts p k w 0 other in
+        subst (λ q. IsFirstFrom keys u (k + 1) q) (sym now) (h.after k u (omega arith) at)
   ]
 
-  pub chained_step : AreChainedFrom p edges (set firsts from p) (set nexts p (get_or firsts from 0))
-  chained_step = record { out_of = λ n lt. out_now n (subst (λ m. n < m) (length-set firsts from p) lt); after = after_now }
+  pub chained_step : AreChainedFrom p keys (set firsts v p) (set nexts p (get_or firsts v 0))
+  chained_step = record { out_of = λ n lt. out_now n (subst (λ m. n < m) (length-set firsts v p) lt); after = after_now }
 
-module _ (nodes : ℕ) (o : Outs) (are : AreOuts nodes o) where
-  pub first_is : (n r : ℕ) → n < nodes → r ≡ get_or o.firsts.items n 0 → IsFirstFrom o.edges.now n 0 r
-  first_is n r lt e = subst (IsFirstFrom o.edges.now n 0) (sym e) (are.chained.out_of n (subst (λ m. n < m) (sym are.some) lt))
+-- a key past all known ones has no place
+pub first_beyond : (keys : List ℕ) (g : Groups) (key : ℕ) → AreGroups keys g → length g.firsts.items ≤ key → IsFirstFrom keys key 0 (length g.nexts.items)
+first_beyond keys g key are le =
+    record {
+      past = omega arith;
+      least = λ k low at. (let lt = are.within k key at in absurd (omega arith));
+      here = λ v at. (let w = slice_get_within keys (length g.nexts.items) v at in let long = are.each in absurd (omega arith));
+    }
 
-  pub next_is : (k r : ℕ) (e : Edge) → slice_get o.edges.now k ≡ Some e → r ≡ get_or o.nexts.items k 0 → IsFirstFrom o.edges.now e.from (k + 1) r
-  next_is k r e at is = subst (IsFirstFrom o.edges.now e.from (k + 1)) (sym is) (are.chained.after k e (omega arith) at)
+-- what is in groups by hashes
+pub grouped : {A : Type 0} (xs : List A) (hash : A → ℕ) (count : ℕ) (keys : List ℕ) (g : Groups) → AreKeys (λ x. hash x % count) xs keys → AreGroups keys g → length g.firsts.items ≡ count → AreGroupsOf (λ x. hash x % length g.firsts.items) xs g
+grouped xs hash count keys g are groups long = record { keys = keys; are = subst (λ n. AreKeys (λ x. hash x % n) xs keys) (sym long) are; groups = groups }
 
-  pub first_within : (n : ℕ) → n < nodes → n < length o.firsts.items
-  first_within n lt = subst (λ m. n < m) (sym are.some) lt
+pub nexts_long : {A : Type 0} (key : A → ℕ) (xs : List A) (g : Groups) → AreGroupsOf key xs g → length g.nexts.items ≡ length xs
+nexts_long key xs g are = are.groups.each ∙ are.are.long
 
-  pub next_within : (k : ℕ) → k < length o.edges.now → k < length o.nexts.items
-  next_within k lt = subst (λ m. k < m) (sym are.each) lt
+-- on from a place whose key is known
+pub next_of : (keys : List ℕ) (g : Groups) (v e f : ℕ) → AreGroups keys g → e < length g.nexts.items → ((k : ℕ) → slice_get keys e ≡ Some k → k ≡ v) → ((k : ℕ) → slice_get keys e ≡ Some k → IsFirstFrom keys k (e + 1) f) → IsFirstFrom keys v (e + 1) f
+next_of keys g v e f are lt known on =
+    let at = get_there keys e (subst (λ n. e < n) are.each lt) in
+    subst (λ k. IsFirstFrom keys k (e + 1) f) (known at.0 at.1) (on at.0 at.1)

@@ -79,3 +79,6 @@ all_more P xs i x h s p = record {
 
 pub all_end : {A : Type 0} (P : A → Type 0) (xs : List A) (i : ℕ) → length xs ≤ i → AllBelow P xs i → (k : ℕ) (x : A) → slice_get xs k ≡ Some x → P x
 all_end P xs i h s k x g = let w = slice_get_within xs k x g in s.all k x (omega arith) g
+
+pub all_map : {A : Type 0} (P Q : A → Type 0) (xs : List A) (i : ℕ) → ((x : A) → P x → Q x) → AllBelow P xs i → AllBelow Q xs i
+all_map P Q xs i f s = record { all = λ k x lt at. f x (s.all k x lt at) }

@@ -10,7 +10,7 @@ use Rattle.fill_arena.proofs.Lists.{get_pushed}
 use Rattle.fill_trim.specs.Marks.{IsMarked}
 use Rattle.fill_meet.specs.Meet.{AreApart}
 use Rattle.fill_meet.specs.Joins.{IsJoined, IsDone, IsJoinedTo, AreJoined}
-use Rattle.fill_meet.specs.Ties.{AreRising, NameSets}
+use Rattle.fill_meet.specs.Ties.{AreOrdered, NameSets}
 use Rattle.fill_meet.specs.declared.ties.Tie.{Tie}
 use Rattle.fill_meet.proofs.Lists.{same_value, get_empty, in_last, some_more}
 use Rattle.fill_meet.proofs.Grows.{atoms_stay, met_stay, apart_stay}
@@ -51,7 +51,7 @@ module _ (c d : List Entry) (o : Extends c d) where
         ordered = s.ordered;
       }
 
-module _ (c : List Entry) (live : List Bool) (n : ℕ) (ties : List Tie) (r : AreRising n ties) (i : ℕ) (edges : List Edge) (s : JoinedSoFar c live ties i edges) where
+module _ (c : List Entry) (live : List Bool) (n : ℕ) (ties : List Tie) (r : AreOrdered n ties) (i : ℕ) (edges : List Edge) (s : JoinedSoFar c live ties i edges) where
   sound_more : (e : Edge) → IsJoinedBefore c ties i e → IsJoinedBefore c ties (i + 1) e
   sound_more e b = let lt = b.2 in (b.0, b.1, omega arith, b.3, b.4)
 
@@ -97,8 +97,8 @@ module _ (c : List Entry) (live : List Bool) (n : ℕ) (ties : List Tie) (r : Ar
             elim (get_pushed edges e b g hg) [
               | inl q ↦
                   let old = s.sound b g q.1 in
-                  let from = old.4.from in
-                  let low = r.rising old.0 i old.1 t old.2 old.3 ht in
+                  let before = r.ordered i old.0 t old.1 ht old.3 (sym to ∙ this ∙ old.4.from) in
+                  let low = old.2 in
                   absurd (omega arith)
               | inr q ↦
                   let own = ap (λ v. v.from) q.1 in

@@ -19,7 +19,7 @@ module _ {A I : Type 0} (Has : List Entry → I → A → Type 0) (Old : List En
         pairs = pairs_start Has c xs ys zs e;
       }
 
-  state_stays : (c d : List Entry) (n : ℕ) (xs ys zs : List I) (i j : ℕ) → Extends c d → PairsState Has Old c n xs ys i j zs → PairsState Has Old d n xs ys i j zs
+  pub state_stays : (c d : List Entry) (n : ℕ) (xs ys zs : List I) (i j : ℕ) → Extends c d → PairsState Has Old c n xs ys i j zs → PairsState Has Old d n xs ys i j zs
   state_stays c d n xs ys zs i j o s =
       record {
         first = λ k x h. stay c d o n n (omega arith) x (s.first k x h);

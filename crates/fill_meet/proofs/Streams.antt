@@ -4,7 +4,7 @@ use Rattle.std.proofs.lemmas.Bool.{cases_lt, cases_eq, false≢true}
 use Rattle.std.proofs.lemmas.Option.{slice_get-get_or, get_or_from_slice_get}
 use Rattle.fill_trim.specs.Marks.{IsMarked, spread}
 use Rattle.fill_trim.proofs.Ranks.{set_same, set_other}
-use Rattle.fill_meet.specs.Ties.{AreRising}
+use Rattle.fill_meet.specs.Ties.{AreOrdered}
 use Rattle.fill_meet.specs.declared.ties.Tie.{Tie}
 use Rattle.fill_meet.proofs.Lists.{same_value}
 
@@ -12,16 +12,10 @@ use Rattle.fill_meet.proofs.Lists.{same_value}
 abbrev pub ClosedFrom : ℕ → List Tie → List Bool → Type 0
 ClosedFrom i ties marks = (k : ℕ) (t : Tie) → i ≤ k → slice_get ties k ≡ Some t → IsMarked marks t.to → IsMarked marks t.from
 
-module _ (n : ℕ) (ties : List Tie) (r : AreRising n ties) (marks : List Bool) (p : ℕ) (t : Tie) (hp : slice_get ties p ≡ Some t) (closed : ClosedFrom (p + 1) ties marks) where
+module _ (n : ℕ) (ties : List Tie) (r : AreOrdered n ties) (marks : List Bool) (p : ℕ) (t : Tie) (hp : slice_get ties p ≡ Some t) (closed : ClosedFrom (p + 1) ties marks) where
   -- a tie from here on does not lead to where this one comes from
   not_back : (k : ℕ) (u : Tie) → p ≤ k → slice_get ties k ≡ Some u → u.to ≡ t.from → ⊥
-  not_back k u le there e =
-      let on = r.onward k u there in
-      let less = on.0 in
-      elim (cases_lt p k) [
-        | inl lt ↦ (let up = r.rising p k t u lt hp there in omega arith)
-        | inr past ↦ (let same = ap (λ v. v.from) (same_value ties p k t u (omega arith) hp there) in omega arith)
-      ]
+  not_back k u le there e = let before = r.ordered k p u t there hp e in omega arith
 
   close_marked : t.from < length marks → IsMarked marks t.to → ClosedFrom p ties (set marks t.from true)
   close_marked room to k u le there marked = elim (cases_eq u.from t.from) [

@@ -1,6 +1,6 @@
 -- Sets that are apart, by what they list.
 use Rattle.std.proofs.Common.{◌≡◌, ◌⊎◌, inl, inr, ℕ, zero, suc, List, [], ◌∷◌, ◌++◌, take, drop, set, replicate, subst, Some, Result, Ok, Err, slice_get, sym, ◌∙◌}
-use Rattle.std.specs.Prelude.{IfOk}
+use Rattle.std.specs.Prelude.{IfOk, OnOk}
 use Rattle.fill_text.specs.declared.error.NoMemory.{NoMemory}
 use Rattle.std.proofs.lemmas.Bool.{cases_eq}
 use Rattle.fill_tokens.specs.declared.place.Place.{Place}
@@ -45,7 +45,19 @@ pub ok_map : {A : Type 0} (r : Result A NoMemory) (P Q : A → Type 0) → ((x :
 ok_map (Ok x) P Q f h = f x h
 ok_map (Err e) P Q f h = h
 
-set_there : {A : Type 0} (xs : List A) (at : ℕ) (x y : A) → slice_get (set xs at x) at ≡ Some y → x ≡ y
+pub done_map : (r : Result (Unit {0}) NoMemory) (P Q : Type 0) → (P → Q) → OnOk r P → OnOk r Q
+done_map (Ok x) P Q f h = f h
+done_map (Err e) P Q f h = h
+
+pub done_both : (r : Result (Unit {0}) NoMemory) (P Q R : Type 0) → (P → Q → R) → OnOk r P → OnOk r Q → OnOk r R
+done_both (Ok x) P Q R f h g = f h g
+done_both (Err e) P Q R f h g = h
+
+pub done_any : (r : Result (Unit {0}) NoMemory) (P : Type 0) → P → OnOk r P
+done_any (Ok x) P h = h
+done_any (Err e) P h = tt
+
+pub set_there : {A : Type 0} (xs : List A) (at : ℕ) (x y : A) → slice_get (set xs at x) at ≡ Some y → x ≡ y
 set_there [] at x y h = absurd cc
 set_there (z ∷ xs) zero x y h = cc
 set_there (z ∷ xs) (suc at) x y h = set_there xs at x y h

@@ -13,7 +13,7 @@ use Rattle.fill_trim.specs.Trim.{AreEdges}
 use Rattle.fill_meet.specs.Meet.{AreMet}
 use Rattle.fill_meet.specs.Joins.{IsJoined, AreJoined, AreLive}
 use Rattle.fill_meet.specs.Product.{IsPairOf, IsProduct}
-use Rattle.fill_meet.specs.Ties.{IsTied, IsTie, AreTies, AreRising}
+use Rattle.fill_meet.specs.Ties.{IsTied, IsTie, AreTies, AreOrdered}
 use Rattle.fill_meet.specs.declared.ties.Tie.{Tie}
 use Rattle.fill_meet.proofs.Products.{same_row}
 
@@ -120,7 +120,7 @@ module _ (c d : List Entry) (o : Extends c d) (h w : ℕ) (xs ys : List Edge) (t
         }
 
 -- edges that have their ties' nodes
-pub joined_edges : (c : List Entry) (marks : List Bool) (n : ℕ) (ties : List Tie) (edges : List Edge) → AreRising n ties → AreJoined c marks ties edges → AreEdges n edges
+pub joined_edges : (c : List Entry) (marks : List Bool) (n : ℕ) (ties : List Tie) (edges : List Edge) → AreOrdered n ties → AreJoined c marks ties edges → AreEdges n edges
 joined_edges c marks n ties edges r j =
     record {
       onward = λ k e at.

@@ -1,16 +1,17 @@
 -- The pairs of edges that may have an atom in common: a pair of nodes has the number i * width + j.
-use Rattle.std.specs.Prelude.{◌≡◌, ◌⊎◌, ℕ, ◌+◌, ◌*◌, ◌<◌, ◌≤◌, Bool, List, [], ◌∷◌, ◌++◌, length, set, true, Some, slice_get}
+use Rattle.std.specs.Prelude.{◌≡◌, ◌⊎◌, ℕ, ◌+◌, ◌*◌, ◌<◌, ◌≤◌, List, [], ◌∷◌, ◌++◌, Some, slice_get}
 use Rattle.fill_arena.specs.Contents.{In, SomeIn, EachIn, IsAtomSet}
 use Rattle.fill_arena.specs.Stands.{AtomStands}
 use Rattle.fill_arena.specs.declared.entry.Entry.{Entry}
 use Rattle.fill_arena.specs.declared.entry.Edge.{Edge}
-use Rattle.fill_trim.specs.Marks.{IsMarked}
+use Rattle.fill_meet.specs.Bits.{HasRoom, IsBit, IsPutBit}
+use Rattle.fill_meet.specs.Mates.{AreMates}
 use Rattle.fill_meet.specs.Meet.{AreApart}
-use Rattle.fill_meet.specs.Outs.{AreOuts}
-use Rattle.fill_meet.specs.Product.{ArePairable}
-use Rattle.fill_meet.specs.Tried.{AreTried}
-use Rattle.fill_meet.specs.declared.outs.Outs.{Outs}
-use Rattle.fill_meet.specs.declared.ties.Net.{Net}
+use Rattle.fill_meet.specs.declared.bits.Bits.{Bits}
+use Rattle.fill_meet.specs.declared.index.Index.{Index}
+use Rattle.fill_meet.specs.declared.rows.Rows.{Rows}
+use Rattle.fill_meet.specs.declared.ties.Graphs.{Graphs}
+use Rattle.fill_meet.specs.declared.ties.Sweep.{Sweep}
 use Rattle.fill_meet.specs.declared.ties.Tie.{Tie}
 
 -- the tie of the two edges
@@ -37,43 +38,54 @@ pub record AreTies (c : List Entry) (width : ℕ) (xs ys : List Edge) (ties : Li
   pub sound : EachIn (IsTieOf width xs ys) ties
   pub covers : (x y : Edge) → In x xs → In y ys → IsTied ties (x.from * width + y.from) → IsSettled c width ties x y
 
--- ties that lead on, within the nodes, in the order of their first nodes
-pub record AreRising (nodes : ℕ) (ties : List Tie) : Type 0 where
+-- ties that lead on, within the nodes, those into a node before those out of it
+pub record AreOrdered (nodes : ℕ) (ties : List Tie) : Type 0 where
   pub onward : EachIn (λ t. (t.from < t.to) × (t.to < nodes)) ties
-  pub rising : (j k : ℕ) (t u : Tie) → j < k → slice_get ties j ≡ Some t → slice_get ties k ≡ Some u → t.from ≤ u.from
+  pub ordered : (j k : ℕ) (t u : Tie) → slice_get ties j ≡ Some t → slice_get ties k ≡ Some u → t.to ≡ u.from → j < k
 
 -- the sets of the ties' edges
 abbrev pub NameSets : List Entry → List Tie → Type 0
 NameSets c ties = EachIn (λ t. IsAtomSet c t.left × IsAtomSet c t.right) ties
 
 -- what was done for one pair
-abbrev pub IsTried : List Entry → Edge → Edge → Net → Net → Type 0
-IsTried c x y old new =
-    ((new.ties ≡ old.ties) × (new.reached.items ≡ old.reached.items) × AreApart AtomStands c x.atoms y.atoms) ⊎
-    ((t : Tie) × (new.ties ≡ old.ties ++ t ∷ []) × (new.reached.items ≡ set old.reached.items t.to true) × IsTie old.width x y t)
+abbrev pub IsTried : ℕ → Edge → Edge → Sweep → Sweep → Type 0
+IsTried width x y old new =
+    ((IsBit old.reached x.from y.from → ⊥) × (new.reached ≡ old.reached) × (new.ties ≡ old.ties)) ⊎
+    ((t : Tie) × IsTie width x y t × IsPutBit x.to y.to old.reached new.reached × (new.ties ≡ old.ties ++ t ∷ []))
 
--- the edge at the place comes from the first node of the pair, whose second node is given
-abbrev pub IsOut : List Edge → ℕ → ℕ → ℕ → ℕ → Type 0
-IsOut edges k width node at = (node < width) × ((x : Edge) → slice_get edges k ≡ Some x → at ≡ x.from * width + node)
+-- the tie of an edge of the first graph up to the place k, into a pair of nodes that is reached
+pub record IsFound (xs ys : List Edge) (width k : ℕ) (b : Bits) (t : Tie) : Type 0 where
+  pub left : ℕ
+  pub right : ℕ
+  pub x : Edge
+  pub y : Edge
+  pub low : left ≤ k
+  pub first : slice_get xs left ≡ Some x
+  pub second : slice_get ys right ≡ Some y
+  pub tie : IsTie width x y t
+  pub to : IsBit b x.to y.to
 
--- the edges at the places a and b, between the pair m of nodes and a later one, come before those at k and l out of the pair at
-abbrev pub IsBefore : ℕ → ℕ → ℕ → ℕ → ℕ → ℕ → Type 0
-IsBefore at k l m a b = (m < at) ⊎ ((m ≡ at) × ((a < k) ⊎ ((a ≡ k) × (b < l))))
+-- the ties of the pairs of edges that were gone through: those of edges of the first graph before the place k, and that edge
+-- with those of the second graph at the places of which D says so
+pub record SweptSoFar (c : List Entry) (xs ys : List Edge) (width k : ℕ) (D : ℕ → Type 0) (b : Bits) (ties : List Tie) : Type 0 where
+  pub first : IsBit b 0 0
+  pub found : EachIn (IsFound xs ys width k b) ties
+  pub covers : (a l : ℕ) (x y : Edge) → slice_get xs a ≡ Some x → slice_get ys l ≡ Some y → (a < k) ⊎ ((a ≡ k) × D l) → IsBit b x.from y.from → IsSettled c width ties x y
+  pub ordered : (i j : ℕ) (t u : Tie) → slice_get ties i ≡ Some t → slice_get ties j ≡ Some u → t.to ≡ u.from → i < j
 
--- ties of pairs of edges, up to those of the pair at of nodes and of the edges at k and l
-pub record TiedSoFar (c : List Entry) (xs ys : List Edge) (height width at k l : ℕ) (marks : List Bool) (ties : List Tie) : Type 0 where
-  pub long : length marks ≡ height * width
-  pub marked : (m : ℕ) → m < length marks → IsTied ties m → IsMarked marks m
-  pub sound : EachIn (IsTieOf width xs ys) ties
-  pub low : EachIn (λ t. t.from ≤ at) ties
-  pub rising : AreRising (height * width) ties
-  pub covers : (a b : ℕ) (x y : Edge) → slice_get xs a ≡ Some x → slice_get ys b ≡ Some y → IsBefore at k l (x.from * width + y.from) a b → IsMarked marks (x.from * width + y.from) → IsSettled c width ties x y
+-- the state of the sweep
+pub record SweepState (c : List Entry) (g : Graphs) (k : ℕ) (D : ℕ → Type 0) (s : Sweep) : Type 0 where
+  pub room : HasRoom g.height g.width s.reached
+  pub swept : SweptSoFar c g.xs.now g.ys.now g.width k D s.reached s.ties
 
--- the state of the loops over pairs of nodes and of edges
-pub record TieState (c : List Entry) (xs ys : Outs) (at k l : ℕ) (p : Net) : Type 0 where
-  pub height : ℕ
-  pub able : ArePairable c height p.width xs.edges.now ys.edges.now
-  pub firsts : AreOuts height xs
-  pub seconds : AreOuts p.width ys
-  pub told : AreTried c p.tried
-  pub tied : TiedSoFar c xs.edges.now ys.edges.now height p.width at k l p.reached.items p.ties
+-- an edge whose label is a number of the run before the place p
+abbrev pub IsInRow : List ℕ → List ℕ → ℕ → ℕ → ℕ → Type 0
+IsInRow labels numbers start p b = (q m : ℕ) × (start ≤ q) × (q < p) × (slice_get numbers q ≡ Some m) × (slice_get labels b ≡ Some m)
+
+-- or one before the place l whose label is n
+abbrev pub IsInRowTo : List ℕ → List ℕ → ℕ → ℕ → ℕ → ℕ → ℕ → Type 0
+IsInRowTo labels numbers start p n l b = IsInRow labels numbers start p b ⊎ ((slice_get labels b ≡ Some n) × (b < l))
+
+-- what the mates say is so
+abbrev pub AreMatesKept : List Entry → Index → Rows → Type 0
+AreMatesKept c i r = AreMates c i.places.sets.items r.search.mates

@@ -7,16 +7,21 @@
 #![tactic(auto)]
 
 mod apart;
+mod bits;
 mod copy;
-mod far;
+mod groups;
+mod holders;
+mod index;
+mod labels;
+mod makes;
+mod mates;
 pub mod meet;
 mod memo;
-mod outlines;
-mod outs;
 mod places;
 mod product;
+mod rows;
+mod runs;
 mod sets;
-mod starts;
 mod ties;
 mod tried;
 mod within;

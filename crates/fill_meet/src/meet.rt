@@ -7,6 +7,7 @@ ghost use Rattle.fill_meet.specs.Meet.{IsMeet, NoneInBoth};
 ghost use Rattle.fill_meet.specs.Walked.{IsWalked};
 
 use crate::product::pair_edges;
+use crate::ties::Graphs;
 use fill_arena::{Arena, Edge, GraphId};
 use fill_edge::{Ledger, Steps};
 use fill_text::{List, NoMemory};
@@ -56,7 +57,7 @@ pub fn meet<L: Ledger>(
     }
 }
 
-/// The same, with the sets of the product left in the arena.
+/// The graph that is met, with the sets of the product left in the arena.
 fn meet_uncut<L: Ledger>(
     alloc: Global,
     arena: &mut Arena,
@@ -106,8 +107,13 @@ fn meet_walks(
     let Some(nodes) = height.checked_mul(width) else {
         return Err(NoMemory);
     };
-    let (first, second) = (xs.as_slice(), ys.as_slice());
-    let edges = pair_edges(alloc, arena, height, width, nodes, first, second)?;
+    let graphs = Graphs {
+        height,
+        width,
+        xs: xs.as_slice(),
+        ys: ys.as_slice(),
+    };
+    let edges = pair_edges(alloc, arena, graphs, nodes)?;
     trim(alloc, nodes, edges.as_slice())
 }
 

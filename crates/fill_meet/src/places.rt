@@ -1,5 +1,5 @@
 //! What two sets of places have in common.
-ghost use Rattle.std.specs.Prelude.{◌≡◌, ◌↔◌, ◌++◌, ◌∷◌, [], All, IfOk, IfSome, IsTrue, OnOk, Some, slice_get};
+ghost use Rattle.std.specs.Prelude.{◌≡◌, ◌↔◌, All, IfOk, IfSome, IsTrue, OnOk, Some, slice_get};
 ghost use Rattle.std.specs.List.{AllPairs};
 ghost use Rattle.std.specs.declared.cmp.Ordering.TheVariants.{Less};
 ghost use Rattle.fill_tokens.specs.Place.{place_cmp};
@@ -44,7 +44,7 @@ pub(crate) fn meet_places(
     Ok(made)
 }
 
-/// The same, where the sets are two, and with no table for the pair.
+/// What two different sets of places have in common, with no table for the pair.
 ///
 /// Where the one set has only places of the other, it is what they have in common. An example more mostly leaves a set as
 /// it was.

@@ -3,16 +3,19 @@ ghost use Rattle.std.specs.Prelude.{◌≡◌, ◌<◌, ◌*◌, length, IfOk, O
 ghost use Rattle.fill_arena.specs.Contents.{Extends, IsAtomSet};
 ghost use Rattle.fill_trim.specs.Marks.{spread};
 ghost use Rattle.fill_trim.specs.Trim.{AreEdges};
+ghost use Rattle.fill_meet.specs.Guides.{IsGuide};
 ghost use Rattle.fill_meet.specs.Joins.{AreClosed, AreJoined, AreLive, IsJoinedTo};
 ghost use Rattle.fill_meet.specs.Memory.{IsRight};
 ghost use Rattle.fill_meet.specs.Product.{ArePairable, IsProduct};
 ghost use Rattle.fill_meet.specs.Sets.{AtomSetsMeet};
-ghost use Rattle.fill_meet.specs.Ties.{AreRising, NameSets};
+ghost use Rattle.fill_meet.specs.Ties.{AreOrdered, NameSets};
 
 use crate::apart::are_many;
-use crate::memo::Memo;
-use crate::sets::{make_atoms, meet_atoms};
-use crate::ties::{Tie, find_ties};
+use crate::index::Index;
+use crate::makes::{Guide, make_guided};
+use crate::memo::{Memo, find_atoms, put_atoms};
+use crate::sets::make_atoms;
+use crate::ties::{Graphs, Tie, find_ties};
 use fill_arena::{Arena, AtomSet, Edge};
 use fill_text::{List, NoMemory};
 use std::alloc::Global;
@@ -25,29 +28,31 @@ use std::alloc::Global;
 pub(crate) fn pair_edges(
     alloc: Global,
     arena: &mut Arena,
-    height: usize,
-    width: usize,
+    graphs: Graphs<'_>,
     nodes: usize,
-    xs: &[Edge],
-    ys: &[Edge],
 ) -> Result<List<Edge>, NoMemory>
     requires some { 0 < nodes }
-    requires nodes { nodes ≡ height * width }
-    requires edges { ArePairable arena.old height width xs.now ys.now }
+    requires nodes { nodes ≡ graphs.height * graphs.width }
+    requires edges { ArePairable arena.old graphs.height graphs.width graphs.xs.now graphs.ys.now }
     ensures kept { Extends arena.old arena.new }
-    ensures product { IfOk result (IsProduct arena.new height width xs.now ys.now) }
+    ensures product { IfOk result (IsProduct arena.new graphs.entry.height graphs.entry.width graphs.entry.xs.now graphs.entry.ys.now) }
     ensures edges { IfOk result (AreEdges nodes) }
 {
-    let ties = find_ties(alloc, arena, height, width, nodes, xs, ys)?;
-    let found = ties.as_slice();
+    let index = Index::new(alloc, arena, graphs.ys)?;
+    let net = find_ties(alloc, arena, &index, graphs)?;
+    let found = net.sweep.ties.as_slice();
     let live = leading_to_last(alloc, nodes, found)?;
-    join_ties(alloc, arena, live.as_slice(), found)
+    let guide = Guide {
+        index: &index,
+        mates: &net.rows.search.mates,
+    };
+    join_ties(alloc, arena, guide, live.as_slice(), found)
 }
 
 /// The nodes that lead to the last one, found by a pass from the back.
 fn leading_to_last(alloc: Global, nodes: usize, ties: &[Tie]) -> Result<Vec<bool>, NoMemory>
     requires some { 0 < nodes }
-    requires ties { AreRising nodes ties.now }
+    requires ties { AreOrdered nodes ties.now }
     ensures { IfOk result (λ marks. AreLive nodes ties.now marks.items) }
 {
     let mut marks = vec![in alloc; false; nodes]?;
@@ -58,7 +63,7 @@ fn leading_to_last(alloc: Global, nodes: usize, ties: &[Tie]) -> Result<Vec<bool
 
 /// Marks what leads to a marked node.
 fn spread_back(marks: &mut [bool], ties: &[Tie])
-    requires { AreRising (length marks.old) ties.now }
+    requires { AreOrdered (length marks.old) ties.now }
     ensures { AreClosed ties.now marks.old marks.new }
 {
     let mut i = ties.len();
@@ -84,41 +89,57 @@ fn spread(marks: &mut [bool], from: usize, to: usize)
 fn join_ties(
     alloc: Global,
     arena: &mut Arena,
+    guide: Guide<'_>,
     live: &[bool],
     ties: &[Tie],
 ) -> Result<List<Edge>, NoMemory>
-    requires ties { AreRising (length live.now) ties.now }
+    requires guide { IsGuide arena.old guide }
+    requires ties { AreOrdered (length live.now) ties.now }
     requires sets { NameSets arena.old ties.now }
     ensures kept { Extends arena.old arena.new }
     ensures joined { IfOk result (AreJoined arena.new live.now ties.now) }
 {
     let mut memo = Memo::new(alloc, ties.len())?;
-    let mut edges = List::with_capacity(alloc, ties.len())?;
+    let mut edges = List::with_capacity(alloc, count_live(live, ties))?;
     for i in 0..ties.len() {
         let tie = ties[i];
         if !live[tie.to as usize] {
             continue;
         }
-        join(arena, &mut memo, tie, &mut edges)?;
+        join(arena, &mut memo, guide, tie, &mut edges)?;
     }
     Ok(edges)
+}
+
+/// How many ties lead to a live node.
+fn count_live(live: &[bool], ties: &[Tie]) -> usize {
+    let mut count: usize = 0;
+    for i in 0..ties.len() {
+        let to = ties[i].to as usize;
+        if to < live.len() && live[to] {
+            count = count.saturating_add(1);
+        }
+    }
+    count
 }
 
 /// Puts the tie's edge at the end, if some atom stands in both its sets.
 fn join(
     arena: &mut Arena,
     memo: &mut Memo,
+    guide: Guide<'_>,
     tie: Tie,
     edges: &mut List<Edge>,
 ) -> Result<(), NoMemory>
     requires memo { IsRight arena.old memo.old }
+    requires guide { IsGuide arena.old guide }
     requires first { IsAtomSet arena.old tie.left }
     requires second { IsAtomSet arena.old tie.right }
     ensures kept { Extends arena.old arena.new }
     ensures memo { OnOk result (IsRight arena.new memo.new) }
     ensures joined { OnOk result (IsJoinedTo arena.new tie edges.old edges.new) }
 {
-    let Some(atoms) = edge_atoms(arena, memo, tie.left, tie.right)? else {
+    let Some(atoms) = edge_atoms(arena, memo, guide, tie.left, tie.right)? else {
         return Ok(());
     };
     edges.push(Edge {
@@ -134,10 +155,12 @@ fn join(
 fn edge_atoms(
     arena: &mut Arena,
     memo: &mut Memo,
+    guide: Guide<'_>,
     s: AtomSet,
     t: AtomSet,
 ) -> Result<Option<AtomSet>, NoMemory>
     requires memo { IsRight arena.old memo.old }
+    requires guide { IsGuide arena.old guide }
     requires first { IsAtomSet arena.old s }
     requires second { IsAtomSet arena.old t }
     ensures kept { Extends arena.old arena.new }
@@ -148,8 +171,13 @@ fn edge_atoms(
         arena.keeps_made();
         return Ok(Some(s));
     }
-    if are_many(arena.atoms(s).len(), arena.atoms(t).len()) {
-        return meet_atoms(arena, memo, s, t);
+    if !are_many(arena.atoms(s).len(), arena.atoms(t).len()) {
+        return make_atoms(arena, memo, s, t);
     }
-    make_atoms(arena, memo, s, t)
+    if let Some(made) = find_atoms(&memo.atoms, s, t) {
+        return Ok(made);
+    }
+    let made = make_guided(arena, memo, guide, s, t)?;
+    put_atoms(&mut memo.atoms, s, t, &made)?;
+    Ok(made)
 }

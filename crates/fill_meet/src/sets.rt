@@ -14,7 +14,7 @@ use fill_arena::{Arena, AtomItem, AtomSet, ConditionItem, SelectItem, SourceItem
 use fill_text::{List, NoMemory, Text};
 
 /// How many items sets that were met mostly have. An arena keeps a set's list with the room that it was given.
-const MOSTLY: usize = 1;
+pub(crate) const MOSTLY: usize = 1;
 
 /// The set of the atoms that stand in both sets, or none where there are none.
 #[cycle(meet)]
@@ -43,7 +43,7 @@ pub(crate) fn meet_atoms(
     Ok(made)
 }
 
-/// The same, where the sets are two, and with no table for the pair.
+/// The atoms that two different sets have in common, with no table for the pair.
 #[cycle(meet)]
 pub(crate) fn make_atoms(
     arena: &mut Arena,
@@ -78,7 +78,7 @@ pub(crate) fn make_atoms(
 
 /// Puts at the end what item `i` of the set `of` has in common with each of the others.
 #[cycle(meet)]
-fn meet_atom_row(
+pub(crate) fn meet_atom_row(
     arena: &mut Arena,
     memo: &mut Memo,
     of: AtomSet,
@@ -103,7 +103,7 @@ fn meet_atom_row(
 
 /// What an item of the set `of` has in common with another.
 #[cycle(meet)]
-fn meet_atom_items(
+pub(crate) fn meet_atom_items(
     arena: &mut Arena,
     memo: &mut Memo,
     of: AtomSet,
@@ -454,7 +454,7 @@ fn names_atoms(condition: &ConditionItem) -> bool
 }
 
 /// Puts an item at the end, where there is one.
-fn push_some<T: Drop>(all: &mut List<T>, made: Option<T>) -> Result<(), NoMemory>
+pub(crate) fn push_some<T: Drop>(all: &mut List<T>, made: Option<T>) -> Result<(), NoMemory>
     ensures { OnOk result (MatchOption made (all.new ≡ all.old) (λ z. all.new ≡ all.old ++ z ∷ [])) }
 {
     match made {

@@ -1,21 +1,21 @@
 //! The pairs of edges that may have an atom in common.
-ghost use Rattle.std.specs.Prelude.{◌≡◌, ◌<◌, ◌+◌, ◌*◌, ◌⊎◌, length, slice_get, IfOk, IfSome, IsTrue, OnOk, Some};
-ghost use Rattle.fill_arena.specs.Contents.{IsAtomSet};
-ghost use Rattle.fill_arena.specs.declared.entry.Edge.{Edge as Listed};
-ghost use Rattle.fill_meet.specs.Outlines.{AreOutlines, HasLength, HasOutline};
+ghost use Rattle.std.specs.Prelude.{◌≡◌, ◌<◌, ◌≤◌, ◌+◌, ◌*◌, ◌^◌, ℕ, List, length, IfOk, OnOk};
+ghost use Rattle.fill_arena.specs.Contents.{EachIn, IsAtomSet};
+ghost use Rattle.fill_arena.specs.declared.entry.Entry.{Entry};
+ghost use Rattle.fill_trim.specs.Trim.{AreEdges};
+ghost use Rattle.fill_meet.specs.Bits.{HasRoom, IsPlace};
+ghost use Rattle.fill_meet.specs.Groups.{AreGroups};
+ghost use Rattle.fill_meet.specs.Index.{IsIndex};
+ghost use Rattle.fill_meet.specs.Labels.{AreLabels};
 ghost use Rattle.fill_meet.specs.Product.{ArePairable};
-ghost use Rattle.fill_meet.specs.Seen.{AreSeen, ArePassed};
-ghost use Rattle.fill_meet.specs.Starts.{NodesApart};
-ghost use Rattle.fill_meet.specs.Ties.{AreRising, AreTies, IsOut, IsTried, NameSets, TieState};
-ghost use Rattle.fill_meet.specs.Tried.{AreTried};
-ghost use Rattle.fill_meet.specs.declared.starts.Start.{Start as Begins};
+ghost use Rattle.fill_meet.specs.Rows.{AreRows};
+ghost use Rattle.fill_meet.specs.Ties.{AreMatesKept, AreOrdered, AreTies, IsInRow, IsInRowTo, IsTried, NameSets, SweepState};
 
-use crate::apart::may_meet;
-use crate::far::{far_length, see};
-use crate::outlines::{NONE_WANTED, Outline, are_told_apart, constant_length};
-use crate::outs::Outs;
-use crate::starts::begin_apart;
-use crate::tried::Tried;
+use crate::bits::Bits;
+use crate::index::Index;
+use crate::labels::Labels;
+use crate::rows::Rows;
+use crate::runs::Run;
 use fill_arena::{Arena, AtomSet, Edge};
 use fill_text::{List, NoMemory};
 use std::alloc::Global;
@@ -31,224 +31,169 @@ pub(crate) struct Tie {
     pub(crate) right: AtomSet,
 }
 
-/// The ties that were found, and for each pair of nodes whether node 0 or a tie leads to it.
-#[derive(Drop)]
-pub(crate) struct Net {
+/// Two graphs: how many nodes each has, and its edges.
+#[derive(Clone, Copy)]
+pub(crate) struct Graphs<'a> {
+    pub(crate) height: usize,
     pub(crate) width: usize,
-    pub(crate) reached: Vec<bool>,
-    pub(crate) ties: List<Tie>,
-    pub(crate) tried: Tried,
+    pub(crate) xs: &'a [Edge],
+    pub(crate) ys: &'a [Edge],
 }
 
-/// The ties between pairs of nodes, as far as they lead from the first pair.
+/// The ties so far, and for each pair of nodes whether something leads to it.
+#[derive(Drop)]
+pub(crate) struct Sweep {
+    pub(crate) reached: Bits,
+    pub(crate) ties: List<Tie>,
+}
+
+/// The ties of two graphs, and the rows by which they were found.
+#[derive(Drop)]
+pub(crate) struct Net {
+    pub(crate) sweep: Sweep,
+    pub(crate) rows: Rows,
+}
+
+/// The ties between pairs of nodes to which something leads from the first pair.
 ///
-/// A tie leads to a greater pair, so what leads to a pair is known once its turn comes, and what nothing leads to costs
-/// nothing more.
+/// The edges into a node stand before those out of it, so what leads to a pair of nodes is known once an edge of the first
+/// graph comes from there.
 pub(crate) fn find_ties(
     alloc: Global,
     arena: &Arena,
-    height: usize,
-    width: usize,
-    nodes: usize,
-    xs: &[Edge],
-    ys: &[Edge],
-) -> Result<List<Tie>, NoMemory>
-    requires some { 0 < nodes }
-    requires nodes { nodes ≡ height * width }
-    requires edges { ArePairable arena.now height width xs.now ys.now }
-    ensures ties { IfOk result (AreTies arena.now width xs.now ys.now) }
-    ensures rising { IfOk result (AreRising nodes) }
-    ensures sets { IfOk result (NameSets arena.now) }
+    index: &Index,
+    graphs: Graphs<'_>,
+) -> Result<Net, NoMemory>
+    requires some { 0 < graphs.height * graphs.width }
+    requires nodes { graphs.height * graphs.width < 2 ^ 64 }
+    requires edges { ArePairable arena.now graphs.height graphs.width graphs.xs.now graphs.ys.now }
+    requires index { IsIndex arena.now graphs.ys.now index.now }
+    ensures ties { IfOk result (λ net. AreTies arena.now graphs.entry.width graphs.entry.xs.now graphs.entry.ys.now net.sweep.ties) }
+    ensures ordered { IfOk result (λ net. AreOrdered (graphs.entry.height * graphs.entry.width) net.sweep.ties) }
+    ensures sets { IfOk result (λ net. NameSets arena.now net.sweep.ties) }
+    ensures rows { IfOk result (λ net. AreMatesKept arena.now index.now net.rows) }
 {
-    let firsts = Outs::new(alloc, arena, height, xs)?;
-    let seconds = Outs::new(alloc, arena, width, ys)?;
-    let mut reached = vec![in alloc; false; nodes]?;
-    reached[0] = true;
-    let mut seen = vec![in alloc; 0; ys.len()]?;
-    let room = seen.as_mut_slice();
-    let tried = Tried::new(alloc, nodes, xs.len().saturating_add(ys.len()))?;
-    let ties = List::with_capacity(alloc, xs.len())?;
-    let mut net = Net {
-        width,
+    let labels = Labels::new(alloc, graphs.xs)?;
+    let mut reached = Bits::new(alloc, graphs.height, graphs.width)?;
+    reached.put(0, 0);
+    let sweep = Sweep {
         reached,
-        ties,
-        tried,
+        ties: List::new(alloc),
     };
-    for at in 0..nodes {
-        if !net.reached[at] {
-            continue;
-        }
-        tie_nodes(arena, &firsts, &seconds, at, room, &mut net)?;
+    let rows = Rows::new(alloc, index, labels.sets.len())?;
+    let mut net = Net { sweep, rows };
+    for k in 0..graphs.xs.len() {
+        tie_edge(arena, index, graphs, &labels, k, &mut net)?;
     }
-    Ok(net.ties)
+    Ok(net)
 }
 
-/// Ties the edges out of the first node of the pair with those out of the second. There is room for the lengths of the
-/// second graph's edges.
-fn tie_nodes(
+/// Ties the edge at place `k` of the first graph with those whose sets are in the row of its set, if something leads to its
+/// first node.
+fn tie_edge(
     arena: &Arena,
-    xs: &Outs<'_>,
-    ys: &Outs<'_>,
-    at: usize,
-    seen: &mut [usize],
-    net: &mut Net,
-) -> Result<(), NoMemory>
-    requires firsts { AreOutlines arena.now xs.now.edges.now xs.now.outlines.items }
-    requires seconds { AreOutlines arena.now ys.now.edges.now ys.now.outlines.items }
-    requires wide { 0 < net.old.width }
-    requires within { at < length net.old.reached.items }
-    requires seen { length seen.old ≡ length ys.now.edges.now }
-    requires state { TieState arena.now xs.now ys.now at 0 0 net.old }
-    ensures seen { length seen.new ≡ length seen.old }
-    ensures state { OnOk result (TieState arena.now xs.now ys.now (at + 1) 0 0 net.new) }
-    ensures width { OnOk result (net.new.width ≡ net.old.width) }
-    ensures long { OnOk result (length net.new.reached.items ≡ length net.old.reached.items) }
-{
-    let first = at / net.width;
-    let node = at % net.width;
-    see(arena, &net.tried, &xs.start(first), ys, node, seen);
-    let mut apart = false;
-    let mut k = xs.first(first);
-    while k < xs.edges.len() {
-        let recent = net.tried.recent.as_slice();
-        apart = begin_apart(apart, recent, at, xs.start(first), ys.start(node));
-        tie_out(arena, xs, k, ys, node, at, apart, seen, net)?;
-        k = xs.next(k);
-    }
-    Ok(())
-}
-
-/// Ties the edge at place `k` of the first graph with those out of a node of the second.
-///
-/// Where pieces out of both nodes begin apart, only constants of one length may be on both edges, so most edges of the
-/// second graph are passed over. An edge without an outline passes over those that have one.
-fn tie_out(
-    arena: &Arena,
-    xs: &Outs<'_>,
+    index: &Index,
+    graphs: Graphs<'_>,
+    labels: &Labels,
     k: usize,
-    ys: &Outs<'_>,
-    node: usize,
-    at: usize,
-    apart: bool,
-    seen: &[usize],
     net: &mut Net,
 ) -> Result<(), NoMemory>
-    requires firsts { AreOutlines arena.now xs.now.edges.now xs.now.outlines.items }
-    requires seconds { AreOutlines arena.now ys.now.edges.now ys.now.outlines.items }
-    requires within { k < length xs.now.edges.now }
-    requires from { IsOut xs.now.edges.now k net.old.width node at }
-    requires apart { IsTrue apart → (x : Listed) → slice_get xs.now.edges.now k ≡ Some x → NodesApart arena.now xs.now.starts.items ys.now.starts.items x.from node }
-    requires long { length seen.now ≡ length ys.now.edges.now }
-    requires seen { (x : Listed) (s : Begins) → slice_get xs.now.edges.now k ≡ Some x → slice_get xs.now.starts.items x.from ≡ Some s → AreSeen arena.now s ys.now node seen.now }
-    requires state { TieState arena.now xs.now ys.now at k 0 net.old }
-    ensures state { OnOk result (TieState arena.now xs.now ys.now at (k + 1) 0 net.new) }
-    ensures width { OnOk result (net.new.width ≡ net.old.width) }
-    ensures long { OnOk result (length net.new.reached.items ≡ length net.old.reached.items) }
+    requires nodes { graphs.height * graphs.width < 2 ^ 64 }
+    requires edges { ArePairable arena.now graphs.height graphs.width graphs.xs.now graphs.ys.now }
+    requires index { IsIndex arena.now graphs.ys.now index.now }
+    requires labels { AreLabels graphs.xs.now labels.now }
+    requires sets { EachIn (IsAtomSet arena.now) labels.now.sets.items }
+    requires within { k < length graphs.xs.now }
+    requires long { length net.old.rows.known.items ≡ length labels.now.sets.items }
+    requires rows { AreRows arena.now labels.now.sets.items index.now net.old.rows }
+    requires state { SweepState arena.now graphs k (λ b. ⊥) net.old.sweep }
+    ensures long { OnOk result (length net.new.rows.known.items ≡ length labels.now.sets.items) }
+    ensures rows { OnOk result (AreRows arena.now labels.now.sets.items index.now net.new.rows) }
+    ensures state { OnOk result (SweepState arena.now graphs.entry (k + 1) (λ b. ⊥) net.new.sweep) }
 {
-    if xs.outline(k).is_none() {
-        let wanted = far_length(arena, &net.tried, &ys.start(node), xs.edges[k].atoms);
-        return tie_row(
-            arena,
-            xs,
-            k,
-            ys,
-            node,
-            at,
-            ys.lengths.as_slice(),
-            wanted,
-            net,
-        );
+    if !net.sweep.reached.has_some(graphs.xs[k].from) {
+        return Ok(());
     }
-    let wanted = wanted_length(apart, xs.outline(k));
-    tie_row(arena, xs, k, ys, node, at, seen, wanted, net)
+    let firsts = labels.sets.as_slice();
+    let row = net.rows.row_of(arena, index, firsts, labels.of[k])?;
+    let numbers = net.rows.search.found.rows.numbers.as_slice();
+    tie_row(index, graphs, k, numbers, row, &mut net.sweep)
 }
 
-/// The length of the outline's constant, where pieces begin apart, or 0.
-fn wanted_length(apart: bool, outline: Option<Outline>) -> usize
-    ensures told { (result ≡ 0 → ⊥) → IsTrue apart }
-    ensures length { HasLength outline result ⊎ (result ≡ 0) }
-{
-    if !apart {
-        return 0;
-    }
-    constant_length(outline, NONE_WANTED)
-}
-
-/// Ties the edge at place `k` of the first graph with those out of a node of the second that have the wanted length, or the
-/// length 0.
+/// Ties the edge at place `k` of the first graph with those whose sets are in the run.
 fn tie_row(
-    arena: &Arena,
-    xs: &Outs<'_>,
+    index: &Index,
+    graphs: Graphs<'_>,
     k: usize,
-    ys: &Outs<'_>,
-    node: usize,
-    at: usize,
-    lengths: &[usize],
-    wanted: usize,
-    net: &mut Net,
+    numbers: &[usize],
+    row: Run,
+    sweep: &mut Sweep,
 ) -> Result<(), NoMemory>
-    requires firsts { AreOutlines arena.now xs.now.edges.now xs.now.outlines.items }
-    requires seconds { AreOutlines arena.now ys.now.edges.now ys.now.outlines.items }
-    requires within { k < length xs.now.edges.now }
-    requires from { IsOut xs.now.edges.now k net.old.width node at }
-    requires lengths { length lengths.now ≡ length ys.now.edges.now }
-    requires passed { ArePassed arena.now xs.now.edges.now ys.now.edges.now k node lengths.now wanted }
-    requires state { TieState arena.now xs.now ys.now at k 0 net.old }
-    ensures state { OnOk result (TieState arena.now xs.now ys.now at (k + 1) 0 net.new) }
-    ensures width { OnOk result (net.new.width ≡ net.old.width) }
-    ensures long { OnOk result (length net.new.reached.items ≡ length net.old.reached.items) }
+    requires nodes { graphs.height * graphs.width < 2 ^ 64 }
+    requires first { AreEdges graphs.height graphs.xs.now }
+    requires second { AreEdges graphs.width graphs.ys.now }
+    requires by_label { AreGroups index.now.labels.of.items index.now.by_label }
+    requires long { length index.now.labels.of.items ≡ length graphs.ys.now }
+    requires order { row.start ≤ row.end }
+    requires row { row.end ≤ length numbers.now }
+    requires within { k < length graphs.xs.now }
+    requires room { HasRoom graphs.height graphs.width sweep.old.reached }
+    ensures state { OnOk result ((c : List Entry) → SweepState c graphs.entry k (λ b. ⊥) sweep.old → SweepState c graphs.entry k (IsInRow index.now.labels.of.items numbers.now row.start row.end) sweep.new) }
 {
-    let mut l = ys.seek(lengths, ys.first(node), wanted);
-    while l < ys.edges.len() {
-        tie_edges(
-            arena,
-            xs.edges[k],
-            ys.edges[l],
-            xs.outline(k),
-            ys.outline(l),
-            net,
-        )?;
-        l = ys.seek(lengths, ys.next(l), wanted);
+    for p in row.start..row.end {
+        tie_set(index, graphs, k, numbers[p], sweep)?;
     }
     Ok(())
 }
 
-/// Ties two edges, if they may have an atom in common. Their sets have the given outlines.
-fn tie_edges(
-    arena: &Arena,
-    x: Edge,
-    y: Edge,
-    first: Option<Outline>,
-    second: Option<Outline>,
-    net: &mut Net,
+/// Ties the edge at place `k` of the first graph with those of the set of the number.
+fn tie_set(
+    index: &Index,
+    graphs: Graphs<'_>,
+    k: usize,
+    number: usize,
+    sweep: &mut Sweep,
 ) -> Result<(), NoMemory>
-    requires tried { AreTried arena.now net.old.tried }
-    requires first { IsAtomSet arena.now x.atoms }
-    requires second { IsAtomSet arena.now y.atoms }
-    requires first_outline { IfSome first (HasOutline arena.now x.atoms) }
-    requires second_outline { IfSome second (HasOutline arena.now y.atoms) }
-    requires from { x.from * net.old.width + y.from < length net.old.reached.items }
-    requires to { x.to * net.old.width + y.to < length net.old.reached.items }
-    ensures tried { OnOk result (AreTried arena.now net.new.tried) }
-    ensures width { OnOk result (net.new.width ≡ net.old.width) }
-    ensures tied { OnOk result (IsTried arena.now x y net.old net.new) }
+    requires nodes { graphs.height * graphs.width < 2 ^ 64 }
+    requires first { AreEdges graphs.height graphs.xs.now }
+    requires second { AreEdges graphs.width graphs.ys.now }
+    requires by_label { AreGroups index.now.labels.of.items index.now.by_label }
+    requires long { length index.now.labels.of.items ≡ length graphs.ys.now }
+    requires within { k < length graphs.xs.now }
+    requires room { HasRoom graphs.height graphs.width sweep.old.reached }
+    ensures state { OnOk result ((c : List Entry) (numbers : List ℕ) (start p : ℕ) → SweepState c graphs.entry k (IsInRowTo index.now.labels.of.items numbers start p number 0) sweep.old →
+        SweepState c graphs.entry k (IsInRowTo index.now.labels.of.items numbers start p number (length graphs.entry.ys.now)) sweep.new) }
+    ensures room { OnOk result (HasRoom graphs.entry.height graphs.entry.width sweep.new.reached) }
 {
-    let from = x.from * net.width + y.from;
-    let to = x.to * net.width + y.to;
-    if are_told_apart(net.tried.recent.as_slice(), from, to, first, second) {
+    let xs = graphs.xs;
+    let ys = graphs.ys;
+    let mut l = index.by_label.first(number);
+    while l < ys.len() {
+        tie_edges(graphs.width, xs[k], ys[l], sweep)?;
+        l = index.by_label.next(l);
+    }
+    Ok(())
+}
+
+/// Ties two edges, if something leads to their first pair of nodes.
+fn tie_edges(width: usize, x: Edge, y: Edge, sweep: &mut Sweep) -> Result<(), NoMemory>
+    requires first { IsPlace x.from y.from sweep.old.reached }
+    requires second { IsPlace x.to y.to sweep.old.reached }
+    requires from { x.from * width + y.from < 2 ^ 64 }
+    requires to { x.to * width + y.to < 2 ^ 64 }
+    ensures { OnOk result (IsTried width x y sweep.old sweep.new) }
+{
+    if !sweep.reached.has(x.from, y.from) {
         return Ok(());
     }
     let tie = Tie {
-        from: pair_number(from)?,
-        to: pair_number(to)?,
+        from: pair_number(x.from * width + y.from)?,
+        to: pair_number(x.to * width + y.to)?,
         left: x.atoms,
         right: y.atoms,
     };
-    if !may_meet(arena, &mut net.tried, &tie)? {
-        return Ok(());
-    }
-    net.ties.push(tie)?;
-    net.reached[to] = true;
+    sweep.ties.push(tie)?;
+    sweep.reached.put(x.to, y.to);
     Ok(())
 }
 

@@ -4,19 +4,15 @@ ghost use Rattle.std.specs.HashMap.{get, Updates};
 ghost use Rattle.fill_arena.specs.Contents.{EachIn, In};
 ghost use Rattle.fill_arena.specs.declared.entry.Entry.{Entry};
 ghost use Rattle.fill_meet.specs.Memory.{pair_eq};
-ghost use Rattle.fill_meet.specs.Tried.{AreTried};
+ghost use Rattle.fill_meet.specs.Tried.{AreTried, SourcesTried};
 
-use fill_arena::{AtomSet, PlaceSet, SourceSet};
+use fill_arena::{PlaceSet, SourceSet};
 use fill_text::NoMemory;
 use std::alloc::Global;
 use std::collections::HashMap;
 
 /// The most slots of a table. It is even, as `SETS_AN_EDGE` is, because the two slots of a pair are neighbours.
 pub(crate) const MOST: usize = 262_144;
-
-/// The slots of a table for each edge. With as many for each pair of nodes, a table takes longer to clear than most small
-/// graphs take to meet.
-const SETS_AN_EDGE: usize = 4;
 
 /// What was told of a pair of sets of places: whether they may have something in common, or, in a table of its own, whether
 /// each place of the first one stands in the second one.
@@ -27,29 +23,32 @@ pub(crate) struct Told {
     pub(crate) may: bool,
 }
 
-/// For each pair of sets that was tried, whether they may have something in common.
-///
-/// Of sets of places a table has two slots for each pair; the last answer at a pair of nodes is kept apart, since what is
-/// asked there is mostly the same. An answer that gave way to another is found again.
+/// For each pair of sets of sources that was tried, whether they may have something in common.
 #[derive(Drop)]
 pub(crate) struct Tried {
-    pub(crate) recent: Vec<Option<Told>>,
-    pub(crate) places: Vec<Option<Told>>,
+    pub(crate) alloc: Global,
     pub(crate) sources: HashMap<(SourceSet, SourceSet), bool>,
-    pub(crate) atoms: HashMap<(AtomSet, AtomSet), bool>,
 }
 
 impl Tried {
-    /// Tables that tell nothing yet, with room for the answers at so many pairs of nodes and of so many edges.
-    pub(crate) fn new(alloc: Global, nodes: usize, edges: usize) -> Result<Tried, NoMemory>
-        ensures { IfOk result (λ tried. (c : List Entry) → AreTried c tried) }
+    /// A table that tells nothing yet.
+    pub(crate) fn new(alloc: Global) -> Tried
+        ensures { (c : List Entry) → AreTried c result }
     {
-        Ok(Tried {
-            recent: blanks(alloc, nodes.min(MOST))?,
-            places: blanks(alloc, edges.saturating_mul(SETS_AN_EDGE).min(MOST))?,
+        Tried {
+            alloc,
             sources: HashMap::new(alloc),
-            atoms: HashMap::new(alloc),
-        })
+        }
+    }
+
+    /// Keeps what was told of the pair. Where there is no room for it, all is forgotten.
+    pub(crate) fn keep(&mut self, s: SourceSet, t: SourceSet, may: bool)
+        ensures { (c : List Entry) → AreTried c self.old → SourcesTried c s t may → AreTried c self.new }
+    {
+        match tell_sources(&mut self.sources, s, t, may) {
+            Ok(()) => {}
+            Err(NoMemory) => self.sources = HashMap::new(self.alloc),
+        }
     }
 }
 
@@ -142,38 +141,10 @@ pub(crate) fn told_sources(
     }
 }
 
-pub(crate) fn tell_sources(
+fn tell_sources(
     table: &mut HashMap<(SourceSet, SourceSet), bool>,
     s: SourceSet,
     t: SourceSet,
-    may: bool,
-) -> Result<(), NoMemory>
-    ensures { OnOk result (Updates pair_eq table.old table.new (s, t) (Some may)) }
-{
-    match table.insert((s, t), may) {
-        Ok(_) => Ok(()),
-        Err(_) => Err(NoMemory),
-    }
-}
-
-/// What was told of the pair.
-pub(crate) fn told_atoms(
-    table: &HashMap<(AtomSet, AtomSet), bool>,
-    s: AtomSet,
-    t: AtomSet,
-) -> Option<bool>
-    ensures { IfSome result (λ may. get pair_eq table.now (s, t) ≡ Some may) }
-{
-    match table.get(&(s, t)) {
-        Some(may) => Some(*may),
-        None => None,
-    }
-}
-
-pub(crate) fn tell_atoms(
-    table: &mut HashMap<(AtomSet, AtomSet), bool>,
-    s: AtomSet,
-    t: AtomSet,
     may: bool,
 ) -> Result<(), NoMemory>
     ensures { OnOk result (Updates pair_eq table.old table.new (s, t) (Some may)) }

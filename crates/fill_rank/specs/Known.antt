@@ -7,7 +7,7 @@ use Rattle.fill_tokens.specs.declared.prices.Prices.{Prices}
 use Rattle.fill_tree.specs.Meaning.{atom_tree, source_tree}
 use Rattle.fill_tree.specs.declared.tree.Atom.{Atom}
 use Rattle.fill_tree.specs.declared.tree.Source.{Source}
-use Rattle.fill_arena.specs.Stands.{PlaceStands, SourceStands}
+use Rattle.fill_arena.specs.Stands.{AtomStands, PlaceStands, SourceStands}
 use Rattle.fill_arena.specs.declared.entry.Entry.{Entry}
 use Rattle.fill_rank.specs.Rank.{IsBest, IsBestOf, place_rank, source_rank, atom_rank}
 use Rattle.fill_rank.specs.Sets.{PartStands}
@@ -18,3 +18,4 @@ pub record AreKnown (prices : Prices) (c : List Entry) (known : Known) : Type 0 
   pub places : (s : ℕ) (p : Place) → get nat_eq known.places s ≡ Some p → IsBest (place_rank prices) (PlaceStands c s) p
   pub sources : (s : ℕ) (x : Source) → get nat_eq known.sources s ≡ Some x → IsBest (source_rank prices) (SourceStands c s) (source_tree x)
   pub parts : (s : ℕ) (o : Option Atom) → get nat_eq known.parts s ≡ Some o → IsBestOf atom_tree (atom_rank prices) (PartStands c s) o
+  pub atoms : (s : ℕ) (a : Atom) → get nat_eq known.atoms s ≡ Some a → IsBest (atom_rank prices) (AtomStands c s) (atom_tree a)

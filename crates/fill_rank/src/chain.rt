@@ -1,5 +1,5 @@
 //! Chains of atoms with what they cost: rows of conditions, and the ends of programs.
-ghost use Rattle.std.specs.Prelude.{◌≡◌, ◌+◌, ◌<◌, ◌^◌, ◌↔◌, IsTrue, IfOk};
+ghost use Rattle.std.specs.Prelude.{◌≡◌, ◌+◌, ◌<◌, ◌↔◌, IsTrue, IfOk};
 ghost use Rattle.std.specs.declared.cmp.Ordering.TheVariants.{Less};
 ghost use Rattle.fill_tree.specs.Cost.{condition_cost};
 ghost use Rattle.fill_tree.specs.Meaning.{atom_tree, program_tree};

@@ -4,7 +4,7 @@ ghost use Rattle.std.specs.Bool.{nat_eq};
 ghost use Rattle.std.specs.HashMap.{get};
 ghost use Rattle.fill_tokens.specs.declared.prices.Prices.{Prices};
 ghost use Rattle.fill_tree.specs.Meaning.{atom_tree, source_tree};
-ghost use Rattle.fill_arena.specs.Stands.{PlaceStands, SourceStands};
+ghost use Rattle.fill_arena.specs.Stands.{AtomStands, PlaceStands, SourceStands};
 ghost use Rattle.fill_arena.specs.declared.entry.Entry.{Entry};
 ghost use Rattle.fill_rank.specs.Known.{AreKnown};
 ghost use Rattle.fill_rank.specs.Rank.{IsBest, IsBestOf, atom_rank, place_rank, source_rank};
@@ -17,12 +17,13 @@ use fill_tree::{Atom, Source};
 use std::alloc::Global;
 use std::collections::HashMap;
 
-/// The best of sets: of a set of atoms the best that is no constant, if any.
+/// The best of sets: of a set of atoms the best, and the best that is no constant, if any.
 #[derive(Drop)]
 pub(crate) struct Known {
     places: HashMap<PlaceSet, Place>,
     sources: HashMap<SourceSet, Source>,
     parts: HashMap<AtomSet, Option<Atom>>,
+    atoms: HashMap<AtomSet, Atom>,
 }
 
 impl Known {
@@ -33,6 +34,7 @@ impl Known {
             places: HashMap::new(alloc),
             sources: HashMap::new(alloc),
             parts: HashMap::new(alloc),
+            atoms: HashMap::new(alloc),
         }
     }
 
@@ -55,6 +57,13 @@ impl Known {
         ensures found { option_copied result ≡ get nat_eq self.now.parts s }
     {
         self.parts.get(&s)
+    }
+
+    pub fn atom(&self, s: AtomSet) -> Option<&Atom>
+        ensures right { (prices : Prices) (c : Items Entry) → AreKnown prices c self.now → IfSome result (λ a. IsBest (atom_rank prices) (AtomStands c s) (atom_tree a.now)) }
+        ensures found { option_copied result ≡ get nat_eq self.now.atoms s }
+    {
+        self.atoms.get(&s)
     }
 
     pub fn keep_place(&mut self, s: PlaceSet, p: &Place) -> Result<(), NoMemory>
@@ -82,6 +91,16 @@ impl Known {
         ensures there { OnOk result (get nat_eq self.new.parts s ≡ Some o) }
     {
         match self.parts.insert(s, o) {
+            Ok(_) => Ok(()),
+            Err(_) => Err(NoMemory),
+        }
+    }
+
+    pub fn keep_atom(&mut self, s: AtomSet, a: Atom) -> Result<(), NoMemory>
+        ensures kept { OnOk result ((prices : Prices) (c : Items Entry) → AreKnown prices c self.old → IsBest (atom_rank prices) (AtomStands c s) (atom_tree a) → AreKnown prices c self.new) }
+        ensures there { OnOk result (get nat_eq self.new.atoms s ≡ Some a) }
+    {
+        match self.atoms.insert(s, a) {
             Ok(_) => Ok(()),
             Err(_) => Err(NoMemory),
         }

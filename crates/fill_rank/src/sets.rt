@@ -306,27 +306,8 @@ fn constant_of(prices: &Prices, arena: &Arena, s: AtomSet) -> Result<Option<Atom
     Ok(best)
 }
 
-/// The same, kept only where the set has many items: a graph has many sets of few, and most of them on one edge.
-fn edge_part(
-    alloc: Global,
-    prices: &Prices,
-    arena: &Arena,
-    known: &mut Known,
-    s: AtomSet,
-) -> Result<Option<Atom>, NoMemory>
-    requires set { IsAtomSet arena.now s }
-    requires known { AreKnown prices.now arena.now known.old }
-    ensures known { OnOk result (AreKnown prices.now arena.now known.new) }
-    ensures best { IfOk result (λ o. IsBestOf atom_tree (atom_rank prices.now) (PartStands arena.now s) o) }
-{
-    if arena.atoms(s).len() > FEW_ITEMS {
-        return part_of(alloc, prices, arena, known, s);
-    }
-    scan_parts(alloc, prices, arena, known, s)
-}
-
-/// The best atom of a set.
-pub(crate) fn atom_of(
+/// The best atom of a set, looked for among all of its items.
+fn scan_atoms(
     alloc: Global,
     prices: &Prices,
     arena: &Arena,
@@ -341,9 +322,35 @@ pub(crate) fn atom_of(
     arena.keeps_made();
     prices.keep_small();
     let constant = constant_of(prices, arena, s)?;
-    let part = edge_part(alloc, prices, arena, known, s)?;
+    let part = scan_parts(alloc, prices, arena, known, s)?;
     let Some(atom) = lesser_atom(prices, constant, part) else {
         unreachable!()
     };
     Ok(atom)
+}
+
+/// The best atom of a set.
+///
+/// It is kept only where the set has many items: a graph has many sets of few, and most of them on one edge.
+pub(crate) fn atom_of(
+    alloc: Global,
+    prices: &Prices,
+    arena: &Arena,
+    known: &mut Known,
+    s: AtomSet,
+) -> Result<Atom, NoMemory>
+    requires set { IsAtomSet arena.now s }
+    requires known { AreKnown prices.now arena.now known.old }
+    ensures known { OnOk result (AreKnown prices.now arena.now known.new) }
+    ensures best { IfOk result (λ a. IsBest (atom_rank prices.now) (AtomStands arena.now s) (atom_tree a)) }
+{
+    if arena.atoms(s).len() <= FEW_ITEMS {
+        return scan_atoms(alloc, prices, arena, known, s);
+    }
+    if let Some(found) = known.atom(s) {
+        return found.copy(alloc);
+    }
+    let best = scan_atoms(alloc, prices, arena, known, s)?;
+    known.keep_atom(s, best.copy(alloc)?)?;
+    Ok(best)
 }

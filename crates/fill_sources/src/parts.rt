@@ -1,7 +1,7 @@
 //! The atoms that are no constants and give a text: whole known texts, and pieces of them between places.
 //!
 //! The sources of a depth are made of parts of the depth before, so the way down ends.
-ghost use Rattle.std.specs.Prelude.{◌≡◌, ℕ, ◌+◌, ◌<◌, ◌≤◌, List as Listed, [], length, Some, slice_get, IfOk, OnOk};
+ghost use Rattle.std.specs.Prelude.{◌≡◌, ℕ, ◌+◌, ◌<◌, ◌≤◌, List as Listed, [], Some, slice_get, IfOk, OnOk};
 ghost use Rattle.fill_arena.specs.Contents.{EachIn, Extends};
 ghost use Rattle.fill_arena.specs.declared.entry.Entry.{Entry};
 ghost use Rattle.fill_sources.specs.Gives.{AreSourcesOf, at_depth};

@@ -1,5 +1,5 @@
 //! Where characters stand in the known texts.
-ghost use Rattle.std.specs.Prelude.{◌≡◌, ◌↔◌, ◌<◌, ◌≤◌, ℕ, List as Listed, length, map, Some, slice_get, IfOk, OnOk};
+ghost use Rattle.std.specs.Prelude.{◌↔◌, ◌<◌, IfOk, OnOk};
 ghost use Rattle.fill_arena.specs.Contents.{In};
 ghost use Rattle.fill_sources.specs.Origins.{texts_in};
 ghost use Rattle.fill_sources.specs.Readers.{GainsSpots, StandsAt, StandsIn};

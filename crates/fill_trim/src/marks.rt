@@ -1,5 +1,5 @@
 //! Marks of the nodes that lie on walks.
-ghost use Rattle.std.specs.Prelude.{◌≡◌, ◌<◌, ◌-◌, ◌↔◌, ℕ, length, Some, slice_get, IfOk};
+ghost use Rattle.std.specs.Prelude.{◌≡◌, ◌<◌, ◌-◌, ◌↔◌, ℕ, length, IfOk};
 ghost use Rattle.fill_arena.specs.declared.entry.Edge.{Edge};
 ghost use Rattle.fill_trim.specs.Marks.{AreMarks, IsMarked, Leads, spread};
 ghost use Rattle.fill_trim.specs.Trim.{AreEdges};

@@ -1,5 +1,5 @@
 //! Taking out the nodes that lie on no walk.
-ghost use Rattle.std.specs.Prelude.{◌≡◌, ◌<◌, ◌++◌, [], ◌∷◌, length, Some, slice_get, IfOk, OnOk, MatchOption};
+ghost use Rattle.std.specs.Prelude.{◌≡◌, ◌<◌, ◌++◌, [], ◌∷◌, length, Some, IfOk, OnOk, MatchOption};
 ghost use Rattle.fill_arena.specs.Contents.{EachIn};
 ghost use Rattle.fill_arena.specs.declared.entry.Edge.{Edge};
 ghost use Rattle.fill_trim.specs.Marks.{AreRanks, HasNoWalk, edges_left, rank};

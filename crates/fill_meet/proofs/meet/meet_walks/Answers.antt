@@ -13,9 +13,9 @@ pair_edges-requires-clause-some c =
 
 pub pair_edges-requires-clause-edges : goal.pair_edges-requires-clause-edges
 pair_edges-requires-clause-edges c =
-    let ha = subst (λ l. slice_get c.args.arena.now c.args.a ≡ Some (Graph c.nodes-height.result l)) (sym c.as_slice-first.ensures)
+    let ha = subst (λ l. slice_get c.args.arena.now c.args.a ≡ Some (Graph c.nodes-height.result l)) (sym c.as_slice.ensures)
     (graph_is c.args.arena.now c.args.a c.nodes-height.result c.in_ok-xs.xs c.nodes-height.ensures c.in_ok-xs.ensures) in
-    let hb = subst (λ l. slice_get c.args.arena.now c.args.b ≡ Some (Graph c.nodes-width.result l)) (sym c.as_slice-second.ensures)
+    let hb = subst (λ l. slice_get c.args.arena.now c.args.b ≡ Some (Graph c.nodes-width.result l)) (sym c.as_slice-2.ensures)
     (graph_is c.args.arena.now c.args.b c.nodes-width.result c.in_ok-ys.ys c.nodes-width.ensures c.in_ok-ys.ensures) in
     are_pairable c.args.arena.now c.args.a c.args.b _ _ _ _ c.keeps_made.ensures ha hb
 
@@ -28,10 +28,10 @@ trim-requires-clause-some c =
 
 pub returns-clause-met : goal.returns-clause-met
 returns-clause-met c =
-    let ha = subst (λ l. slice_get c.args.arena.now c.args.a ≡ Some (Graph c.nodes-height.result l)) (sym c.as_slice-first.ensures)
+    let ha = subst (λ l. slice_get c.args.arena.now c.args.a ≡ Some (Graph c.nodes-height.result l)) (sym c.as_slice.ensures)
     (graph_is c.args.arena.now c.args.a c.nodes-height.result c.in_ok-xs.xs c.nodes-height.ensures c.in_ok-xs.ensures) in
-    let hb = subst (λ l. slice_get c.args.arena.now c.args.b ≡ Some (Graph c.nodes-width.result l)) (sym c.as_slice-second.ensures)
+    let hb = subst (λ l. slice_get c.args.arena.now c.args.b ≡ Some (Graph c.nodes-width.result l)) (sym c.as_slice-2.ensures)
     (graph_is c.args.arena.now c.args.b c.nodes-width.result c.in_ok-ys.ys c.nodes-width.ensures c.in_ok-ys.ensures) in
-    let product = subst (IsProduct c.pair_edges.new.arena c.nodes-height.result c.nodes-width.result c.as_slice-first.result.now c.as_slice-second.result.now) (sym c.as_slice.ensures) c.in_ok-edges.ensures.product in
-    walked_result c.args.arena.now c.args.a c.args.b c.nodes-height.result c.nodes-width.result _ _ c.keeps_made.ensures ha hb c.pair_edges.new.arena c.pair_edges.ensures.kept c.as_slice.result.now product c.in-Some.nodes
+    let product = subst (IsProduct c.pair_edges.new.arena c.nodes-height.result c.nodes-width.result c.as_slice.result.now c.as_slice-2.result.now) (sym c.as_slice-3.ensures) c.in_ok-edges.ensures.product in
+    walked_result c.args.arena.now c.args.a c.args.b c.nodes-height.result c.nodes-width.result _ _ c.keeps_made.ensures ha hb c.pair_edges.new.arena c.pair_edges.ensures.kept c.as_slice-3.result.now product c.in-Some.nodes
     c.in-Some.ensures.1 c.trim.result c.trim.ensures

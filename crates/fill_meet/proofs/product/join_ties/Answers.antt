@@ -2,6 +2,7 @@ use Rattle.std.proofs.Common.{true, false, length, sym, ◌∙◌}
 use Rattle.std.proofs.lemmas.Bool.{false≢true}
 use Rattle.std.proofs.lemmas.Option.{get_or_from_slice_get}
 use Rattle.fill_arena.proofs.Lists.{extends_same, extends_on}
+use Rattle.fill_meet.proofs.GuideLaws.{guide_stays}
 use Rattle.fill_meet.proofs.Lists.{here}
 use Rattle.fill_meet.proofs.Seams.{joined_start, sets_stay, joined_stays, joined_dead, joined_put, joined_end}
 use Rattle.fill_meet.proofs.product.join_ties.Goals as goal
@@ -11,6 +12,7 @@ loop-i-init c =
     record {
       kept = extends_same c.args.arena.now;
       memo = c.in_ok-memo.ensures c.args.arena.now;
+      guide = c.requires.guide;
       sets = c.requires.sets;
       joined = joined_start c.args.arena.now c.args.live.now c.args.ties.now c.in_ok-edges.edges c.in_ok-edges.ensures;
     }
@@ -24,6 +26,7 @@ loop-i-preserved-then-not-live-tie c =
     record {
       kept = inv.kept;
       memo = inv.memo;
+      guide = inv.guide;
       sets = inv.sets;
       joined = joined_dead c.loop-i.arena c.args.live.now (length c.args.live.now) c.args.ties.now c.requires.ties c.loop-i.i c.loop-i.edges inv.joined c.index-ties-i.result (here _ _ _ c.loop-i-test.true c.index-ties-i.is)
           (λ m. false≢true (sym c.if-not-live-tie.true ∙ get_or_from_slice_get c.args.live.now c.index-ties-i.result.to true false m));
@@ -43,6 +46,7 @@ loop-i-preserved c =
     record {
       kept = extends_on _ _ _ inv.kept o;
       memo = done.memo;
+      guide = guide_stays c.loop-i.arena c.join.new.arena o c.args.guide inv.guide;
       sets = sets_stay c.loop-i.arena c.join.new.arena o c.args.ties.now inv.sets;
       joined = joined_put c.join.new.arena c.args.live.now (length c.args.live.now) c.args.ties.now c.requires.ties c.loop-i.i c.loop-i.edges
           (joined_stays c.loop-i.arena c.join.new.arena o c.args.live.now c.args.ties.now c.loop-i.i c.loop-i.edges inv.joined) c.index-ties-i.result (here _ _ _ c.loop-i-test.true c.index-ties-i.is) c.join.new.edges done.joined;

@@ -1,4 +1,5 @@
 use Rattle.fill_arena.specs.Contents.{Extends}
+use Rattle.fill_meet.specs.Guides.{IsGuide}
 use Rattle.fill_meet.specs.Memory.{IsRight}
 use Rattle.fill_meet.specs.Ties.{NameSets}
 use Rattle.fill_meet.proofs.Seams.{JoinedSoFar}
@@ -9,6 +10,7 @@ invariant-loop-i l =
     record {
       kept : Extends l.initial.arena l.arena;
       memo : IsRight l.arena l.memo;
+      guide : IsGuide l.arena l.guide;
       sets : NameSets l.arena l.ties;
       joined : JoinedSoFar l.arena l.live l.ties l.i l.edges;
     }

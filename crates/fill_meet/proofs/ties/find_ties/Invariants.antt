@@ -1,12 +1,12 @@
 use Rattle.std.proofs.Common.{◌≡◌, length}
-use Rattle.fill_meet.specs.Ties.{TieState}
+use Rattle.fill_meet.specs.Rows.{AreRows}
+use Rattle.fill_meet.specs.Ties.{SweepState}
 use Rattle.fill_meet.proofs.ties.find_ties.Given as goal
 
-abbrev pub invariant-loop-at : goal.invariant-loop-at
-invariant-loop-at l =
+abbrev pub invariant-loop-k : goal.invariant-loop-k
+invariant-loop-k l =
     record {
-      state : TieState l.arena l.firsts l.seconds l.at 0 0 l.net;
-      room : length l.room ≡ length l.seconds.edges.now;
-      width : l.net.width ≡ l.width;
-      long : length l.net.reached.items ≡ l.nodes;
+      long : length l.net.rows.known.items ≡ length l.labels.sets.items;
+      rows : AreRows l.arena l.labels.sets.items l.index l.net.rows;
+      state : SweepState l.arena l.graphs l.k (λ b. ⊥) l.net.sweep;
     }

@@ -13,4 +13,5 @@ returns-in-Ok-clause-kept c prices cs known best =
       places = known.places;
       sources = known.sources;
       parts = put_right (λ q. get nat_eq c.args.self.now.parts q) (λ q. get nat_eq c.insert.new.self q) (λ q o. IsBestOf atom_tree (atom_rank prices) (PartStands cs q) o) c.args.s c.args.o u.1 u.2 known.parts best;
+      atoms = known.atoms;
     }

@@ -12,4 +12,5 @@ returns-in-Ok-clause-kept c prices cs known best =
       places = put_right (λ q. get nat_eq c.args.self.now.places q) (λ q. get nat_eq c.insert.new.self q) (λ q p. IsBest (place_rank prices) (PlaceStands cs q) p) c.args.s c.args.p.now u.1 u.2 known.places best;
       sources = known.sources;
       parts = known.parts;
+      atoms = known.atoms;
     }

@@ -1,0 +1,38 @@
+-- What finds the items of the second graph's sets that may have something in common with one of the first.
+use Rattle.std.specs.Prelude.{◌≡◌, ℕ, ◌<◌, List, length, Some, slice_get}
+use Rattle.fill_tree.specs.Tree.{AtomTree}
+use Rattle.fill_arena.specs.Contents.{Extends, SomeIn}
+use Rattle.fill_arena.specs.WellMade.{IsAtomItem}
+use Rattle.fill_arena.specs.declared.entry.AtomItem.{AtomItem}
+use Rattle.fill_arena.specs.declared.entry.Entry.{Entry}
+use Rattle.fill_arena.specs.declared.entry.Entry.TheVariants as kind
+use Rattle.fill_meet.specs.Index.{IsSomeIndex}
+use Rattle.fill_meet.specs.Mates.{AreMates}
+use Rattle.fill_meet.specs.Sets.{AtomIn, PairsState}
+use Rattle.fill_meet.specs.declared.makes.Guide.{Guide}
+use Rattle.fill_meet.specs.declared.makes.Task.{Task}
+
+-- an index, and mates in it
+pub record IsGuide (c : List Entry) (g : Guide) : Type 0 where
+  pub index : IsSomeIndex c g.index.now
+  pub mates : AreMates c g.index.now.places.sets.items g.mates.now
+
+-- the guide is one, the item is one of the first ones, and the set of the number has the second ones
+pub record IsTask (c : List Entry) (k : Task) : Type 0 where
+  pub guide : IsGuide c k.guide
+  pub within : k.place < length k.xs.now
+  pub set : ℕ
+  pub number : slice_get k.guide.index.now.labels.sets.items k.number ≡ Some set
+  pub items : slice_get c set ≡ Some (kind.Atoms k.ys.now)
+
+-- in every later arena an atom of x and of y is one of the list
+abbrev pub IsShared : List Entry → List AtomItem → AtomItem → AtomItem → Type 0
+IsShared c zs x y = (d : List Entry) (a : AtomTree) → Extends c d → AtomIn d x a → AtomIn d y a → SomeIn (λ v. AtomIn d v a) zs
+
+-- so for the task's item and an item of the set of the number
+abbrev pub IsSharedOf : List Entry → Task → List AtomItem → ℕ → ℕ → AtomItem → Type 0
+IsSharedOf c k zs n j y = (x : AtomItem) → slice_get k.xs.now k.place ≡ Some x → n ≡ k.number → IsShared c zs x y
+
+-- what was made of the first items before place i
+abbrev pub IsMadeTo : List Entry → Task → ℕ → List AtomItem → Type 0
+IsMadeTo c k i zs = PairsState AtomIn IsAtomItem c k.of k.xs.now k.ys.now i 0 zs

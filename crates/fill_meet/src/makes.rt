@@ -1,0 +1,221 @@
+//! What two large sets of atoms have in common, by the index of the second one.
+ghost use Rattle.std.specs.Prelude.{◌<◌, ◌≤◌, ◌+◌, length, IfOk, OnOk};
+ghost use Rattle.fill_arena.specs.Contents.{Extends, IsAtomSet};
+ghost use Rattle.fill_meet.specs.Guides.{IsGuide, IsMadeTo, IsSharedOf, IsTask};
+ghost use Rattle.fill_meet.specs.Memory.{IsRight};
+ghost use Rattle.fill_meet.specs.Rows.{AreAlikeDone, AreEndsDone, ArePiecesDone, IsEntryDone};
+ghost use Rattle.fill_meet.specs.Runs.{Grows};
+ghost use Rattle.fill_meet.specs.Sets.{AtomSetsMeet};
+
+use crate::copy::copy_atoms;
+use crate::index::{Index, WHOLE, hash_constant, hash_piece};
+use crate::mates::Mates;
+use crate::memo::Memo;
+use crate::runs::Run;
+use crate::sets::{MOSTLY, make_atoms, meet_atom_items, meet_atom_row, push_some};
+use fill_arena::{Arena, AtomItem, AtomSet};
+use fill_text::{List, NoMemory};
+
+/// What finds the items of the second graph's sets that may have something in common with one of the first.
+#[derive(Clone, Copy)]
+pub(crate) struct Guide<'a> {
+    pub(crate) index: &'a Index,
+    pub(crate) mates: &'a Mates,
+}
+
+/// An item of a set of the first graph, by its place; the items of a set of the second graph, with the set's number; and what
+/// finds those.
+#[derive(Clone, Copy)]
+pub(crate) struct Task<'a> {
+    pub(crate) guide: Guide<'a>,
+    pub(crate) of: AtomSet,
+    pub(crate) xs: &'a [AtomItem],
+    pub(crate) place: usize,
+    pub(crate) ys: &'a [AtomItem],
+    pub(crate) number: usize,
+}
+
+/// The set of the atoms that stand in both sets, or none where there are none. Of the items of the second set only those are
+/// looked at that may have something in common with one of the first.
+pub(crate) fn make_guided(
+    arena: &mut Arena,
+    memo: &mut Memo,
+    guide: Guide<'_>,
+    s: AtomSet,
+    t: AtomSet,
+) -> Result<Option<AtomSet>, NoMemory>
+    requires memo { IsRight arena.old memo.old }
+    requires guide { IsGuide arena.old guide }
+    requires first { IsAtomSet arena.old s }
+    requires second { IsAtomSet arena.old t }
+    ensures kept { Extends arena.old arena.new }
+    ensures memo { OnOk result (IsRight arena.new memo.new) }
+    ensures met { IfOk result (AtomSetsMeet arena.new s t) }
+{
+    let Some(number) = guide.index.labels.number(t) else {
+        return make_atoms(arena, memo, s, t);
+    };
+    arena.keeps_made();
+    let first = copy_atoms(memo.alloc, arena.atoms(s))?;
+    let second = copy_atoms(memo.alloc, arena.atoms(t))?;
+    let xs = first.as_slice();
+    let ys = second.as_slice();
+    let mut zs = List::with_capacity(memo.alloc, MOSTLY)?;
+    for place in 0..xs.len() {
+        let task = Task {
+            guide,
+            of: s,
+            xs,
+            place,
+            ys,
+            number,
+        };
+        make_row(arena, memo, &task, &mut zs)?;
+    }
+    if zs.len() == 0 {
+        return Ok(None);
+    }
+    Ok(Some(arena.intern_atoms(zs)?))
+}
+
+/// Puts at the end what the task's item has in common with those of the second set.
+fn make_row(
+    arena: &mut Arena,
+    memo: &mut Memo,
+    task: &Task<'_>,
+    zs: &mut List<AtomItem>,
+) -> Result<(), NoMemory>
+    requires memo { IsRight arena.old memo.old }
+    requires task { IsTask arena.old task.now }
+    requires made { IsMadeTo arena.old task.now task.now.place zs.old }
+    ensures kept { Extends arena.old arena.new }
+    ensures memo { OnOk result (IsRight arena.new memo.new) }
+    ensures made { OnOk result (IsMadeTo arena.new task.now (task.now.place + 1) zs.new) }
+{
+    match &task.xs[task.place] {
+        AtomItem::Const(text) => make_alike(arena, memo, task, hash_constant(text.len()), zs),
+        AtomItem::Whole(_) => make_alike(arena, memo, task, WHOLE, zs),
+        AtomItem::Sub(_, lefts, rights) => {
+            let Some(begins) = task.guide.mates.told(*lefts) else {
+                return meet_atom_row(arena, memo, task.of, task.xs, task.place, task.ys, zs);
+            };
+            let Some(ends) = task.guide.mates.told(*rights) else {
+                return meet_atom_row(arena, memo, task.of, task.xs, task.place, task.ys, zs);
+            };
+            make_pieces(arena, memo, task, begins, ends, zs)
+        }
+    }
+}
+
+/// Puts at the end what the task's item has in common with pieces that begin at a mate of the one run and end at one of the
+/// other.
+fn make_pieces(
+    arena: &mut Arena,
+    memo: &mut Memo,
+    task: &Task<'_>,
+    begins: Run,
+    ends: Run,
+    zs: &mut List<AtomItem>,
+) -> Result<(), NoMemory>
+    requires memo { IsRight arena.old memo.old }
+    requires task { IsTask arena.old task.now }
+    requires begins { begins.end ≤ length task.now.guide.mates.now.lists.numbers.items }
+    requires ends { ends.end ≤ length task.now.guide.mates.now.lists.numbers.items }
+    requires made { IsMadeTo arena.old task.now task.now.place zs.old }
+    ensures kept { Extends arena.old arena.new }
+    ensures memo { OnOk result (IsRight arena.new memo.new) }
+    ensures made { OnOk result (IsMadeTo arena.new task.now task.now.place zs.new) }
+    ensures grown { OnOk result (Grows zs.old zs.new) }
+    ensures done { OnOk result (ArePiecesDone arena.new task.now.guide.index.now (IsSharedOf arena.new task.now zs.new) task.now.guide.mates.now.lists.numbers.items begins ends) }
+{
+    let numbers = task.guide.mates.lists.numbers.as_slice();
+    for k in begins.start..begins.end {
+        make_ends(arena, memo, task, numbers[k], ends, zs)?;
+    }
+    Ok(())
+}
+
+/// Puts at the end what the task's item has in common with pieces that begin at places of the set of the number and end at a
+/// mate of the run.
+fn make_ends(
+    arena: &mut Arena,
+    memo: &mut Memo,
+    task: &Task<'_>,
+    left: usize,
+    ends: Run,
+    zs: &mut List<AtomItem>,
+) -> Result<(), NoMemory>
+    requires memo { IsRight arena.old memo.old }
+    requires task { IsTask arena.old task.now }
+    requires ends { ends.end ≤ length task.now.guide.mates.now.lists.numbers.items }
+    requires made { IsMadeTo arena.old task.now task.now.place zs.old }
+    ensures kept { Extends arena.old arena.new }
+    ensures memo { OnOk result (IsRight arena.new memo.new) }
+    ensures made { OnOk result (IsMadeTo arena.new task.now task.now.place zs.new) }
+    ensures grown { OnOk result (Grows zs.old zs.new) }
+    ensures done { OnOk result (AreEndsDone arena.new task.now.guide.index.now (IsSharedOf arena.new task.now zs.new) task.now.guide.mates.now.lists.numbers.items left ends.start ends.end) }
+{
+    let numbers = task.guide.mates.lists.numbers.as_slice();
+    for k in ends.start..ends.end {
+        make_alike(arena, memo, task, hash_piece(left, numbers[k]), zs)?;
+    }
+    Ok(())
+}
+
+/// Puts at the end what the task's item has in common with those of the second set that have the hash.
+fn make_alike(
+    arena: &mut Arena,
+    memo: &mut Memo,
+    task: &Task<'_>,
+    hash: u64,
+    zs: &mut List<AtomItem>,
+) -> Result<(), NoMemory>
+    requires memo { IsRight arena.old memo.old }
+    requires task { IsTask arena.old task.now }
+    requires made { IsMadeTo arena.old task.now task.now.place zs.old }
+    ensures kept { Extends arena.old arena.new }
+    ensures memo { OnOk result (IsRight arena.new memo.new) }
+    ensures made { OnOk result (IsMadeTo arena.new task.now task.now.place zs.new) }
+    ensures grown { OnOk result (Grows zs.old zs.new) }
+    ensures done { OnOk result (AreAlikeDone arena.new task.now.guide.index.now (IsSharedOf arena.new task.now zs.new) hash) }
+{
+    let index = task.guide.index;
+    let mut e = index.groups.first_of(hash);
+    while e < index.items.len() {
+        make_one(arena, memo, task, e, hash, zs)?;
+        e = index.groups.next(e);
+    }
+    Ok(())
+}
+
+/// Puts at the end what the task's item has in common with that of the entry `e`, if this has the hash and is of the second set.
+fn make_one(
+    arena: &mut Arena,
+    memo: &mut Memo,
+    task: &Task<'_>,
+    e: usize,
+    hash: u64,
+    zs: &mut List<AtomItem>,
+) -> Result<(), NoMemory>
+    requires memo { IsRight arena.old memo.old }
+    requires task { IsTask arena.old task.now }
+    requires within { e < length task.now.guide.index.now.items.items }
+    requires made { IsMadeTo arena.old task.now task.now.place zs.old }
+    ensures kept { Extends arena.old arena.new }
+    ensures memo { OnOk result (IsRight arena.new memo.new) }
+    ensures made { OnOk result (IsMadeTo arena.new task.now task.now.place zs.new) }
+    ensures grown { OnOk result (Grows zs.old zs.new) }
+    ensures done { OnOk result (IsEntryDone arena.new task.now.guide.index.now (IsSharedOf arena.new task.now zs.new) hash e) }
+{
+    let item = task.guide.index.items[e];
+    if item.hash != hash {
+        return Ok(());
+    }
+    if item.set != task.number {
+        return Ok(());
+    }
+    let x = &task.xs[task.place];
+    let y = &task.ys[item.place];
+    let made = meet_atom_items(arena, memo, task.of, x, y)?;
+    push_some(zs, made)
+}
