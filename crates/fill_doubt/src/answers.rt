@@ -3,7 +3,7 @@
 //! Texts are lent by the sheet, the tables and the arena; a piece is a range of such a text, and pieces are compared in
 //! place.
 ghost use Rattle.std.specs.Prelude.{◌≡◌, ◌↔◌, ℕ, List as Items, Option, None, Some, true, IsTrue, IfOk, OnOk, MatchOption};
-ghost use Rattle.fill_arena.specs.Contents.{EachIn, SomeIn};
+ghost use Rattle.fill_arena.specs.Contents.{EachIn};
 ghost use Rattle.fill_eval.specs.Piece.{IsWithin, piece_text};
 ghost use Rattle.fill_doubt.specs.Answers.{Gains, PiecesHave, PositionsHave, TextsHave};
 

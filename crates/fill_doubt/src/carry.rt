@@ -1,5 +1,5 @@
 //! What was found in the shape of a text, carried over to the text.
-ghost use Rattle.std.specs.Prelude.{◌≡◌, ◌⊎◌, ◌<◌, ◌≤◌, ℕ, Option, Some, false, length, slice_get, IfOk, OnOk};
+ghost use Rattle.std.specs.Prelude.{◌≡◌, ◌⊎◌, ◌<◌, ℕ, Option, false, length, slice_get, IfOk, OnOk};
 ghost use Rattle.fill_arena.specs.Contents.{EachIn, SomeIn};
 ghost use Rattle.fill_tokens.specs.Value.{HasValue};
 ghost use Rattle.fill_tree.specs.Value.{IsValue};

@@ -1,5 +1,5 @@
 //! The values of places in a text, for which each sequence is looked for in the text once.
-ghost use Rattle.std.specs.Prelude.{◌≡◌, ◌<◌, ◌≤◌, ℕ, List as Items, IsTrue, IfOk, OnOk, MatchOption, Some};
+ghost use Rattle.std.specs.Prelude.{◌≡◌, ◌<◌, ℕ, List as Items, IsTrue, IfOk, OnOk, MatchOption, Some};
 ghost use Rattle.fill_tokens.specs.Cuts.{AreCuts};
 ghost use Rattle.fill_tokens.specs.Value.{HasValue, IsCutFromLeft, IsCutFromRight};
 ghost use Rattle.fill_tokens.specs.declared.token.Token.{Token as Listed};

@@ -1,8 +1,8 @@
 //! Whether all programs answer with the text that one of them has.
-ghost use Rattle.std.specs.Prelude.{◌≡◌, ◌+◌, ◌-◌, ◌<◌, ◌≤◌, ◌↔◌, ◌∷◌, ◌++◌, ℕ, List as Items, None, Some, length, drop, slice_get, false, IsTrue, IfOk, OnOk, MatchBool, MatchOption};
+ghost use Rattle.std.specs.Prelude.{◌≡◌, ◌+◌, ◌-◌, ◌<◌, ◌≤◌, ◌↔◌, ◌++◌, ℕ, List as Items, None, Some, length, drop, false, IsTrue, IfOk, OnOk, MatchBool, MatchOption};
 ghost use Rattle.fill_arena.specs.Contents.{EachIn, In, IsAtomSet, SomeIn};
 ghost use Rattle.fill_arena.specs.declared.entry.Edge.{Edge as Listed};
-ghost use Rattle.fill_eval.specs.Piece.{IsWithin, piece_text};
+ghost use Rattle.fill_eval.specs.Piece.{IsWithin};
 ghost use Rattle.fill_doubt.specs.Answers.{PiecesHave};
 ghost use Rattle.fill_doubt.specs.Known.{AreEdgesOn, AreKnown, EdgeAnswers, IsOnRow};
 ghost use Rattle.fill_doubt.specs.Walks.{Agrees, AreLaid, Clashes, Differs, EdgeAgrees, EdgeClashes, IsAt, KeepsLengths, Reads};

@@ -1,5 +1,5 @@
 //! What is found of the shape of texts, once for all sets of places.
-ghost use Rattle.std.specs.Prelude.{◌≡◌, ℕ, List as Items, IfOk, IfSome, OnOk};
+ghost use Rattle.std.specs.Prelude.{◌≡◌, List as Items, IfOk, IfSome, OnOk};
 ghost use Rattle.fill_arena.specs.declared.entry.Entry.{Entry as Kept};
 ghost use Rattle.fill_doubt.specs.Read.{IsReadIn};
 ghost use Rattle.fill_doubt.specs.Spots.{AreSpotsOf};

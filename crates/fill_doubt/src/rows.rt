@@ -3,7 +3,7 @@ ghost use Rattle.std.specs.Prelude.{◌≡◌, ◌↔◌, ◌||◌, ℕ, List as
 ghost use Rattle.fill_arena.specs.Contents.{EachIn};
 ghost use Rattle.fill_tree.specs.Value.{IsValue, LooksUp};
 ghost use Rattle.fill_eval.specs.Piece.{IsWithin};
-ghost use Rattle.fill_doubt.specs.Answers.{AreJoined, Gains, Lack, PiecesHave, TextsHave};
+ghost use Rattle.fill_doubt.specs.Answers.{AreJoined, Gains, Lack, TextsHave};
 ghost use Rattle.fill_doubt.specs.Rows.{AreFound, AreInFront, ChoicesHave, RowFinds, RowText, RowsHave, cells_row, choice_of, in_front};
 
 use crate::answers::{Pieces, Texts};

@@ -1,5 +1,5 @@
 //! What was found of the shapes of texts, kept from row to row.
-ghost use Rattle.std.specs.Prelude.{◌≡◌, ◌++◌, ◌∷◌, [], ℕ, List as Items, IsTrue, IfOk, IfSome, OnOk};
+ghost use Rattle.std.specs.Prelude.{◌≡◌, ◌++◌, ◌∷◌, [], List as Items, IsTrue, IfOk, IfSome, OnOk};
 ghost use Rattle.fill_arena.specs.declared.entry.Entry.{Entry as Kept};
 ghost use Rattle.fill_doubt.specs.Shapes.{IsReadAt, ShapesStand};
 

@@ -1,5 +1,5 @@
 //! What is found of a set's places in the shape of a text.
-ghost use Rattle.std.specs.Prelude.{◌≡◌, ◌↔◌, ◌<◌, ◌+◌, ℕ, Option, Some, length, IsTrue, IfOk, OnOk};
+ghost use Rattle.std.specs.Prelude.{◌≡◌, ◌↔◌, ◌<◌, ◌+◌, ℕ, Option, Some, IsTrue, IfOk, OnOk};
 ghost use Rattle.fill_arena.specs.Contents.{IsPlaceSet};
 ghost use Rattle.fill_tokens.specs.Value.{HasValue};
 ghost use Rattle.fill_tokens.specs.declared.place.Place.{Place as Listed};

@@ -1,6 +1,6 @@
 //! The pieces that tokens span in a text, found for each token when it is first asked for, and the positions that
 //! sequences of them come to.
-ghost use Rattle.std.specs.Prelude.{◌≡◌, ◌↔◌, ◌++◌, ◌∷◌, [], ℕ, List as Items, Some, slice_get, IsTrue, IfOk, IfSome, OnOk};
+ghost use Rattle.std.specs.Prelude.{◌≡◌, ◌++◌, ◌∷◌, [], List as Items, Some, IsTrue, IfOk, IfSome, OnOk};
 ghost use Rattle.std.specs.List.Sorted.{IsStrictlyIncreasing};
 ghost use Rattle.fill_tokens.specs.Cuts.{IsRisingListOf};
 ghost use Rattle.fill_tokens.specs.Span.{Begins, Ends};

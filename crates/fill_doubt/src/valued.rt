@@ -1,5 +1,5 @@
 //! Whether a program has a value.
-ghost use Rattle.std.specs.Prelude.{◌≡◌, ◌-◌, ◌<◌, ◌↔◌, ℕ, List as Items, Some, length, slice_get, IsTrue, IfOk, OnOk};
+ghost use Rattle.std.specs.Prelude.{◌≡◌, ◌-◌, ◌<◌, ◌↔◌, ℕ, List as Items, Some, length, IsTrue, IfOk, OnOk};
 ghost use Rattle.fill_arena.specs.Contents.{IsAtomSet};
 ghost use Rattle.fill_doubt.specs.Known.{AreEdgesOn, AreKnown, EdgeAnswers, IsOnRow};
 ghost use Rattle.fill_doubt.specs.Walks.{Follows, IsMarked, Reads};

@@ -11,7 +11,7 @@ pub enum KeysError {
     /// The table has this many columns, which are too many.
     #[error("the table has {width} columns, which are too many")]
     TooWide { width: u32 },
-    /// Want of memory.
+    /// Out of memory.
     #[error("out of memory")]
     NoMemory,
 }

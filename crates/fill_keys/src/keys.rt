@@ -2,14 +2,15 @@
 //!
 //! The sets of a size are gone through from the left. One of which a part was found already is passed over, so that the
 //! rows are looked at for those sets alone of which no part is a key.
-ghost use Rattle.std.specs.Prelude.{◌≡◌, ◌<◌, ◌≤◌, ◌+◌, ◌++◌, [], ◌∷◌, ◌↔◌, Any, All, Contains, IfOk, IfErr, OnOk, IsTrue, length};
-ghost use Rattle.fill_text.specs.Data.{width_at};
+ghost use Rattle.std.specs.Prelude.{◌≡◌, ◌<◌, ◌≤◌, ◌+◌, ◌↔◌, Any, Contains, IfOk, IfErr, OnOk, IsTrue, length};
 ghost use Rattle.fill_text.specs.Lists.{Adds, Lists};
 ghost use Rattle.fill_tables.specs.Tables.{column_count};
 ghost use Rattle.fill_keys.specs.Keys.{AreColumns, IsMinimalKey, Refuses, keys_cmp};
 ghost use Rattle.fill_keys.specs.Search.{AreSmaller, BeginsMinimalKey, IsNext, IsPrefix, IsWithin};
+ghost use Rattle.fill_keys.specs.Ranks.{IsRanked};
 
 use crate::KeysError;
+use crate::ranks::RankedTable;
 use fill_tables::Tables;
 use fill_text::{List, NoMemory};
 use std::alloc::Global;
@@ -45,11 +46,12 @@ fn minimal_keys(alloc: Global, tables: &Tables, table: u32) -> Result<List<List<
     requires narrow { column_count tables.now table ≤ 32 }
     ensures { IfOk result (Lists keys_cmp (IsMinimalKey tables.now table)) }
 {
+    let ranked = RankedTable::new(alloc, tables, table)?;
     let mut keys = List::new(alloc);
     let mut columns = Vec::with_capacity(alloc, MOST_COLUMNS)?;
     for size in 1..MOST_COLUMNS + 1 {
         columns.clear();
-        push_keys(tables, table, size, &mut columns, 1, &mut keys)?;
+        push_keys(tables, &ranked, size, &mut columns, 1, &mut keys)?;
     }
     Ok(keys)
 }
@@ -57,31 +59,32 @@ fn minimal_keys(alloc: Global, tables: &Tables, table: u32) -> Result<List<List<
 /// Puts to the list the minimal keys of this size that begin with the columns; the next one is the first that can follow.
 fn push_keys(
     tables: &Tables,
-    table: u32,
+    ranked: &RankedTable,
     size: usize,
     columns: &mut Vec<u32>,
     next: u32,
     keys: &mut List<List<u32>>,
 ) -> Result<(), NoMemory>
-    requires first { 1 ≤ table }
-    requires last { table ≤ length tables.now }
-    requires narrow { column_count tables.now table ≤ 32 }
+    requires first { 1 ≤ ranked.now.table }
+    requires last { ranked.now.table ≤ length tables.now }
+    requires ranked { IsRanked tables.now ranked.now }
+    requires narrow { column_count tables.now ranked.now.table ≤ 32 }
     requires some { 1 ≤ size }
     requires few { size ≤ 3 }
-    requires begun { IsPrefix (column_count tables.now table) size columns.old.items }
+    requires begun { IsPrefix (column_count tables.now ranked.now.table) size columns.old.items }
     requires next { IsNext columns.old.items next }
     requires small { next ≤ 33 }
-    requires smaller { AreSmaller tables.now table size keys.old }
+    requires smaller { AreSmaller tables.now ranked.now.table size keys.old }
     ensures kept { OnOk result (columns.new.items ≡ columns.old.items) }
-    ensures added { OnOk result (Adds keys_cmp keys.old keys.new (BeginsMinimalKey tables.now table size columns.old.items)) }
+    ensures added { OnOk result (Adds keys_cmp keys.old keys.new (BeginsMinimalKey tables.now ranked.now.table size columns.old.items)) }
 {
     let begun = columns.len();
     if begun == size {
-        return push_key(*columns.allocator(), tables, table, columns, keys);
+        return push_key(*columns.allocator(), tables, ranked, columns, keys);
     }
-    for column in next..tables.width(table) + 1 {
+    for column in next..tables.width(ranked.table) + 1 {
         columns.push(column)?;
-        push_keys(tables, table, size, columns, column + 1, keys)?;
+        push_keys(tables, ranked, size, columns, column + 1, keys)?;
         columns.truncate(begun);
     }
     Ok(())
@@ -91,34 +94,39 @@ fn push_keys(
 fn push_key(
     alloc: Global,
     tables: &Tables,
-    table: u32,
+    ranked: &RankedTable,
     columns: &[u32],
     keys: &mut List<List<u32>>,
 ) -> Result<(), NoMemory>
-    requires first { 1 ≤ table }
-    requires last { table ≤ length tables.now }
-    requires set { AreColumns (column_count tables.now table) columns.now }
-    requires smaller { AreSmaller tables.now table (length columns.now) keys.old }
-    ensures { OnOk result (Adds keys_cmp keys.old keys.new (λ key. (key ≡ columns.now) × IsMinimalKey tables.now table key)) }
+    requires ranked { IsRanked tables.now ranked.now }
+    requires set { AreColumns (column_count tables.now ranked.now.table) columns.now }
+    requires smaller { AreSmaller tables.now ranked.now.table (length columns.now) keys.old }
+    ensures { OnOk result (Adds keys_cmp keys.old keys.new (λ key. (key ≡ columns.now) × IsMinimalKey tables.now ranked.now.table key)) }
 {
-    if !is_minimal_key(tables, table, columns, keys.as_slice()) {
+    if !is_minimal_key(alloc, tables, ranked, columns, keys.as_slice())? {
         return Ok(());
     }
     keys.push(copied(alloc, columns)?)
 }
 
 /// Whether the columns are a minimal key, where all smaller ones are known.
-fn is_minimal_key(tables: &Tables, table: u32, columns: &[u32], keys: &[List<u32>]) -> bool
-    requires first { 1 ≤ table }
-    requires last { table ≤ length tables.now }
-    requires set { AreColumns (column_count tables.now table) columns.now }
-    requires smaller { AreSmaller tables.now table (length columns.now) keys.now }
-    ensures { IsTrue result ↔ IsMinimalKey tables.now table columns.now }
+fn is_minimal_key(
+    alloc: Global,
+    tables: &Tables,
+    ranked: &RankedTable,
+    columns: &[u32],
+    keys: &[List<u32>],
+) -> Result<bool, NoMemory>
+    requires ranked { IsRanked tables.now ranked.now }
+    requires set { AreColumns (column_count tables.now ranked.now.table) columns.now }
+    requires smaller { AreSmaller tables.now ranked.now.table (length columns.now) keys.now }
+    ensures { IfOk result (λ key. IsTrue key ↔ IsMinimalKey tables.now ranked.now.table columns.now) }
 {
+    let _tables = tables;
     if has_part(columns, keys) {
-        return false;
+        return Ok(false);
     }
-    tables.is_key(table, columns)
+    ranked.is_key(alloc, columns)
 }
 
 /// Whether fewer of the columns are one of the keys.

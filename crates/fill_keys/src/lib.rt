@@ -6,6 +6,7 @@
 
 mod error;
 mod keys;
+mod ranks;
 
 pub use error::KeysError;
 pub use keys::keys_of;

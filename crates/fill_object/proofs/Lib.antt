@@ -1,9 +1,14 @@
 pub mod Alike
+pub mod Below
+pub mod CostLaws
 pub mod Gains
 pub mod KindLaws
+pub mod Led
 pub mod Made
 pub mod Objections
 pub mod Orders
 pub mod Others
+pub mod OutLaws
 pub mod RowLaws
 pub mod Wanting
+pub mod Within

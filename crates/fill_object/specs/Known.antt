@@ -2,7 +2,7 @@
 use Rattle.std.specs.Prelude.{◌≡◌, ℕ, ◌≤◌, Some, length}
 use Rattle.std.specs.HashMap.{get}
 use Rattle.std.specs.Bool.{nat_eq}
-use Rattle.fill_arena.specs.Stands.{SourceStands}
+use Rattle.fill_arena.specs.Stands.{AtomStands, SourceStands}
 use Rattle.fill_rank.specs.Sets.{PartStands}
 use Rattle.fill_object.specs.Kinds.{atoms_on, sources_on}
 use Rattle.fill_object.specs.Leasts.{AreLeasts}
@@ -19,4 +19,5 @@ pub record IsOnRow (on : OnRow) : Type 0 where
 pub record AreKnown (on : OnRow) (known : Known) : Type 0 where
   pub sources : (s : ℕ) (o : _) → get nat_eq known.sources s ≡ Some o → AreLeasts (sources_on on) (SourceStands on.arena.now s) o.value.items
   pub parts : (s : ℕ) (o : _) → get nat_eq known.parts s ≡ Some o → AreLeasts (atoms_on on) (PartStands on.arena.now s) o.value.items
+  pub atoms : (s : ℕ) (o : _) → get nat_eq known.atoms s ≡ Some o → AreLeasts (atoms_on on) (AtomStands on.arena.now s) o.value.items
   pub spots : AreSpotted on.prices.now on.arena.now known.spots

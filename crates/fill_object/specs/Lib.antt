@@ -1,7 +1,11 @@
+pub mod Bounds
+pub mod Chains
+pub mod Guide
 pub mod Kinds
 pub mod Known
 pub mod Leasts
 pub mod Objector
+pub mod Outs
 pub mod Pieces
 pub mod Rests
 pub mod Rows

@@ -1,38 +1,31 @@
 -- The least rests of programs, from a node of a graph on, that answer what is wanted.
-use Rattle.std.specs.Prelude.{◌≡◌, ℕ, ◌<◌, ◌≤◌, ◌^◌, List, length, Option, None, Some, slice_get}
-use Rattle.fill_tokens.specs.declared.prices.Prices.{Prices}
-use Rattle.fill_tree.specs.Cost.{program_cost}
+use Rattle.std.specs.Prelude.{◌≡◌, ◌⊎◌, ℕ, ◌<◌, ◌≤◌, List, Option, None, Some, slice_get}
 use Rattle.fill_tree.specs.Meaning.{program_tree}
-use Rattle.fill_tree.specs.Order.{program_cmp}
 use Rattle.fill_tree.specs.Tree.{AtomTree, Atoms, end, more}
+use Rattle.fill_tree.specs.Value.{IsValue, ProgramIs}
 use Rattle.fill_tree.specs.declared.tree.Program.{Program}
-use Rattle.fill_arena.specs.Contents.{EachIn}
+use Rattle.fill_arena.specs.Contents.{In, EachIn, IsAtomSet}
 use Rattle.fill_arena.specs.Stands.{AtomStands, Walks}
 use Rattle.fill_arena.specs.declared.entry.Edge.{Edge}
-use Rattle.fill_rank.specs.Rank.{IsBest}
-use Rattle.fill_object.specs.Kinds.{atoms_on}
-use Rattle.fill_object.specs.Known.{IsOnRow}
-use Rattle.fill_object.specs.Leasts.{AreLeasts}
+use Rattle.fill_object.specs.Chains.{IsFound, IsLeastWithin}
+use Rattle.fill_object.specs.Guide.{IsGuide}
+use Rattle.fill_object.specs.Known.{AreKnown, IsOnRow}
 use Rattle.fill_object.specs.Wants.{RestAgrees}
+use Rattle.fill_object.specs.declared.chain.Least.{Least}
+use Rattle.fill_object.specs.declared.graph.Objection.{Objection}
 use Rattle.fill_object.specs.declared.rests.Rest.{Rest}
-use Rattle.fill_object.specs.declared.rests.Search.{Search}
+use Rattle.fill_object.specs.declared.rests.Rests.{Rests}
 use Rattle.fill_object.specs.declared.row.OnRow.{OnRow}
-use Rattle.fill_object.specs.declared.valued.ValuedAtom.{ValuedAtom}
+use Rattle.fill_object.specs.declared.search.Found.{Found}
+use Rattle.fill_object.specs.declared.search.Search.{Search}
 use Rattle.fill_object.specs.declared.wanted.Wanted.{Wanted}
-use Rattle.std.proofs.Common.{Vec, Global}
 
--- each edge has the least atoms of its set
-pub record AreAtoms (on : OnRow) (edges : List Edge) (atoms : List (Vec ValuedAtom Global)) : Type 0 where
-  pub long : length atoms ≡ length edges
-  pub each : (k : ℕ) (e : Edge) (xs : Vec ValuedAtom Global) → slice_get edges k ≡ Some e → slice_get atoms k ≡ Some xs →
-      AreLeasts (atoms_on on) (AtomStands on.arena.now e.atoms) xs.items
-
--- edges lead on, within the nodes, and what walks along them is cheap
+-- edges lead on, within the nodes, and have sets of atoms; the guide is of the graph
 pub record IsSearch (s : Search) : Type 0 where
   pub row : IsOnRow s.on
-  pub atoms : AreAtoms s.on s.edges.now s.atoms.now
-  pub onward : (k : ℕ) (e : Edge) → slice_get s.edges.now k ≡ Some e → (e.from < e.to) × (e.to ≤ s.last)
-  pub cheap : (p : Atoms) (at : ℕ) → Walks p s.on.arena.now s.edges.now s.last at → program_cost s.on.prices.now p < 2 ^ 64
+  pub sets : EachIn (λ e. IsAtomSet s.on.arena.now e.atoms) s.edges.now
+  pub onward : EachIn (λ e. (e.from < e.to) × (e.to ≤ s.last)) s.edges.now
+  pub guide : IsGuide s.on.prices.now s.on.arena.now s.edges.now s.last s.guide.now
 
 -- a rest of a program from the node on
 abbrev pub RestStands : Search → ℕ → Atoms → Type 0
@@ -52,18 +45,26 @@ IsThen H T (more a q) = H a × T q
 abbrev pub IsAlong : Search → ℕ → Edge → Atoms → Type 0
 IsAlong s n e p = (e.from ≡ n) × IsThen (AtomStands s.on.arena.now e.atoms) (RestStands s e.to) p
 
--- of what has the first property and not the second the least one is kept; nothing is kept where all of it has both
-abbrev pub IsLeastOther : Prices → (Atoms → Type 0) → (Atoms → Type 0) → Option Program → Type 0
-IsLeastOther prices W A None = (p : Atoms) → W p → A p
-IsLeastOther prices W A (Some x) = IsBest (program_cmp prices) (λ p. W p × ¬ (A p)) (program_tree x)
-
 -- what was found is so
-abbrev pub IsFound : Search → Rest → Type 0
-IsFound s r = IsLeastOther s.on.prices.now (RestStands s r.node) (RestAgrees s.on s.said.now r.wanted) r.program
+abbrev pub IsRest : Search → Rest → Type 0
+IsRest s r = IsLeastWithin s.on.prices.now r.limit (RestStands s r.node) (RestAgrees s.on s.said.now r.wanted) r.least
 
-pub record AreRests (s : Search) (rests : List Rest) : Type 0 where
-  pub each : EachIn (IsFound s) rests
+pub record AreRests (s : Search) (rests : Rests) : Type 0 where
+  pub each : EachIn (IsRest s) rests.found.items
+
+pub record AreFound (s : Search) (found : Found) : Type 0 where
+  pub known : AreKnown s.on found.known
+  pub rests : AreRests s found.rests
+
+-- it was found for the node and what is wanted, within no less than the limit or whatever it costs
+abbrev pub IsKnown : List Rest → ℕ → Wanted → ℕ → Least → Type 0
+IsKnown rests n w limit o = (r : Rest) × In r rests × (r.node ≡ n) × (r.wanted ≡ w) × (r.least ≡ o) × ((limit ≤ r.limit) ⊎ IsFound o)
 
 -- what was found for the node and what is wanted stands at the place
 abbrev pub IsRestAt : List Rest → ℕ → Wanted → ℕ → Type 0
 IsRestAt rests n w i = (r : Rest) × (slice_get rests i ≡ Some r) × (r.node ≡ n) × (r.wanted ≡ w)
+
+-- it has the chain's atoms, and its own value on the row
+abbrev pub IsProgramOf : OnRow → Program → Option Objection → Type 0
+IsProgramOf on x None = ⊥
+IsProgramOf on x (Some o) = (program_tree o.program ≡ program_tree x) × IsValue (ProgramIs on.sheet.now on.tables.now on.row (program_tree o.program)) o.text

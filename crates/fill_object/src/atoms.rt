@@ -1,8 +1,7 @@
 //! Atoms that are made of sources, with their texts on the row.
 ghost use Rattle.std.specs.Prelude.{◌≡◌, [], OnOk};
 ghost use Rattle.fill_tree.specs.Meaning.{atom_tree, source_tree};
-ghost use Rattle.fill_tree.specs.Tree.{whole};
-ghost use Rattle.fill_arena.specs.Contents.{EachIn, IsPlaceSet, IsSourceSet, SomeIn};
+ghost use Rattle.fill_arena.specs.Contents.{IsPlaceSet};
 ghost use Rattle.fill_arena.specs.Stands.{SourceStands};
 ghost use Rattle.fill_rank.specs.Sets.{PartFits};
 ghost use Rattle.fill_object.specs.Kinds.{atoms_on, sources_on};

@@ -1,21 +1,21 @@
-//! The least atoms of edges, by their texts on the row.
-ghost use Rattle.std.specs.Prelude.{◌≡◌, List as Items, IfOk, OnOk};
-ghost use Rattle.fill_arena.specs.Contents.{EachIn, IsAtomSet, SomeIn};
+//! The least atoms of sets, constants among them, by their texts on the row.
+ghost use Rattle.std.specs.Prelude.{IfOk, OnOk};
+ghost use Rattle.fill_arena.specs.Contents.{IsAtomSet, SomeIn};
 ghost use Rattle.fill_arena.specs.Stands.{AtomStands};
 ghost use Rattle.fill_rank.specs.Sets.{ConstantFits};
 ghost use Rattle.fill_object.specs.Kinds.{atoms_on};
 ghost use Rattle.fill_object.specs.Known.{AreKnown, IsOnRow};
 ghost use Rattle.fill_object.specs.Leasts.{AreLeasts, Gains};
-ghost use Rattle.fill_object.specs.Rests.{AreAtoms};
 
 use crate::atoms::put_atom;
 use crate::known::Known;
 use crate::row::OnRow;
 use crate::sets::scan_parts;
 use crate::valued::ValuedAtom;
-use fill_arena::{AtomItem, AtomSet, Edge};
+use fill_arena::{AtomItem, AtomSet};
 use fill_text::NoMemory;
 use fill_tree::Atom;
+use std::rc::Rc;
 
 /// Puts the constant that an item stands for, if it is one.
 fn put_constant(on: &OnRow<'_>, item: &AtomItem, kept: &mut Vec<ValuedAtom>) -> Result<(), NoMemory>
@@ -44,7 +44,26 @@ fn put_constants(
 }
 
 /// The least atoms of a set, by their texts.
-fn atoms_of(on: &OnRow<'_>, known: &mut Known, s: AtomSet) -> Result<Vec<ValuedAtom>, NoMemory>
+pub(crate) fn atoms_of(
+    on: &OnRow<'_>,
+    known: &mut Known,
+    s: AtomSet,
+) -> Result<Rc<Vec<ValuedAtom>>, NoMemory>
+    requires set { IsAtomSet on.now.arena.now s }
+    requires row { IsOnRow on.now }
+    requires known { AreKnown on.now known.old }
+    ensures known { OnOk result (AreKnown on.now known.new) }
+    ensures least { IfOk result (λ found. AreLeasts (atoms_on on.now) (AtomStands on.now.arena.now s) found.value.items) }
+{
+    if let Some(found) = known.atoms(s) {
+        return Ok(found.clone()?);
+    }
+    let found = Rc::new(on.alloc, scan_atoms(on, known, s)?)?;
+    known.keep_atoms(s, found.clone()?)?;
+    Ok(found)
+}
+
+fn scan_atoms(on: &OnRow<'_>, known: &mut Known, s: AtomSet) -> Result<Vec<ValuedAtom>, NoMemory>
     requires set { IsAtomSet on.now.arena.now s }
     requires row { IsOnRow on.now }
     requires known { AreKnown on.now known.old }
@@ -54,18 +73,4 @@ fn atoms_of(on: &OnRow<'_>, known: &mut Known, s: AtomSet) -> Result<Vec<ValuedA
     let mut kept = scan_parts(on, known, s)?;
     put_constants(on, on.arena.atoms(s), &mut kept)?;
     Ok(kept)
-}
-
-/// The least atoms of each edge.
-pub(crate) fn edge_atoms(on: &OnRow<'_>, edges: &[Edge]) -> Result<Vec<Vec<ValuedAtom>>, NoMemory>
-    requires row { IsOnRow on.now }
-    requires edges { EachIn (λ e. IsAtomSet on.now.arena.now e.atoms) edges.now }
-    ensures { IfOk result (λ atoms. AreAtoms on.now edges.now atoms.items) }
-{
-    let mut known = Known::new(on.alloc);
-    let mut atoms = Vec::new(on.alloc);
-    for i in 0..edges.len() {
-        atoms.push(atoms_of(on, &mut known, edges[i].atoms)?)?;
-    }
-    Ok(atoms)
 }

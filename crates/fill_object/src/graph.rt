@@ -3,13 +3,20 @@ ghost use Rattle.std.specs.Prelude.{◌≡◌, ◌≤◌, length, IfOk, MatchOpt
 ghost use Rattle.fill_tree.specs.Tree.{Atoms};
 ghost use Rattle.fill_arena.specs.Contents.{IsGraph};
 ghost use Rattle.fill_arena.specs.Stands.{ProgramStands};
+ghost use Rattle.fill_object.specs.Chains.{IsLeastWithin};
+ghost use Rattle.fill_object.specs.Guide.{IsGuideOf};
+ghost use Rattle.fill_object.specs.Known.{IsOnRow};
 ghost use Rattle.fill_object.specs.Objector.{Answers, IsObjection};
 ghost use Rattle.fill_object.specs.Pieces.{text_or_empty};
-ghost use Rattle.fill_object.specs.Wants.{wanted_first};
+ghost use Rattle.fill_object.specs.Rests.{IsProgramOf, IsSearch, RestStands};
+ghost use Rattle.fill_object.specs.Wants.{RestAgrees, wanted_first};
 
-use crate::edges::edge_atoms;
-use crate::rests::{Search, least_rest};
+use crate::chain::{Chain, Least};
+use crate::guide::Guide;
+use crate::known::Known;
+use crate::rests::Rests;
 use crate::row::OnRow;
+use crate::search::{Found, Search, least_rest};
 use crate::wanted::Wanted;
 use fill_arena::{Arena, GraphId};
 use fill_eval::program_value;
@@ -29,7 +36,8 @@ pub struct Objection {
 /// The least of the graph's programs, by the prices, whose value on the row is not what was said, which is a text or none.
 ///
 /// It lists no programs. It goes over pairs of a node and what is still wanted there: another text than the rest of the
-/// said one, some text, or anything, once a program answers otherwise already.
+/// said one, some text, or anything, once a program answers otherwise already. What a rest costs at least is known of each
+/// node, so few of these pairs are looked at.
 pub fn object(
     alloc: Global,
     prices: &Prices,
@@ -47,8 +55,7 @@ pub fn object(
         ((p : Atoms) → ProgramStands arena.now g p → Answers sheet.now tables.now row told p)
         (IsObjection prices.now arena.now g sheet.now tables.now row told)) }
 {
-    arena.keeps_made();
-    prices.keep_small();
+    let guide = guide_of(alloc, prices, arena, g)?;
     let on = OnRow {
         alloc,
         prices,
@@ -57,20 +64,69 @@ pub fn object(
         sheet,
         tables,
     };
-    let edges = arena.edges(g);
-    let atoms = edge_atoms(&on, edges)?;
+    object_on(&on, &guide, g, said)
+}
+
+/// What leads the search through the graph.
+fn guide_of(alloc: Global, prices: &Prices, arena: &Arena, g: GraphId) -> Result<Guide, NoMemory>
+    requires { IsGraph arena.now g }
+    ensures { IfOk result (IsGuideOf prices.now arena.now g) }
+{
+    arena.keeps_made();
+    Guide::of(alloc, prices, arena, arena.edges(g), arena.nodes(g))
+}
+
+/// The least program that objects on the row.
+fn object_on(
+    on: &OnRow<'_>,
+    guide: &Guide,
+    g: GraphId,
+    said: Option<&Text>,
+) -> Result<Option<Objection>, NoMemory>
+    requires row { IsOnRow on.now }
+    requires graph { IsGraph on.now.arena.now g }
+    requires guide { IsGuideOf on.now.prices.now on.now.arena.now g guide.now }
+    ensures { let told = option_copied said.entry in IfOk result (λ found. MatchOption found
+        ((p : Atoms) → ProgramStands on.now.arena.now g p → Answers on.now.sheet.now on.now.tables.now on.now.row told p)
+        (IsObjection on.now.prices.now on.now.arena.now g on.now.sheet.now on.now.tables.now on.now.row told)) }
+{
+    on.arena.keeps_made();
+    on.prices.keep_small();
+    let edges = on.arena.edges(g);
     let search = Search {
-        on,
+        on: *on,
         edges,
-        atoms: atoms.as_slice(),
-        last: arena.nodes(g) - 1,
+        guide,
+        last: on.arena.nodes(g) - 1,
         said: characters(said),
     };
-    let mut rests = Vec::new(alloc);
-    let Some(program) = least_rest(&search, &mut rests, 0, first_wanted(said))? else {
-        return Ok(None);
-    };
-    let text = program_value(alloc, &program, row, sheet, tables)?;
+    let least = least_of(&search, first_wanted(said))?;
+    match least {
+        Least::Found(chain) => objection_of(on, &chain),
+        Least::Absent => Ok(None),
+        Least::Dearer => unreachable!(),
+    }
+}
+
+/// The least rest from the first node on, whatever it costs.
+fn least_of(search: &Search<'_>, wanted: Wanted) -> Result<Least, NoMemory>
+    requires search { IsSearch search.now }
+    ensures { IfOk result (IsLeastWithin search.now.on.prices.now u64.MAX (RestStands search.now 0) (RestAgrees search.now.on search.now.said.now wanted)) }
+{
+    let alloc = search.on.alloc;
+    let known = Known::new(alloc);
+    let rests = Rests::new(alloc, search.last)?;
+    let mut found = Found { known, rests };
+    least_rest(search, &mut found, 0, wanted, u64::MAX)
+}
+
+/// The program of a chain, with its value on the row.
+fn objection_of(on: &OnRow<'_>, chain: &Chain) -> Result<Option<Objection>, NoMemory>
+    requires { IsOnRow on.now }
+    ensures { IfOk result (IsProgramOf on.now chain.now.atoms) }
+{
+    let program = chain.atoms.copy(on.alloc)?;
+    let text = program_value(on.alloc, &program, on.row, on.sheet, on.tables)?;
     Ok(Some(Objection { program, text }))
 }
 

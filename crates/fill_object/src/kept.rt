@@ -1,5 +1,5 @@
 //! Lists in which one may serve for others of the same value.
-ghost use Rattle.std.specs.Prelude.{◌≡◌, IsTrue, OnOk};
+ghost use Rattle.std.specs.Prelude.{IsTrue, OnOk};
 ghost use Rattle.fill_object.specs.Leasts.{Takes};
 
 use fill_text::NoMemory;

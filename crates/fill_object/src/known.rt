@@ -1,6 +1,6 @@
 //! What was found of sets already, so that each is looked at once.
-ghost use Rattle.std.specs.Prelude.{◌≡◌, IfSome, OnOk};
-ghost use Rattle.fill_arena.specs.Stands.{SourceStands};
+ghost use Rattle.std.specs.Prelude.{IfSome, OnOk};
+ghost use Rattle.fill_arena.specs.Stands.{AtomStands, SourceStands};
 ghost use Rattle.fill_rank.specs.Sets.{PartStands};
 ghost use Rattle.fill_object.specs.Kinds.{atoms_on, sources_on};
 ghost use Rattle.fill_object.specs.Known.{AreKnown};
@@ -15,11 +15,13 @@ use std::alloc::Global;
 use std::collections::HashMap;
 use std::rc::Rc;
 
-/// The least of sets by their values on the row: of sources, of the atoms that are no constants, and of places in texts.
+/// The least of sets by their values on the row: of sources, of the atoms that are no constants, of all atoms, and of
+/// places in texts.
 #[derive(Drop)]
 pub(crate) struct Known {
     sources: HashMap<SourceSet, Rc<Vec<ValuedSource>>>,
     parts: HashMap<AtomSet, Rc<Vec<ValuedAtom>>>,
+    atoms: HashMap<AtomSet, Rc<Vec<ValuedAtom>>>,
     pub spots: Spots,
 }
 
@@ -30,6 +32,7 @@ impl Known {
         Known {
             sources: HashMap::new(alloc),
             parts: HashMap::new(alloc),
+            atoms: HashMap::new(alloc),
             spots: Spots::new(alloc),
         }
     }
@@ -46,6 +49,13 @@ impl Known {
             IfSome result (λ o. AreLeasts (atoms_on on) (PartStands on.arena.now s) o.now.value.items) }
     {
         self.parts.get(&s)
+    }
+
+    pub fn atoms(&self, s: AtomSet) -> Option<&Rc<Vec<ValuedAtom>>>
+        ensures { (on : Row) → AreKnown on self.now →
+            IfSome result (λ o. AreLeasts (atoms_on on) (AtomStands on.arena.now s) o.now.value.items) }
+    {
+        self.atoms.get(&s)
     }
 
     pub fn keep_sources(
@@ -67,6 +77,16 @@ impl Known {
             AreLeasts (atoms_on on) (PartStands on.arena.now s) found.value.items → AreKnown on self.new) }
     {
         match self.parts.insert(s, found) {
+            Ok(_) => Ok(()),
+            Err(_) => Err(NoMemory),
+        }
+    }
+
+    pub fn keep_atoms(&mut self, s: AtomSet, found: Rc<Vec<ValuedAtom>>) -> Result<(), NoMemory>
+        ensures { OnOk result ((on : Row) → AreKnown on self.old →
+            AreLeasts (atoms_on on) (AtomStands on.arena.now s) found.value.items → AreKnown on self.new) }
+    {
+        match self.atoms.insert(s, found) {
             Ok(_) => Ok(()),
             Err(_) => Err(NoMemory),
         }

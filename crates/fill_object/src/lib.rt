@@ -6,13 +6,19 @@
 #![tactic(auto)]
 
 mod atoms;
+mod bounds;
+mod chain;
+mod costs;
 mod edges;
 mod graph;
+mod guide;
 mod kept;
 mod known;
+mod outs;
 mod rests;
 mod row;
 mod rows;
+mod search;
 mod sets;
 mod sources;
 mod spots;

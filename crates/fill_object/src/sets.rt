@@ -1,7 +1,7 @@
 //! For each value on the row the least sources, and the least atoms that are no constants, of sets.
 //!
 //! What a set names is older than the set, so the way down ends.
-ghost use Rattle.std.specs.Prelude.{◌≡◌, ◌∷◌, List as Items, IfOk, OnOk};
+ghost use Rattle.std.specs.Prelude.{◌∷◌, List as Items, IfOk, OnOk};
 ghost use Rattle.fill_arena.specs.Contents.{EachIn, IsAtomSet, IsSourceSet};
 ghost use Rattle.fill_arena.specs.Stands.{SourceFits, SourceStands};
 ghost use Rattle.fill_arena.specs.WellMade.{IsAtomItem, IsConditionItem, IsSelectItem, IsSourceItem};

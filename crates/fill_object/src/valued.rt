@@ -49,7 +49,7 @@ fn is_place_at_most(prices: &Prices, a: &Place, b: &Place) -> bool
     a.cost(prices).cmp(&b.cost(prices)).then(a.compare(b)) != Ordering::Greater
 }
 
-/// The same of sources; where a cost is no number of 64 bits the answer is no.
+/// Whether the source is at most the other one, by the cost and then in order; no where a cost is no number of 64 bits.
 fn is_source_at_most(prices: &Prices, a: &Source, b: &Source) -> bool
     ensures { IsTrue result → AtMost (source_rank prices.now (source_tree a.now) (source_tree b.now)) }
 {
@@ -59,7 +59,8 @@ fn is_source_at_most(prices: &Prices, a: &Source, b: &Source) -> bool
     first.cmp(&second).then(a.compare(b)) != Ordering::Greater
 }
 
-/// The same of atoms, as atoms of a program.
+/// Whether the atom is at most the other one, by the cost in a program and then in order; no where a cost is no number of
+/// 64 bits.
 fn is_atom_at_most(prices: &Prices, a: &Atom, b: &Atom) -> bool
     ensures { IsTrue result → AtMost (atom_rank prices.now (atom_tree a.now) (atom_tree b.now)) }
 {

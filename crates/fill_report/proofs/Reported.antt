@@ -52,7 +52,7 @@ add_none sheet row e = ap (addition row) (sym e)
 pub add_some : (sheet : SheetData) (row : ℕ) (text : List ℕ) → Some text ≡ given_at sheet row → addition_at sheet row ≡ entry.Edit (Add row text) ∷ []
 add_some sheet row text e = ap (addition row) (sym e)
 
--- an entry that could not be made for want of memory
+-- an entry that could not be made since memory ran out
 pub lost_single : (g : Ground) (first : Timeline) (e : Entry) (es : List Entry) (old : Option (List ℕ)) (steps : ℕ) → es ≡ e ∷ []
     → WritesRecords (EntriesBegin g first es) old old steps steps
 lost_single g first e es old steps is = (

@@ -45,7 +45,7 @@ abbrev pub length_text : Part → ℕ → List ℕ
 length_text part.Text n = codes "text of " ++ (decimal n ++ codes " characters is too long")
 length_text part.Inputs n = codes "inputs of " ++ (decimal n ++ codes " characters are too long")
 
--- why an edit was refused; want of memory is no reason
+-- why an edit was refused; out of memory is no reason
 abbrev pub reason_text : EditError → List ℕ
 reason_text (error.NoSuchRow rows) = codes "no such row"
 reason_text error.HasExample = codes "row has an example"

@@ -1,6 +1,6 @@
 //! The records of edits.
 ghost use Rattle.std.specs.Prelude.{◌≡◌, ◌∷◌, ◌++◌, IfOk, string_bytes};
-ghost use Rattle.fill_report.specs.Records.{done_fields, kind_word, length_text, ok_record, reason_text, refused_record, row_fields};
+ghost use Rattle.fill_report.specs.Records.{done_fields, kind_word, length_text, ok_record, reason_text, refused_record};
 ghost use Rattle.fill_undo.specs.Done.{done_of};
 
 use crate::records::Record;

@@ -6,7 +6,7 @@ use fill_text::NoMemory;
 pub enum Halt {
     /// A write failed.
     Fault,
-    /// Want of memory.
+    /// Out of memory.
     NoMemory,
 }
 

@@ -8,7 +8,7 @@ pub fn report_is_one()
     ensures { ReportIsOne }
 {}
 
-/// What stands on a sink after a fault or for want of memory is of the front of the whole report, wherever there is one.
+/// What stands on a sink after a fault or after memory ran out is of the front of the whole report, wherever there is one.
 pub fn beginnings_are_fronts()
     ensures { BeginningsAreFronts }
 {}

@@ -1,7 +1,6 @@
 //! What questions write.
-ghost use Rattle.std.specs.Prelude.{◌≡◌, ◌≤◌, ℕ, length, IfOk, IsErrOf, option_map};
+ghost use Rattle.std.specs.Prelude.{◌≡◌, ◌≤◌, length, IfOk, IsErrOf, option_map};
 ghost use Rattle.fill_edge.specs.Outside.{Rose};
-ghost use Rattle.fill_tree.specs.Meaning.{program_tree};
 ghost use Rattle.fill_tree.specs.Switch.{switch_tree};
 ghost use Rattle.fill_script.specs.declared.script.Entry.TheVariants as entry;
 ghost use Rattle.fill_session.specs.Outcome.{is_row};

@@ -125,7 +125,7 @@ impl Counts {
     }
 }
 
-/// The answer on the row after so many first ones, whose state is counted with theirs.
+/// The answer on row `above + 1`; adds its state to `counts`.
 fn counted_answer(
     alloc: Global,
     shapes: &mut Shapes,
@@ -146,7 +146,7 @@ fn counted_answer(
     Ok(answer)
 }
 
-/// The record of the row after so many first ones, whose state is counted with theirs.
+/// The record of row `above + 1`; adds its state to `counts`.
 pub(crate) fn counted_record(
     alloc: Global,
     shapes: &mut Shapes,

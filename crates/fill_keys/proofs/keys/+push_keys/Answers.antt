@@ -13,46 +13,49 @@ pub returns-then-begun-size-clause-added : goal.returns-then-begun-size-clause-a
 returns-then-begun-size-clause-added t c =
     let v = c.deref.ensures.value in
     let long : length c.args.columns.now.items ≡ c.args.size = ap length (sym v) ∙ c.deref.ensures.len ∙ sym c.len-begun.ensures ∙ c.if-begun-size.true in
-    on_ok c.push_key.result (Adds keys_cmp c.args.keys.now c.push_key.new.keys (λ key. (key ≡ c.deref.result.now) × IsMinimalKey c.args.tables.now c.args.table key))
-    (Adds keys_cmp c.args.keys.now c.push_key.new.keys (BeginsMinimalKey c.args.tables.now c.args.table c.args.size c.args.columns.now.items))
-    (λ a. begins_whole c.args.tables.now c.args.table c.args.size c.args.columns.now.items c.args.keys.now c.push_key.new.keys long
-    (subst (λ d. Adds keys_cmp c.args.keys.now c.push_key.new.keys (λ key. (key ≡ d) × IsMinimalKey c.args.tables.now c.args.table key)) v a))
+    on_ok c.push_key.result (Adds keys_cmp c.args.keys.now c.push_key.new.keys (λ key. (key ≡ c.deref.result.now) × IsMinimalKey c.args.tables.now c.args.ranked.now.table key))
+    (Adds keys_cmp c.args.keys.now c.push_key.new.keys (BeginsMinimalKey c.args.tables.now c.args.ranked.now.table c.args.size c.args.columns.now.items))
+    (λ a. begins_whole c.args.tables.now c.args.ranked.now.table c.args.size c.args.columns.now.items c.args.keys.now c.push_key.new.keys long
+    (subst (λ d. Adds keys_cmp c.args.keys.now c.push_key.new.keys (λ key. (key ≡ d) × IsMinimalKey c.args.tables.now c.args.ranked.now.table key)) v a))
     c.push_key.ensures
 
 pub loop-column-init : goal.loop-column-init
 loop-column-init t c =
-    (refl, goes_on_none c.args.tables.now c.args.table c.args.size c.args.columns.now.items c.args.next c.args.keys.now c.requires.next)
+    (refl, goes_on_none c.args.tables.now c.args.ranked.now.table c.args.size c.args.columns.now.items c.args.next c.args.keys.now c.requires.next)
 
 pub push_keys-requires : goal.push_keys-requires
 push_keys-requires t c =
     let old = c.args.columns.now.items in
     let column = c.loop-column.column in
-    let width : column_count c.args.tables.now c.args.table ≡ c.width-column-end.result = ap (λ o. unwrap_or o 0) c.width-column-end.ensures in
+    let width : column_count c.args.tables.now c.args.ranked.now.table ≡ c.width-column-end.result = ap (λ o. unwrap_or o 0) c.width-column-end.ensures in
     let e : c.push.new.self.items ≡ old ++ column ∷ [] = c.in_ok-push.ensures.items ∙ ap (λ v. v ++ column ∷ []) c.loop-column.invariant.0 in
     let short : length old < c.args.size = omega (arith, c.args.columns.now.ok.0, c.requires.begun.fits, c.len-begun.ensures) in
     let longer : length c.push.new.self.items ≡ length old + 1 = ap length e ∙ length-append old (column ∷ []) in
     let from : c.args.next ≤ column = omega arith in
-    let to : column ≤ column_count c.args.tables.now c.args.table = omega (arith, width) in (
+    let to : column ≤ column_count c.args.tables.now c.args.ranked.now.table = omega (arith, width) in (
       search rules,
       (
         c.requires.first,
         (
           c.requires.last,
           (
-            c.requires.narrow,
+            c.requires.ranked,
             (
-              c.requires.some,
+              c.requires.narrow,
               (
-                c.requires.few,
+                c.requires.some,
                 (
-                  subst (IsPrefix (column_count c.args.tables.now c.args.table) c.args.size) (sym e)
-                      (longer_prefix (column_count c.args.tables.now c.args.table) c.args.size column c.args.next old c.requires.begun c.requires.next from to short),
+                  c.requires.few,
                   (
-                    subst (λ v. IsNext v (column + 1)) (sym e) (longer_next column c.args.next old c.requires.next from),
+                    subst (IsPrefix (column_count c.args.tables.now c.args.ranked.now.table) c.args.size) (sym e)
+                        (longer_prefix (column_count c.args.tables.now c.args.ranked.now.table) c.args.size column c.args.next old c.requires.begun c.requires.next from to short),
                     (
-                      omega (arith, to, c.requires.narrow),
-                      more_smaller c.args.tables.now c.args.table c.args.size c.args.keys.now c.loop-column.keys (GoesOnBefore c.args.tables.now c.args.table c.args.size old column)
-                          (λ key g. g.2.minimal) c.loop-column.invariant.1 c.requires.smaller,
+                      subst (λ v. IsNext v (column + 1)) (sym e) (longer_next column c.args.next old c.requires.next from),
+                      (
+                        omega (arith, to, c.requires.narrow),
+                        more_smaller c.args.tables.now c.args.ranked.now.table c.args.size c.args.keys.now c.loop-column.keys (GoesOnBefore c.args.tables.now c.args.ranked.now.table c.args.size old column)
+                            (λ key g. g.2.minimal) c.loop-column.invariant.1 c.requires.smaller,
+                      ),
                     ),
                   ),
                 ),
@@ -70,12 +73,12 @@ loop-column-preserved t c =
     let e : c.push.new.self.items ≡ old ++ column ∷ [] = c.in_ok-push.ensures.items ∙ ap (λ v. v ++ column ∷ []) c.loop-column.invariant.0 in
     let begun : length old ≡ c.len-begun.result = omega (arith, c.args.columns.now.ok.0, c.len-begun.ensures) in (
       c.truncate.ensures.items ∙ ap (take c.len-begun.result) (c.in_ok-push_keys.ensures.kept ∙ e) ∙ take_at old (column ∷ []) c.len-begun.result begun,
-      goes_on_more c.args.tables.now c.args.table c.args.size old column c.args.keys.now c.loop-column.keys c.push_keys.new.keys c.loop-column.invariant.1
-          (subst (λ v. Adds keys_cmp c.loop-column.keys c.push_keys.new.keys (BeginsMinimalKey c.args.tables.now c.args.table c.args.size v)) e c.in_ok-push_keys.ensures.added),
+      goes_on_more c.args.tables.now c.args.ranked.now.table c.args.size old column c.args.keys.now c.loop-column.keys c.push_keys.new.keys c.loop-column.invariant.1
+          (subst (λ v. Adds keys_cmp c.loop-column.keys c.push_keys.new.keys (BeginsMinimalKey c.args.tables.now c.args.ranked.now.table c.args.size v)) e c.in_ok-push_keys.ensures.added),
     )
 
 pub returns-clause-added : goal.returns-clause-added
 returns-clause-added t c =
-    let width : column_count c.args.tables.now c.args.table ≡ c.width-column-end.result = ap (λ o. unwrap_or o 0) c.width-column-end.ensures in
+    let width : column_count c.args.tables.now c.args.ranked.now.table ≡ c.width-column-end.result = ap (λ o. unwrap_or o 0) c.width-column-end.ensures in
     let short : length c.args.columns.now.items < c.args.size = omega (arith, c.args.columns.now.ok.0, c.requires.begun.fits, c.len-begun.ensures) in
-    goes_on_all c.args.tables.now c.args.table c.args.size c.args.columns.now.items c.loop-column.column c.args.keys.now c.loop-column.keys short (omega (arith, width)) c.loop-column.invariant.1
+    goes_on_all c.args.tables.now c.args.ranked.now.table c.args.size c.args.columns.now.items c.loop-column.column c.args.keys.now c.loop-column.keys short (omega (arith, width)) c.loop-column.invariant.1

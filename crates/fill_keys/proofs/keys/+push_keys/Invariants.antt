@@ -9,4 +9,4 @@ decreases-push_keys l = l.size - length l.columns.now.items
 
 abbrev pub invariant-loop-column : goal.invariant-loop-column
 invariant-loop-column l = (l.columns.items ≡ l.initial.columns.items)
-    × Adds keys_cmp l.initial.keys l.keys (GoesOnBefore l.tables l.table l.size l.initial.columns.items l.column)
+    × Adds keys_cmp l.initial.keys l.keys (GoesOnBefore l.tables l.ranked.table l.size l.initial.columns.items l.column)

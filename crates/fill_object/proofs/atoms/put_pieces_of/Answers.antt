@@ -39,4 +39,4 @@ returns-clause-gains c =
 pub returns-clause-known : goal.returns-clause-known
 returns-clause-known c =
     ok_on _ _ c.put_between.result c.put_between.ensures
-    (λ u h. record { sources = c.requires.known.sources; parts = c.requires.known.parts; spots = c.in_ok-to.ensures.known })
+    (λ u h. record { sources = c.requires.known.sources; parts = c.requires.known.parts; atoms = c.requires.known.atoms; spots = c.in_ok-to.ensures.known })

@@ -1,17 +1,20 @@
-use Rattle.fill_arena.specs.Contents.{SomeIn}
+use Rattle.std.proofs.Common.{Vec, Global, sym, subst, ◌∙◌}
 use Rattle.fill_arena.specs.Stands.{AtomStands}
-use Rattle.fill_rank.specs.Sets.{ConstantFits, PartStands}
 use Rattle.fill_object.specs.Kinds.{atoms_on}
-use Rattle.fill_object.proofs.Gains.{leasts_then}
-use Rattle.fill_object.proofs.KindLaws.{atoms_laws}
-use Rattle.fill_object.proofs.Made.{part_or_constant, constant_stands}
+use Rattle.fill_object.specs.Leasts.{AreLeasts}
+use Rattle.fill_object.specs.declared.valued.ValuedAtom.{ValuedAtom}
 use Rattle.fill_object.proofs.edges.atoms_of.Goals as goal
+
+pub returns-in-Some-clause-least : goal.returns-in-Some-clause-least
+returns-in-Some-clause-least c =
+    subst (λ (v : Vec ValuedAtom Global). AreLeasts (atoms_on c.args.on.now) (AtomStands c.args.on.now.arena.now c.args.s) v.items) (sym c.in_ok-clone.ensures.cases) (c.in-Some.ensures c.args.on.now c.requires.known)
 
 pub returns-clause-least : goal.returns-clause-least
 returns-clause-least c =
-    let on = c.args.on.now in
-    let s = c.args.s in
-    let items = c.atoms.result.now in
-    leasts_then (atoms_on on) (atoms_laws on) (PartStands on.arena.now s) (λ a. SomeIn (λ i. ConstantFits on.arena.now i a) items) (AtomStands on.arena.now s)
-    (part_or_constant on.arena.now s items c.atoms.ensures) (λ a h. h.1) (constant_stands on.arena.now s items c.atoms.ensures) c.in_ok-kept.kept.items c.put_constants.new.kept.items
-    c.in_ok-kept.ensures.least c.in_ok-put_constants.ensures
+    subst (λ (v : Vec ValuedAtom Global). AreLeasts (atoms_on c.args.on.now) (AtomStands c.args.on.now.arena.now c.args.s) v.items) (sym c.in_ok-found.ensures.ok) c.in_ok-scan_atoms.ensures.least
+
+pub returns-clause-known : goal.returns-clause-known
+returns-clause-known c =
+    c.in_ok-keep_atoms.ensures c.args.on.now c.in_ok-scan_atoms.ensures.known
+    (subst (λ (v : Vec ValuedAtom Global). AreLeasts (atoms_on c.args.on.now) (AtomStands c.args.on.now.arena.now c.args.s) v.items)
+    (sym (c.in_ok-clone-2.ensures.cases ∙ c.in_ok-found.ensures.ok)) c.in_ok-scan_atoms.ensures.least)

@@ -12,5 +12,6 @@ returns-in-Ok c on known least =
     record {
       parts = put_right (λ q. get nat_eq c.args.self.now.parts q) (λ q. get nat_eq c.insert.new.self q) (λ q o. AreLeasts (atoms_on on) (PartStands on.arena.now q) o.value.items) c.args.s c.args.found u.1 u.2 known.parts least;
       sources = known.sources;
+      atoms = known.atoms;
       spots = known.spots;
     }

@@ -12,5 +12,6 @@ returns-in-Ok c on known least =
     record {
       sources = put_right (λ q. get nat_eq c.args.self.now.sources q) (λ q. get nat_eq c.insert.new.self q) (λ q o. AreLeasts (sources_on on) (SourceStands on.arena.now q) o.value.items) c.args.s c.args.found u.1 u.2 known.sources least;
       parts = known.parts;
+      atoms = known.atoms;
       spots = known.spots;
     }

@@ -2,4 +2,4 @@ use Rattle.std.proofs.Common.{rules}
 use Rattle.fill_object.proofs.known.Known.new.Goals as goal
 
 pub returns : goal.returns
-returns c on = record { sources = search rules; parts = search rules; spots = c.new-3.ensures on.prices.now on.arena.now }
+returns c on = record { sources = search rules; parts = search rules; atoms = search rules; spots = c.new-4.ensures on.prices.now on.arena.now }
