@@ -1,3 +1,3 @@
-mod FirstOthers
+pub mod FirstOthers
 mod Shown
 mod Unique

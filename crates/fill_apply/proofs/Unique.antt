@@ -1,6 +1,5 @@
 -- One thing at most comes of a report's bytes.
-use Rattle.std.proofs.Common.{◌≡◌, ℕ, ◌≤◌, List, [], ◌∷◌, length, take, None, Some, Result, Ok, Err, refl, sym, ap, subst, ◌∙◌, arith}
-use Rattle.std.proofs.lemmas.List.{take_all}
+use Rattle.std.proofs.Common.{◌≡◌, ℕ, List, [], ◌∷◌, Some, Result, Ok, Err, sym, ap, subst, ◌∙◌, arith}
 use Rattle.fill_records.specs.Records.{records_of}
 use Rattle.fill_tokens.specs.declared.token_set.TheConstants.TokenSet as set
 use Rattle.fill_tree.specs.Switch.{SwitchTree}

@@ -29,7 +29,7 @@ abbrev pub columns_read : List CaseTree → List ℕ
 columns_read cases = flat_map (λ c. guard_columns c.guard) cases
 
 -- what comes of a text that is not empty, for sheets with these inputs: the conditional program that it spells by the
--- tokens of a set and whose guards read inputs alone, or why there is none. Want of memory is of no text
+-- tokens of a set and whose guards read inputs alone, or why there is none. Out of memory is of no text
 abbrev pub SpelledBy : TokenSet → List ℕ → List ℕ → Result SwitchTree ApplyError → Type 0
 SpelledBy tokens inputs text (Ok s) = IsTextOf tokens text s × IsFirstOther inputs (columns_read s.cases) None
 SpelledBy tokens inputs text (Err error.NoSwitch) = ⊥

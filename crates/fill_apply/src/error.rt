@@ -17,7 +17,7 @@ pub enum ApplyError {
     /// The first column that a guard reads and that is no input.
     #[error("column {column} is no input")]
     NoInput { column: u32 },
-    /// Want of memory.
+    /// Out of memory.
     #[error("out of memory")]
     NoMemory,
 }

@@ -5,6 +5,7 @@ mod columns;
 mod error;
 mod laws;
 mod record;
+mod report;
 mod saved;
 
 pub use error::ApplyError;

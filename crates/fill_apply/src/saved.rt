@@ -1,15 +1,13 @@
 //! The conditional program that a report saves.
-ghost use Rattle.std.specs.Prelude.{◌≡◌, ◌≢◌, All, Contains, IfErr, IfOk, Err, Ok};
+ghost use Rattle.std.specs.Prelude.{◌≢◌, All, Contains, IfErr, IfOk, Err, Ok};
 ghost use Rattle.fill_tree.specs.Switch.{switch_tree};
-ghost use Rattle.std.specs.Str.{bytes_eq};
-ghost use Rattle.fill_records.specs.Records.{field_of};
 ghost use Rattle.fill_print.specs.Tokens.{tokens_of};
-ghost use Rattle.fill_apply.specs.Saved.{SavedBy, SavedIs, SpelledBy, columns_read, is_shown, shown_text};
+ghost use Rattle.fill_apply.specs.Saved.{SavedBy, SavedIs, SpelledBy, columns_read};
 
 use crate::ApplyError;
 use crate::columns::first_other;
+use crate::report::shown_text;
 use fill_print::{Notation, ReadProgramError, read_switch};
-use fill_records::{Record, read_records, records_are_few};
 use fill_tree::Switch;
 use std::alloc::Global;
 
@@ -25,7 +23,7 @@ pub fn open_switch(alloc: Global, bytes: &[u8], inputs: &[u32]) -> Result<Switch
     open_switch_by(alloc, bytes, inputs, Notation::Second)
 }
 
-/// The same of the bytes of any file whose last record shows a program in this notation.
+/// The program that the last record of a file shows in this notation.
 pub fn open_switch_by(
     alloc: Global,
     bytes: &[u8],
@@ -36,41 +34,11 @@ pub fn open_switch_by(
     ensures err { IfErr result (λ e. e ≢ ApplyError.NoMemory → SavedBy (tokens_of notation) inputs.now bytes.now (Err e)) }
     ensures reads { IfOk result (λ s. let tree = switch_tree s in All (Contains inputs.now) (columns_read tree.cases)) }
 {
-    records_are_few(bytes);
-    let records = read_records(alloc, bytes, bytes.len())?;
-    let text = shown_text(records.as_slice());
-    if text.is_empty() {
+    let text = shown_text(alloc, bytes)?;
+    if text.as_slice().is_empty() {
         return Err(ApplyError::NoSwitch);
     }
-    switch_in(alloc, text, inputs, notation)
-}
-
-/// Whether a record shows a conditional program.
-fn is_shown(fields: &Record) -> bool
-    ensures { result ≡ is_shown fields.now }
-{
-    fields.len() == 2 && is_word(fields, b"switch")
-}
-
-/// Whether a record's first field is this word.
-fn is_word(fields: &Record, word: &[u8]) -> bool
-    ensures { result ≡ bytes_eq (field_of 1 fields.now) word.now }
-{
-    fields.field(1) == word
-}
-
-/// The text of the last record that shows a conditional program, the empty one where there is none.
-#[tactic(auto, using(crate::proofs::Shown::shown_more))]
-fn shown_text(records: &[Record]) -> &[u8]
-    ensures { result.now ≡ shown_text records.now }
-{
-    let mut text: &[u8] = b"";
-    for record in records {
-        if is_shown(record) {
-            text = record.field(2);
-        }
-    }
-    text
+    switch_in(alloc, text.as_slice(), inputs, notation)
 }
 
 /// The conditional program that a text spells in a notation.

@@ -1,5 +1,5 @@
 -- Values on rows that have the same cells are the same.
-use Rattle.std.proofs.Common.{◌≡◌, ◌↔◌, ℕ, List, [], ◌∷◌, All, Option, None, Some, option_and_then, position, slice_get, inl, inr, refl, sym, ap, subst, ◌∙◌, IfSome}
+use Rattle.std.proofs.Common.{◌≡◌, ◌↔◌, ℕ, List, [], ◌∷◌, Option, None, Some, inl, inr, refl, sym, ◌∙◌, IfSome}
 use Rattle.fill_text.specs.Data.{RowData, SheetData, TableData, cell_at, nth}
 use Rattle.fill_tree.specs.Guard.{GuardHolds, LiteralHolds, NoneHolds, SwitchIs, Takes}
 use Rattle.fill_tree.specs.Switch.{CaseTree, SwitchTree}
@@ -7,7 +7,7 @@ use Rattle.fill_tree.specs.Tree.{SourceTree, AtomTree, Atoms, col, select, const
 use Rattle.fill_tree.specs.Value.{AtomIs, ConditionIs, ConditionsAre, ProgramIs, SourceIs}
 use Rattle.fill_tree.specs.declared.guard.Literal.{Literal}
 use Rattle.fill_tree.specs.declared.guard.Guard.{Guard}
-use Rattle.fill_cells.specs.Row.{row_sheet}
+use Rattle.fill_sheet.specs.Sheet.{row_sheet}
 
 -- two rows have the same cells
 abbrev SameCells : SheetData → ℕ → SheetData → ℕ → Type 0

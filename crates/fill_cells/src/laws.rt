@@ -3,7 +3,7 @@ ghost use Rattle.std.specs.Prelude.{◌≡◌, ◌↔◌, ℕ, List, Some};
 ghost use Rattle.fill_text.specs.Data.{RowData, SheetData, TableData, nth};
 ghost use Rattle.fill_tree.specs.Guard.{SwitchIs};
 ghost use Rattle.fill_tree.specs.Switch.{SwitchTree};
-ghost use Rattle.fill_cells.specs.Row.{row_sheet};
+ghost use Rattle.fill_sheet.specs.Sheet.{row_sheet};
 
 /// The value on a row of a sheet depends on its cells alone: it is that on the sheet of this one row. It does nothing.
 pub fn values_are_of_cells()

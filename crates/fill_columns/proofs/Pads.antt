@@ -1,5 +1,5 @@
 -- Empty fields at the end of a record.
-use Rattle.std.proofs.Common.{◌≡◌, ◌∙◌, ℕ, ◌+◌, ◌-◌, ◌≤◌, List, [], ◌∷◌, ◌++◌, length, replicate, sym, ap, arith, append_assoc, refl}
+use Rattle.std.proofs.Common.{◌≡◌, ◌∙◌, ℕ, ◌+◌, ◌-◌, ◌≤◌, List, [], ◌∷◌, ◌++◌, length, replicate, ap, arith, append_assoc}
 use Rattle.std.proofs.lemmas.List.{replicate-append-replicate}
 
 -- one more

@@ -1,17 +1,17 @@
 -- The columns to read are as a sheet wants its inputs.
-use Rattle.std.proofs.Common.{◌≡◌, ◌≢◌, ◌⊎◌, inl, inr, ◌∙◌, ℕ, zero, suc, ◌+◌, ◌-◌, ◌==◌, ◌≤◌, ◌<◌, ◌&&◌, List, [], ◌∷◌, ◌++◌, length, take, filter, not, Bool, true, false, Option, None, Some, Result, Ok, Err, sym, ap, arith, refl, subst, All, AllPairs, get_or, get_or-take, length-append, nat_le, min}
-use Rattle.std.specs.Prelude.{◌||◌, if◌then◌else◌}
+use Rattle.std.proofs.Common.{◌≡◌, ◌≢◌, ◌∙◌, ℕ, zero, suc, ◌+◌, ◌-◌, ◌==◌, ◌≤◌, ◌<◌, ◌&&◌, List, [], ◌∷◌, ◌++◌, length, take, filter, not, Bool, true, false, Option, None, Some, Result, Ok, Err, sym, ap, arith, refl, subst, All, AllPairs, get_or, get_or-take, length-append, nat_le, min}
+use Rattle.std.specs.Prelude.{if◌then◌else◌}
 use Rattle.std.specs.List.{Contains, list_any, range_with_len}
 use Rattle.std.proofs.lemmas.List.{length-take}
-use Rattle.std.proofs.lemmas.List.Elements.{All-cons, All-contains, All-filter, All-nil, All-push, All-take, Contains-append_cases}
+use Rattle.std.proofs.lemmas.List.Elements.{All-cons, All-contains, All-filter, All-nil, All-push, All-take}
 use Rattle.std.proofs.lemmas.List.Quantifiers.{all_pairs_push}
 use Rattle.std.proofs.lemmas.List.Kept.{AllPairs-cons, AllPairs-filter}
 use Rattle.std.proofs.lemmas.Bool.{and_parts}
 use Rattle.std.proofs.lemmas.Bool.Decides.{nat_tests}
 use Rattle.fill_script.specs.Number.{number_in}
-use Rattle.fill_sheet.specs.Columns.{AreInputs, IsColumn, IsOutput}
-use Rattle.fill_columns.specs.Columns.{column_in, column_of, named, numbered, of_number, within}
-use Rattle.fill_columns.specs.Choice.{Again, ChoiceData, Filled, Full, Present, Refusal, TooMany, choice_in, choice_with, chosen, further, new_among, of_word, one_more, others, some_of, sources_in, with_word, with_words}
+use Rattle.fill_sheet.specs.Columns.{AreInputs, IsColumn}
+use Rattle.fill_columns.specs.Columns.{column_in, column_of, named, of_number, within}
+use Rattle.fill_columns.specs.Choice.{Again, Filled, Full, Refusal, TooMany, chosen, further, new_among, of_word, one_more, others, some_of, sources_in, with_word, with_words}
 use Rattle.fill_columns.specs.declared.error.ColumnError.{ColumnError}
 use Rattle.fill_columns.specs.declared.error.ColumnError.TheVariants as fault
 

@@ -29,7 +29,7 @@ pub data Refusal : Type 0 where
   TooMany : Refusal
   Nothing : Refusal
 
--- the refusal of the code tells this one; want of memory is free
+-- the refusal of the code tells this one; out of memory is free
 abbrev pub Refuses : {A : Type 0} → Result A Refusal → ChoiceError → Type 0
 Refuses r (choice.Missing word) = r ≡ Err (Missing word.now)
 Refuses r (choice.Ambiguous word) = r ≡ Err (Ambiguous word.now)

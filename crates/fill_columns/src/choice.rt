@@ -1,9 +1,9 @@
 //! The columns that words choose.
-ghost use Rattle.std.specs.Prelude.{◌≡◌, ◌≢◌, ◌≤◌, [], ◌==◌, IfOk, IfErr, Ok, Some, map, option_copied, string_bytes, length};
+ghost use Rattle.std.specs.Prelude.{◌≡◌, [], ◌==◌, IfOk, IfErr, Ok, Some, map, option_copied, string_bytes};
 ghost use Rattle.std.specs.List.{list_any};
 ghost use Rattle.fill_sheet.specs.Columns.{AreInputs, IsOutput};
 ghost use Rattle.fill_columns.specs.Columns.{names_of};
-ghost use Rattle.fill_columns.specs.Choice.{Refuses, choice_after, choice_data, choice_in, choice_with, chosen, new_among, new_column, one_more, others, sources_in, with_word, with_words};
+ghost use Rattle.fill_columns.specs.Choice.{Refuses, choice_after, choice_data, choice_in, chosen, new_among, new_column, one_more, others, sources_in};
 
 use crate::column::{column_of, named};
 use crate::{ChoiceError, ColumnError};

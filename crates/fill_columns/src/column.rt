@@ -1,5 +1,5 @@
 //! The column of a word.
-ghost use Rattle.std.specs.Prelude.{◌≡◌, ◌≢◌, ◌<◌, ◌≤◌, IfOk, IfErr, Ok, Err, [], slice_get, unwrap_or, length, option_map, get_or, nat_le};
+ghost use Rattle.std.specs.Prelude.{◌≡◌, ◌≢◌, ◌<◌, IfOk, IfErr, Ok, Err, [], unwrap_or, length, option_map, get_or};
 ghost use Rattle.std.specs.Str.{bytes_eq};
 ghost use Rattle.fill_columns.specs.Columns.{column_in, column_of, named, names_of, numbered, within};
 

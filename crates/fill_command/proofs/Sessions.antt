@@ -97,7 +97,7 @@ module _ (words : List (List ℕ)) (files : Files) (before now : Counts) (old ne
     always_ready = told_all files AlwaysReady (λ held h. inr (inl is));
   }
 
-  -- the steps stopped, which want of memory alone does for a generated session
+  -- the steps stopped, which out of memory alone does for a generated session
   stopped : (why : Stop) → Stops (opening words) files before now why → ((n : ℕ) → command_in words ≡ Some (made n) → why ≡ stop.NoMemory) → Keeps old new × (last ≡ first)
       → (r ≢ 6 → (r ≡ status_of why) × Said (stop_line why)) → (r ≡ status_of why) ⊎ (r ≡ 6) → Ending
   stopped why stops own keeps said (inr six) = memory_ends six (inl keeps)

@@ -45,7 +45,7 @@ pub record EndsApplied (names : Names) (files : Files) (status : ℕ) (before no
   pub refused : status ≡ 5 → (line : List ℕ) × Told files (λ held. AppliedIs names held (Refused line)) × Said line
   pub memory : status ≡ 6 → Keeps old new ⊎ WritesAppliedRecords names files old new
   pub quiet : (status ≡ 3) ⊎ (status ≡ 5) → Keeps old new
-  -- and the other way round, but for want of memory
+  -- and the other way round, unless memory runs out
   pub always_unread : Told files (λ held. (name : List ℕ) → AppliedIs names held (Unread name) → (status ≡ 3) ⊎ (status ≡ 6))
   pub always_refused : Told files (λ held. (line : List ℕ) → AppliedIs names held (Refused line) → (status ≡ 5) ⊎ (status ≡ 6) ⊎ (status ≡ 3))
   pub always_ready : Told files (λ held. (a : Applied) → AppliedIs names held (Passed a) → (status ≡ 0) ⊎ (status ≡ 6) ⊎ (status ≡ 3) ⊎ (status ≡ 4))

@@ -42,7 +42,7 @@ pub record EndsKeys (file : List ℕ) (files : Files) (status : ℕ) (before now
   pub refused : status ≡ 5 → (line : List ℕ) × Told files (λ held. (keys_opens file held).outcome ≡ Refused line) × Said line
   pub memory : status ≡ 6 → Keeps old new ⊎ WritesFirstKeys file files old new
   pub quiet : (status ≡ 3) ⊎ (status ≡ 5) → Keeps old new
-  -- and the other way round, but for want of memory
+  -- and the other way round, unless memory runs out
   pub always_unread : Told files (λ held. (name : List ℕ) → (keys_opens file held).outcome ≡ Unread name → (status ≡ 3) ⊎ (status ≡ 6))
   pub always_refused : Told files (λ held. (line : List ℕ) → (keys_opens file held).outcome ≡ Refused line → (status ≡ 5) ⊎ (status ≡ 6) ⊎ (status ≡ 3))
   pub always_ready : Told files (λ held. IsPassed (keys_opens file held).outcome → (status ≡ 0) ⊎ (status ≡ 6) ⊎ (status ≡ 3) ⊎ (status ≡ 4))

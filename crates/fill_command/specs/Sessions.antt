@@ -30,7 +30,7 @@ pub record EndsSession (words : List (List ℕ)) (files : Files) (status : ℕ) 
   pub refused : status ≡ 5 → (line : List ℕ) × Ends files words (Refused line) × Said line
   pub memory : status ≡ 6 → (Keeps old new × (last ≡ first)) ⊎ WritesRecords files words old new first last
   pub quiet : (status ≡ 3) ⊎ (status ≡ 5) → Keeps old new × (last ≡ first)
-  -- and the other way round, but for want of memory
+  -- and the other way round, unless memory runs out
   pub always_unread : Told files (λ held. (name : List ℕ) → opened words held ≡ Unread name → (status ≡ 3) ⊎ (status ≡ 6))
   pub always_refused : Told files (λ held. (line : List ℕ) → opened words held ≡ Refused line → (status ≡ 5) ⊎ (status ≡ 6) ⊎ (status ≡ 3))
   pub always_ready : Told files (λ held. IsPassed (opened words held) → (status ≤ 1) ⊎ (status ≡ 6) ⊎ (status ≡ 3) ⊎ (status ≡ 4))

@@ -1,5 +1,5 @@
 //! The run of an application.
-ghost use Rattle.std.specs.Prelude.{◌≡◌, ◌⊎◌, ◌≤◌};
+ghost use Rattle.std.specs.Prelude.{◌≡◌, ◌≤◌};
 ghost use Rattle.std.specs.Io.KnownBytes.{Keeps};
 ghost use Rattle.fill_edge.specs.Outside.{Rose};
 ghost use Rattle.fill_open.specs.Apply.{named};

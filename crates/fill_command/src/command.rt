@@ -37,7 +37,7 @@ use std::alloc::Global;
 /// | 3 | a file is not there or could not be read |
 /// | 4 | the output could not be written |
 /// | 5 | a file is refused |
-/// | 6 | want of memory |
+/// | 6 | out of memory |
 pub fn run<C: Cabinet, O: Sink, E: Sink, L: Ledger>(
     alloc: Global,
     words: &[String],
@@ -61,7 +61,7 @@ pub fn run<C: Cabinet, O: Sink, E: Sink, L: Ledger>(
     ensures unread { IsOfSession (map string_bytes words.now) → result ≡ 3 → (name : List ℕ) × (IsUnread (opening (map string_bytes words.now)) (C.files cabinet.old) name ⊎ ReadFails (opening (map string_bytes words.now)) (C.files cabinet.old) (C.faults cabinet.old) (C.faults cabinet.new) name)
         × Says (E.written err.old) (E.written err.new) (E.faults err.old) (E.faults err.new) (unread_line name) }
 
-    // A generated session reads nothing, and it always opens: its report is written, but for a failed write or want of memory.
+    // A generated session reads nothing and always opens: its report is written, unless a write fails or memory runs out.
     ensures generated { (n : ℕ) → command_in (map string_bytes words.now) ≡ Some (made n) → ((result ≤ 1) ⊎ (result ≡ 4) ⊎ (result ≡ 6)) × (cabinet.new ≡ cabinet.old) }
 
     // 4 only where a write to `out` failed in this call, with a proper prefix of the report.
@@ -73,14 +73,14 @@ pub fn run<C: Cabinet, O: Sink, E: Sink, L: Ledger>(
     ensures refused { IsOfSession (map string_bytes words.now) → result ≡ 5 → (line : List ℕ) × Ends (C.files cabinet.old) (map string_bytes words.now) (Refused line)
         × Says (E.written err.old) (E.written err.new) (E.faults err.old) (E.faults err.new) line }
 
-    // 6 is want of memory, with nothing or with the first whole records of the report.
+    // 6 is out of memory, with nothing or with the first whole records of the report.
     ensures memory { IsOfSession (map string_bytes words.now) → result ≡ 6 → (Keeps (O.written out.old) (O.written out.new) × (steps.new ≡ steps.old)) ⊎ WritesRecords (C.files cabinet.old) (map string_bytes words.now) (O.written out.old) (O.written out.new) steps.old steps.new }
     ensures memory_said { result ≡ 6 → Says (E.written err.old) (E.written err.new) (E.faults err.old) (E.faults err.new) memory_line }
 
     // Nothing is written to `out`, and no step is made, for 2, 3 and 5.
     ensures quiet { (result ≡ 2) ⊎ (result ≡ 3) ⊎ (result ≡ 5) → Keeps (O.written out.old) (O.written out.new) × (steps.new ≡ steps.old) }
 
-    // And the other way round, but for want of memory.
+    // And the other way round, unless memory runs out.
     ensures always_unread { Told (C.files cabinet.old) (λ held. (name : List ℕ) → opened (map string_bytes words.now) held ≡ Unread name → (result ≡ 3) ⊎ (result ≡ 6)) }
     ensures always_refused { Told (C.files cabinet.old) (λ held. (line : List ℕ) → opened (map string_bytes words.now) held ≡ Refused line → (result ≡ 5) ⊎ (result ≡ 6) ⊎ (result ≡ 3)) }
     ensures always_ready { Told (C.files cabinet.old) (λ held. IsPassed (opened (map string_bytes words.now) held) → (result ≤ 1) ⊎ (result ≡ 6) ⊎ (result ≡ 3) ⊎ (result ≡ 4)) }

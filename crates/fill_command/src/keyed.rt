@@ -1,5 +1,5 @@
 //! The records of a table's keys.
-ghost use Rattle.std.specs.Prelude.{◌≡◌, ◌≤◌, ◌++◌, ℕ, IfOk, IsErrOf, OnErr, OnOk, length, take};
+ghost use Rattle.std.specs.Prelude.{◌≡◌, ◌≤◌, ℕ, IfOk, IsErrOf, OnOk, length, take};
 ghost use Rattle.std.specs.Io.KnownBytes.{Appends};
 ghost use Rattle.fill_edge.specs.Outside.{AppendsPart, Rose};
 ghost use Rattle.fill_sheet.specs.Report.{record_text};

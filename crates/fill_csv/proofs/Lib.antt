@@ -4,3 +4,5 @@ pub mod Pages
 pub mod Rows
 pub mod Steps
 pub mod Tolds
+pub mod Likeness
+pub mod Switching

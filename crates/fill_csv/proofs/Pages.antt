@@ -1,6 +1,5 @@
 -- What was written of a page, said of an equal one.
-use Rattle.std.proofs.Common.{◌≡◌, ◌⊎◌, ◌≤◌, ℕ, List, length, Bool, Option, Result, subst}
-use Rattle.std.specs.Prelude.{IfOk}
+use Rattle.std.proofs.Common.{◌≡◌, ◌⊎◌, ◌≤◌, ℕ, List, length, Bool, Option, subst}
 use Rattle.std.specs.List.{list_any}
 use Rattle.std.specs.Io.KnownBytes.{Keeps}
 use Rattle.fill_tree.specs.declared.user.Example.{Example}
@@ -11,7 +10,7 @@ use Rattle.fill_filled.specs.Filled.{AreCellStates, WritesPart, WritesRows, is_u
 use Rattle.fill_filled.specs.Learned.{AreLearned}
 use Rattle.fill_filled.specs.declared.form.Form.{Form}
 use Rattle.fill_filled.specs.declared.learning.Refused.{Refused}
-use Rattle.fill_csv.specs.Saved.{ColumnsData, IsSavedText}
+use Rattle.fill_csv.specs.Saved.{FrameData, IsSavedText}
 
 -- all that the writing of a sheet depends on
 pub record Whole : Type 0 where
@@ -20,7 +19,7 @@ pub record Whole : Type 0 where
   pub over : Ground
   pub rows : List Fields
   pub head : List ℕ
-  pub saving : Option ColumnsData
+  pub saving : Option FrameData
 
 module _ (old new : Option (List ℕ)) where
   abbrev pub IsDone : Whole → List Refused → Bool → Option (List ℕ) → Type 0

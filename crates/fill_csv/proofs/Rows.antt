@@ -1,7 +1,7 @@
 -- A sheet that is read has a row for each record after the header.
-use Rattle.std.proofs.Common.{◌≡◌, ◌∙◌, ℕ, List, length, map, Bool, true, false, Option, None, Some, Result, Ok, Err, sym, ap, refl}
+use Rattle.std.proofs.Common.{◌≡◌, ◌∙◌, ℕ, List, length, Bool, true, false, Option, None, Some, Ok, sym, ap}
 use Rattle.std.proofs.lemmas.List.{length-map}
-use Rattle.fill_text.specs.Data.{RowData, SheetData}
+use Rattle.fill_text.specs.Data.{SheetData}
 use Rattle.fill_records.specs.Records.{records_of}
 use Rattle.fill_sheet.specs.Columns.{rising}
 use Rattle.fill_tree.specs.declared.user.Example.{Example}

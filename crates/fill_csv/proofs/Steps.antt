@@ -1,8 +1,8 @@
 -- The steps of opening a sheet and its tables.
-use Rattle.std.proofs.Common.{◌≡◌, ◌∙◌, ℕ, List, [], None, Some, map, refl}
+use Rattle.std.proofs.Common.{◌≡◌, ◌∙◌, ℕ, List, [], None, Some}
 use Rattle.fill_text.specs.Data.{TableData}
 use Rattle.fill_edge.specs.Outside.{Files, NoneFell}
-use Rattle.fill_open.specs.Opened.{Held, Told, Opened, Opening, Passed, and_then, at_once}
+use Rattle.fill_open.specs.Opened.{Held, Told, Opened, Passed, at_once}
 use Rattle.fill_open.specs.Stops.{Counts, Refuses, Stops}
 use Rattle.fill_open.specs.declared.stop.Stop.{Stop}
 use Rattle.fill_open.specs.declared.stop.Stop.TheVariants as stop

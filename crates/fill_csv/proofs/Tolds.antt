@@ -1,5 +1,5 @@
 -- How a run ends on a sheet that was written, by what is told of it.
-use Rattle.std.proofs.Common.{◌≡◌, ◌∙◌, ◌⊎◌, ◌≤◌, ◌&&◌, ◌||◌, ℕ, List, Bool, true, false, Option, Some, ap, sym, inl, inr, arith, length, refl, subst, suc, zero}
+use Rattle.std.proofs.Common.{◌≡◌, ◌∙◌, ◌⊎◌, ◌≤◌, ◌&&◌, ◌||◌, ℕ, List, Bool, true, false, Option, ap, sym, inl, inr, arith, length, refl, subst, suc, zero}
 use Rattle.std.specs.List.{list_any}
 use Rattle.fill_edge.specs.Outside.{Files}
 use Rattle.fill_open.specs.Stops.{Counts}

@@ -6,7 +6,7 @@ use Rattle.fill_edge.specs.Outside.{Files, Rose, counted}
 use Rattle.fill_sheet.specs.Sheet.{row_records}
 use Rattle.fill_records.specs.Records.{records_of}
 use Rattle.fill_tree.specs.declared.user.Example.{Example}
-use Rattle.fill_open.specs.Opened.{Told, Opened, IsPassed, Unread, Refused, Passed}
+use Rattle.fill_open.specs.Opened.{Told, IsPassed, Unread, Refused, Passed}
 use Rattle.fill_open.specs.Stops.{Counts, IsUnread, ReadFails}
 use Rattle.fill_report.specs.Output.{report_text}
 use Rattle.fill_report.specs.Records.{Fields}
@@ -114,7 +114,7 @@ pub record EndsFilled (asked : AskedData) (files : Files) (status : ℕ) (before
   pub quiet : (status ≡ 3) ⊎ (status ≡ 5) → Keeps old new
   -- nothing is saved but by a run that ends with 0 or 1
   pub unsaved : 2 ≤ status → kept.files ≡ held.files
-  -- and the other way round, but for want of memory
+  -- and the other way round, unless memory runs out
   pub always_unread : Told files (λ held. (name : List ℕ) → (sheet_opens asked held).outcome ≡ Unread name → (status ≡ 3) ⊎ (status ≡ 6))
   pub always_refused : Told files (λ held. (line : List ℕ) → (sheet_opens asked held).outcome ≡ Refused line → (status ≡ 5) ⊎ (status ≡ 6) ⊎ (status ≡ 3))
   pub always_ready : Told files (λ held. IsPassed (sheet_opens asked held).outcome → (status ≤ 1) ⊎ (status ≡ 6) ⊎ (status ≡ 3) ⊎ (status ≡ 4))

@@ -7,3 +7,4 @@ pub mod Opening
 pub mod Read
 pub mod Said
 pub mod Saved
+pub mod Alike

@@ -11,7 +11,7 @@ use Rattle.fill_report.specs.Records.{Fields}
 use Rattle.fill_files.specs.Saves.{SavedFiles, with_file}
 use Rattle.fill_rule.specs.Rule.{RuleData, rule_text}
 use Rattle.fill_rule.specs.declared.rule.Names.{Names}
-use Rattle.fill_words.specs.Words.{AskedData, New, TargetData, There}
+use Rattle.fill_words.specs.Words.{AskedData, LookupData, New, TargetData, There}
 use Rattle.fill_csv.specs.Opening.{SheetRead, header_of, records_in}
 
 -- the name of the column that is filled
@@ -19,12 +19,13 @@ abbrev pub output_name : TargetData → ℕ → Fields → List ℕ
 output_name (There word) column header = field_of column header
 output_name (New name) column header = name
 
--- the columns of a rule: their names where the header of a sheet names them, those that it reads in rising order, and the one
--- that it fills
-pub record ColumnsData : Type 0 where
+-- what a rule has beside its program: the columns, which are those that it reads in rising order and the one that it fills, with
+-- their names where the header of a sheet names them, and the tables that it looks up in
+pub record FrameData : Type 0 where
   pub names : Option Names
   pub inputs : List ℕ
   pub output : ℕ
+  pub lookups : List LookupData
 
 -- their names in a header
 abbrev pub rule_names : AskedData → SheetRead → Fields → Names
@@ -33,27 +34,28 @@ rule_names asked read header = record {
   output = output_name asked.to read.choice.to header;
 }
 
--- the columns of the rule for a sheet
-abbrev pub columns_of : AskedData → SheetRead → ColumnsData
-columns_of asked read = record {
+-- the frame of the rule for a sheet
+abbrev pub frame_of : AskedData → SheetRead → FrameData
+frame_of asked read = record {
   names = option_map (rule_names asked read) (header_of asked.header (records_in read.bytes));
   inputs = rising read.choice.from;
   output = read.choice.to;
+  lookups = asked.lookups;
 }
 
--- those of the rule that is to be saved, if one is
-abbrev pub saving_of : AskedData → SheetRead → Option ColumnsData
-saving_of asked read = option_map (λ path. columns_of asked read) asked.save
+-- that of the rule that is to be saved, if one is
+abbrev pub saving_of : AskedData → SheetRead → Option FrameData
+saving_of asked read = option_map (λ path. frame_of asked read) asked.save
 
--- the rule with these columns and this program
-abbrev pub rule_with : ColumnsData → SwitchTree → RuleData
-rule_with columns switch = record { names = columns.names; inputs = columns.inputs; output = columns.output; switch = switch }
+-- the rule of a frame and a program
+abbrev pub rule_with : FrameData → SwitchTree → RuleData
+rule_with frame switch = record { names = frame.names; inputs = frame.inputs; output = frame.output; lookups = frame.lookups; switch = switch }
 
 -- the text that is saved: that of the rule which is learned from these examples, where it is to be saved and there is one
-abbrev pub IsSavedText : Option ColumnsData → Ground → List Example → Option (List ℕ) → Type 0
+abbrev pub IsSavedText : Option FrameData → Ground → List Example → Option (List ℕ) → Type 0
 IsSavedText None g examples text = text ≡ None
-IsSavedText (Some columns) g examples text = (branches : List BranchData) × AreBranches g examples branches
-    × (text ≡ option_map (λ switch. rule_text (rule_with columns switch)) (switch_of branches))
+IsSavedText (Some frame) g examples text = (branches : List BranchData) × AreBranches g examples branches
+    × (text ≡ option_map (λ switch. rule_text (rule_with frame switch)) (switch_of branches))
 
 -- a rule is to be saved, and there is none
 abbrev pub lacks_rule : Option (List ℕ) → Option (List ℕ) → Bool

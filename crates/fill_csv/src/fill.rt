@@ -15,13 +15,13 @@ ghost use Rattle.fill_csv.specs.Fills.{Fills};
 ghost use Rattle.fill_csv.specs.Saved.{IsSavedText, StoreAt, saving_of};
 ghost use Rattle.fill_csv.specs.Ground.{ground_of, profile_of, settings_of};
 ghost use Rattle.fill_csv.specs.Said.{Says};
-ghost use Rattle.fill_csv.specs.Read.{AreParts, columns_data, read_data};
+ghost use Rattle.fill_csv.specs.Read.{AreParts, frame_data, read_data};
 
 use crate::clash::clashes_of;
 use crate::explain::Spoken;
 use crate::head;
 use crate::opening::{SheetRead, open_sheet};
-use crate::saving::{RuleColumns, saved_text, saving_of};
+use crate::saving::{RuleFrame, saved_text, saving_of};
 use crate::stop::{MEMORY_LINE, OUTPUT_LINE, say, tell};
 use crate::told::Told;
 use fill_edge::{Cabinet, Ledger, Sink, Steps};
@@ -198,7 +198,7 @@ fn doubts_of(alloc: Global, page: &Page<'_>, session: &Session, rows: &[u32]) ->
 fn write_page<O: Sink, L: Ledger>(
     alloc: Global,
     page: &Page<'_>,
-    saving: Option<RuleColumns>,
+    saving: Option<RuleFrame>,
     session: &mut Session,
     out: &mut O,
     steps: &mut Steps<L>,
@@ -212,7 +212,7 @@ fn write_page<O: Sink, L: Ledger>(
         × AreCellStates page.now.typed.now session.old.spaces.ground examples (length page.now.rows.now) states
         × (told.summary.unsure ≡ list_any is_unsure states)
         × (let p = page.now in WritesRows p.form p.typed.now session.old.spaces.ground examples p.rows.now p.head.now (length p.rows.now) (O.written out.old) (O.written out.new))
-        × IsSavedText (option_map columns_data saving) session.old.spaces.ground examples told.text) }
+        × IsSavedText (option_map frame_data saving) session.old.spaces.ground examples told.text) }
     ensures part { IsErrOf result Halt.Fault → ((examples : Listed Example) × (refused : Listed Refused) × (n : ℕ) × AreLearned page.now.typed.now session.old.spaces.ground examples refused
         × (let p = page.now in (n ≤ length p.rows.now) × WritesPart p.form p.typed.now session.old.spaces.ground examples p.rows.now p.head.now n (O.written out.old) (O.written out.new))) }
     ensures fault { IsErrOf result Halt.Fault → Rose (O.faults out.old) (O.faults out.new) }

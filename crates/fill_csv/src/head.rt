@@ -3,7 +3,7 @@ ghost use Rattle.std.specs.Prelude.{◌≡◌, ◌≤◌, ◌++◌, IfOk, IfSome
 ghost use Rattle.fill_report.specs.Output.{report_text};
 ghost use Rattle.fill_words.specs.Words.{data_of, target_data};
 ghost use Rattle.fill_csv.specs.Ends.{form_of, head_of, heads_of, name_of, some_record, states_of};
-ghost use Rattle.fill_csv.specs.Opening.{mark_of, records_in};
+ghost use Rattle.fill_csv.specs.Opening.{mark_of};
 ghost use Rattle.fill_csv.specs.Read.{AreParts, read_data};
 
 use crate::opening::{SheetRead, header_of};

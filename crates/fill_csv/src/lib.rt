@@ -6,6 +6,7 @@ mod command;
 mod explain;
 mod fill;
 mod head;
+pub mod laws;
 mod lines;
 mod near;
 mod opening;

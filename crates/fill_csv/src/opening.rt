@@ -1,5 +1,5 @@
 //! Opening a sheet: its file, the columns that words choose, and its rows.
-ghost use Rattle.std.specs.Prelude.{◌≡◌, ◌≢◌, ◌≤◌, ℕ, List as Listed, [], All, IfOk, IfErr, Ok, Err, Some, length, map, option_copied, string_bytes};
+ghost use Rattle.std.specs.Prelude.{◌≡◌, ℕ, List as Listed, [], All, IfOk, IfErr, Ok, Err, Some, length, map, option_copied, string_bytes};
 ghost use Rattle.fill_edge.specs.Outside.{NoneFell};
 ghost use Rattle.fill_open.specs.Opened.{Told, Passed};
 ghost use Rattle.fill_open.specs.Stops.{Refuses as IsRefusedBy, Stops};
@@ -9,7 +9,7 @@ ghost use Rattle.fill_sheet.specs.Sheet.{read_sheet, row_records};
 ghost use Rattle.fill_words.specs.Words.{IsLookup, data_of, lookup_data, target_data};
 ghost use Rattle.fill_columns.specs.Choice.{Refuses, choice_data};
 ghost use Rattle.fill_columns.specs.Columns.{names_of};
-ghost use Rattle.fill_csv.specs.Opening.{choice_for, choice_of, header_of, output_of, records_in, rows_in, sheet_in, sheet_opens, with_choice, with_rows};
+ghost use Rattle.fill_csv.specs.Opening.{choice_for, choice_of, header_of, output_of, records_in, rows_in, sheet_in, sheet_opens, with_choice};
 ghost use Rattle.fill_csv.specs.Read.{AreParts, read_data};
 
 use crate::lines::{choice_line, sheet_line};

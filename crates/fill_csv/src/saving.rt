@@ -5,9 +5,9 @@ ghost use Rattle.fill_records.specs.Records.{field_of};
 ghost use Rattle.fill_sheet.specs.Columns.{IsColumn, rising};
 ghost use Rattle.fill_tree.specs.Switch.{switch_tree};
 ghost use Rattle.fill_rule.specs.Rule.{rule_text};
-ghost use Rattle.fill_words.specs.Words.{data_of, target_data};
-ghost use Rattle.fill_csv.specs.Read.{AreParts, columns_data, read_data};
-ghost use Rattle.fill_csv.specs.Saved.{IsSavedText, columns_of, lacks_rule, output_name, rule_with, saving_of, stored};
+ghost use Rattle.fill_words.specs.Words.{data_of, lookup_data, target_data};
+ghost use Rattle.fill_csv.specs.Read.{AreParts, frame_data, read_data};
+ghost use Rattle.fill_csv.specs.Saved.{IsSavedText, frame_of, lacks_rule, output_name, rule_with, saving_of, stored};
 
 use crate::opening::{SheetRead, header_of};
 use fill_edge::Failed;
@@ -17,49 +17,79 @@ use fill_rule::{Names, Rule, rule_text};
 use fill_session::Session;
 use fill_text::{List, NoMemory};
 use fill_tree::Switch;
-use fill_words::{Asked, Target};
-use std::alloc::Global;
+use fill_words::{Asked, Lookup, Target};
+use std::alloc::{AllocError, Global};
 
-/// The columns of a rule, and their names where the first record of the sheet names them.
+/// What a rule has beside its program.
 #[derive(Drop)]
-pub(crate) struct RuleColumns {
-    /// The names.
+pub(crate) struct RuleFrame {
+    /// The names of its columns, where the first record of the sheet names them.
     pub names: Option<Names>,
     /// The columns that it reads, in rising order.
     pub inputs: Vec<u32>,
     /// The column that it fills.
     pub output: u32,
+    /// The tables that it looks up in, and their keys.
+    pub lookups: Vec<Lookup>,
 }
 
-/// The columns of the rule that is to be saved, if one is.
+/// The frame of the rule that is to be saved, if one is.
 pub(crate) fn saving_of(
     alloc: Global,
     asked: &Asked,
     read: &SheetRead,
-) -> Result<Option<RuleColumns>, NoMemory>
+) -> Result<Option<RuleFrame>, NoMemory>
     requires { AreParts (data_of asked.now) read.now }
-    ensures { IfOk result (λ saving. option_map columns_data saving ≡ saving_of (data_of asked.now) (read_data read.now)) }
+    ensures { IfOk result (λ saving. option_map frame_data saving ≡ saving_of (data_of asked.now) (read_data read.now)) }
 {
     match asked.save {
-        Some(_) => Ok(Some(columns_of(alloc, asked, read)?)),
+        Some(_) => Ok(Some(frame_of(alloc, asked, read)?)),
         None => Ok(None),
     }
 }
 
-/// The columns of the rule for a sheet.
-fn columns_of(alloc: Global, asked: &Asked, read: &SheetRead) -> Result<RuleColumns, NoMemory>
+/// The frame of the rule for a sheet.
+fn frame_of(alloc: Global, asked: &Asked, read: &SheetRead) -> Result<RuleFrame, NoMemory>
     requires { AreParts (data_of asked.now) read.now }
-    ensures { IfOk result (λ columns. columns_data columns ≡ columns_of (data_of asked.now) (read_data read.now)) }
+    ensures { IfOk result (λ frame. frame_data frame ≡ frame_of (data_of asked.now) (read_data read.now)) }
 {
     let inputs = rising(alloc, &read.choice.from)?;
     let output = read.choice.to;
     let header = header_of(asked.header, read.records.as_slice());
     let names = names_in(alloc, asked, header, &inputs, output)?;
-    Ok(RuleColumns {
+    Ok(RuleFrame {
         names,
         inputs,
         output,
+        lookups: copied(alloc, &asked.lookups)?,
     })
+}
+
+/// Tables and keys, copied.
+fn copied(alloc: Global, lookups: &[Lookup]) -> Result<Vec<Lookup>, NoMemory>
+    ensures { IfOk result (λ copies. map lookup_data copies.items ≡ map lookup_data lookups.now) }
+{
+    let mut copies = Vec::with_capacity(alloc, lookups.len())?;
+    for lookup in lookups {
+        copies.push(copy_of(alloc, lookup)?)?;
+    }
+    Ok(copies)
+}
+
+/// A copy of a table or of a key.
+fn copy_of(alloc: Global, lookup: &Lookup) -> Result<Lookup, AllocError>
+    ensures { IfOk result (λ copy. lookup_data copy ≡ lookup_data lookup.now) }
+{
+    match lookup {
+        Lookup::Table { name, file } => Ok(Lookup::Table {
+            name: String::from_str(alloc, name.as_str())?,
+            file: String::from_str(alloc, file.as_str())?,
+        }),
+        Lookup::Key { table, columns } => Ok(Lookup::Key {
+            table: String::from_str(alloc, table.as_str())?,
+            columns: Vec::from_slice(alloc, columns)?,
+        }),
+    }
 }
 
 /// The names of a rule's columns, where there is a header.
@@ -157,28 +187,29 @@ fn output_name(
 /// The text that is saved: that of the rule of a session, where it is to be saved and there is one.
 pub(crate) fn saved_text(
     alloc: Global,
-    saving: Option<RuleColumns>,
+    saving: Option<RuleFrame>,
     session: &Session,
 ) -> Result<Option<List<u8>>, NoMemory>
-    ensures { IfOk result (IsSavedText (option_map columns_data saving) session.now.spaces.ground session.now.examples) }
+    ensures { IfOk result (IsSavedText (option_map frame_data saving) session.now.spaces.ground session.now.examples) }
 {
-    let Some(columns) = saving else {
+    let Some(frame) = saving else {
         return Ok(None);
     };
     match session.switch(alloc)? {
-        Some(switch) => Ok(Some(text_of(alloc, columns, switch)?)),
+        Some(switch) => Ok(Some(text_of(alloc, frame, switch)?)),
         None => Ok(None),
     }
 }
 
-/// The text of the rule with these columns and this program.
-fn text_of(alloc: Global, columns: RuleColumns, switch: Switch) -> Result<List<u8>, NoMemory>
-    ensures { IfOk result (λ text. text ≡ rule_text (rule_with (columns_data columns) (switch_tree switch))) }
+/// The text of the rule of a frame and a program.
+fn text_of(alloc: Global, frame: RuleFrame, switch: Switch) -> Result<List<u8>, NoMemory>
+    ensures { IfOk result (λ text. text ≡ rule_text (rule_with (frame_data frame) (switch_tree switch))) }
 {
     let rule = Rule {
-        names: columns.names,
-        inputs: columns.inputs,
-        output: columns.output,
+        names: frame.names,
+        inputs: frame.inputs,
+        output: frame.output,
+        lookups: frame.lookups,
         switch,
     };
     rule_text(alloc, &rule)

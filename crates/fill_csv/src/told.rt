@@ -41,7 +41,7 @@ impl Told {
     }
 
     /// Tells on `err` which given texts are no examples, how many cells have each state, the rule, and the first rows in
-    /// doubt. Rows are numbered as a spreadsheet shows them, the header among them. Want of memory and failed writes are passed
+    /// doubt. Rows are numbered as a spreadsheet shows them, the header among them. Out of memory and failed writes are passed
     /// over.
     pub(crate) fn say<E: Sink>(&self, alloc: Global, header: bool, err: &mut E) {
         let above = if header { 1 } else { 0 };

@@ -1,10 +1,9 @@
 //! Examples among the words, for the rows of a sheet.
-ghost use Rattle.std.specs.Prelude.{◌≡◌, ◌≢◌, IfOk, IfErr, Some, None, map};
+ghost use Rattle.std.specs.Prelude.{◌≡◌, IfOk, IfErr, Some, None, map};
 ghost use Rattle.fill_open.specs.Opened.{Passed};
 ghost use Rattle.fill_open.specs.Stops.{Refuses as IsRefusedBy};
-ghost use Rattle.fill_sheet.specs.Sheet.{headers};
 ghost use Rattle.fill_words.specs.Words.{data_of, typed_data};
-ghost use Rattle.fill_csv.specs.Opening.{example_of, examples_in, is_there, missing_row, with_missing};
+ghost use Rattle.fill_csv.specs.Opening.{example_of, examples_in, is_there, missing_row};
 
 use crate::lines::row_line;
 use fill_lookups::refused;
@@ -14,7 +13,7 @@ use fill_tree::Example;
 use fill_words::{Asked, Typed};
 use std::alloc::Global;
 
-/// The texts that the words give for rows of a sheet of so many, where each row is there.
+/// The texts that the words give for rows of a sheet with `rows` rows, where each row is there.
 pub(crate) fn examples_in(alloc: Global, asked: &Asked, rows: u32) -> Result<List<Example>, Stop>
     ensures ready { IfOk result (λ typed. examples_in (data_of asked.now) rows ≡ Passed typed) }
     ensures stopped { IfErr result (IsRefusedBy (examples_in (data_of asked.now) rows)) }
@@ -41,7 +40,7 @@ fn missing_row(above: u32, rows: u32, examples: &[Typed]) -> Option<u32>
     None
 }
 
-/// Whether a row as a spreadsheet shows it, where so many records stand above the rows, is one of so many.
+/// Whether a row, by its number in a spreadsheet, is one of `rows` rows below the first `above` records.
 fn is_there(above: u32, rows: u32, row: u32) -> bool
     ensures { result ≡ is_there above rows row }
 {

@@ -4,7 +4,7 @@ ghost use Rattle.std.specs.Prelude.{◌≡◌, []};
 use fill_edge::{Failed, Sink};
 use std::alloc::Global;
 
-/// Output in memory that grows as it is written. A write fails only for want of memory.
+/// Output in memory that grows as it is written. A write fails only where memory runs out.
 #[derive(Drop)]
 pub struct Page {
     /// All that was written.

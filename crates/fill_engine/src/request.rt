@@ -1,5 +1,5 @@
 //! The form of a request.
-ghost use Rattle.std.specs.Prelude.{◌≡◌, if◌then◌else◌, IfOk, OnOk, None, Some, map, option_map, string_bytes};
+ghost use Rattle.std.specs.Prelude.{◌≡◌, if◌then◌else◌, IfOk, None, Some, map, option_map, string_bytes};
 ghost use Rattle.std.specs.Str.{is_utf8};
 ghost use Rattle.fill_engine.specs.Request.{call_data, files_from, number_in, piece_in, program_of, request_in, text_in, words_from};
 
@@ -72,7 +72,7 @@ fn program_of(name: &str) -> Option<Program>
     }
 }
 
-/// Reads so many words, and answers the bytes after them.
+/// Reads `count` words, and answers the bytes after them.
 #[tactic(auto, using(crate::proofs::Requests::words_more, crate::proofs::Requests::words_pushed))]
 fn read_words<'a>(
     alloc: Global,
@@ -102,7 +102,7 @@ fn read_words<'a>(
     Ok(Some(rest))
 }
 
-/// Reads so many files, and answers the bytes after them.
+/// Reads `count` files, and answers the bytes after them.
 #[tactic(auto, using(crate::proofs::Requests::files_more))]
 fn read_files<'a>(
     count: u64,

@@ -1,5 +1,5 @@
 //! Files that are saved on the disk, of which nothing is told but the failures.
-ghost use Rattle.std.specs.Prelude.{◌≡◌, ◌≤◌, OnErr, OnOk};
+ghost use Rattle.std.specs.Prelude.{◌≡◌};
 
 use crate::Store;
 use fill_edge::Failed;

@@ -1,6 +1,5 @@
 //! Saved files in memory, which tell everything.
-ghost use Rattle.std.specs.Prelude.{◌≡◌, ◌∷◌, ◌≤◌, [], IfOk, IsErr, OnOk, OnErr, false, true};
-ghost use Rattle.fill_edge.specs.Outside.{Rose, counted};
+ghost use Rattle.std.specs.Prelude.{◌≡◌, ◌∷◌, [], IfOk, IsErr, OnOk, OnErr, false, true};
 ghost use Rattle.fill_files.specs.Saves.{last_bytes};
 
 use crate::Store;

@@ -1,5 +1,5 @@
 //! What a place for files is to all code above.
-ghost use Rattle.std.specs.Prelude.{◌≡◌, ℕ, ◌≤◌, Option, OnOk, OnErr};
+ghost use Rattle.std.specs.Prelude.{◌≡◌, ℕ, ◌≤◌, OnOk, OnErr};
 ghost use Rattle.fill_edge.specs.Outside.{Rose};
 ghost use Rattle.fill_files.specs.Saves.{SavedFiles, with_file};
 

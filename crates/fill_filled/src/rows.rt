@@ -1,6 +1,5 @@
 //! The records of rows.
-ghost use Rattle.std.specs.Prelude.{◌≡◌, ◌≤◌, IfOk, IfSome, option_copied, codes};
-ghost use Rattle.fill_report.specs.Rows.{state_name};
+ghost use Rattle.std.specs.Prelude.{◌≡◌, ◌≤◌, IfOk, IfSome, option_copied};
 ghost use Rattle.fill_filled.specs.Filled.{cell_of, cell_state, filled_fields, head_fields, name_of, wanted_text, with_answer, with_name, with_word};
 ghost use Rattle.fill_filled.specs.Learned.{given_by};
 

@@ -3,6 +3,7 @@ use Rattle.std.proofs.Common.{◌≡◌, ◌==◌, ℕ, ◌<◌, List, [], ◌�
 use Rattle.std.proofs.lemmas.Bool.Decides.{nat_tests}
 use Rattle.std.proofs.lemmas.List.Elements.{All-head}
 use Rattle.std.specs.Prelude.{Option, unwrap_or}
+use Rattle.fill_text.specs.Data.{TableData}
 use Rattle.fill_records.specs.Records.{field_of}
 use Rattle.fill_records.specs.Texts.{IsText, bad_column, or_later}
 use Rattle.fill_records.proofs.Texts.{texts_from_no_bad}
@@ -10,17 +11,17 @@ use Rattle.fill_tree.specs.Guard.{SwitchIs}
 use Rattle.fill_tree.specs.Switch.{SwitchTree}
 use Rattle.fill_tree.specs.Value.{IsValue}
 use Rattle.fill_apply.specs.Applied.{answer_field}
-use Rattle.fill_cells.specs.Row.{row_sheet}
 use Rattle.fill_sheet.specs.Report.{record_text}
+use Rattle.fill_sheet.specs.Sheet.{row_sheet}
 use Rattle.fill_columns.specs.Fields.{with_field}
 use Rattle.fill_stream.specs.Filters.{Puts}
-use Rattle.fill_rule.specs.Rule.{RuleData, rule_data}
 use Rattle.fill_filter.specs.Filled.{CellIs, GivesValue, ValueIs}
+use Rattle.fill_filter.specs.Loaded.{LoadedData, loaded_data}
 use Rattle.fill_filter.specs.Placed.{Makes}
 use Rattle.fill_filter.specs.declared.rows.PlacedRule.{PlacedRule}
 
 -- a field that is not empty stays
-cell_kept : (r : RuleData) (sources : List ℕ) (fields : List (List ℕ)) (field : List ℕ) → (length field == 0) ≡ false → CellIs r sources fields field field
+cell_kept : (r : LoadedData) (sources : List ℕ) (fields : List (List ℕ)) (field : List ℕ) → (length field == 0) ≡ false → CellIs r sources fields field field
 cell_kept r sources fields [] some = cc
 cell_kept r sources fields (c ∷ more) some = refl
 
@@ -28,14 +29,14 @@ pub made_kept : (p : PlacedRule) (fields : List (List ℕ)) (field old new : Lis
     → new ≡ old ++ record_text (with_field p.places.target field fields) → Puts (Makes p fields) old new
 made_kept p fields field old new text is some put =
     let made = with_field p.places.target field fields in
-    (record_text made, (made, (field, text, subst (λ (f : List ℕ). CellIs (rule_data p.rule.now) p.places.sources.items fields f field) is (cell_kept (rule_data p.rule.now) p.places.sources.items fields field some), refl), refl), put)
+    (record_text made, (made, (field, text, subst (λ (f : List ℕ). CellIs (loaded_data p.loaded.now) p.places.sources.items fields f field) is (cell_kept (loaded_data p.loaded.now) p.places.sources.items fields field some), refl), refl), put)
 
 -- an empty one is filled
-pub made_value : (p : PlacedRule) (fields : List (List ℕ)) (value old new : List ℕ) → IsText p.places.sources.items fields → field_of p.places.target fields ≡ [] → GivesValue (rule_data p.rule.now) p.places.sources.items fields value
+pub made_value : (p : PlacedRule) (fields : List (List ℕ)) (value old new : List ℕ) → IsText p.places.sources.items fields → field_of p.places.target fields ≡ [] → GivesValue (loaded_data p.loaded.now) p.places.sources.items fields value
     → new ≡ old ++ record_text (with_field p.places.target value fields) → Puts (Makes p fields) old new
 made_value p fields value old new text empty gives put =
     let made = with_field p.places.target value fields in
-    (record_text made, (made, (value, text, subst (λ (f : List ℕ). CellIs (rule_data p.rule.now) p.places.sources.items fields f value) (sym empty) gives, refl), refl), put)
+    (record_text made, (made, (value, text, subst (λ (f : List ℕ). CellIs (loaded_data p.loaded.now) p.places.sources.items fields f value) (sym empty) gives, refl), refl), put)
 
 pub no_field : (field : List ℕ) → (length field == 0) ≡ true → field ≡ []
 no_field [] is = refl
@@ -47,13 +48,13 @@ no_bad columns fields none =
     All-head (IsText columns) fields [] (texts_from_no_bad columns 1 (fields ∷ []) (ap (λ (b : Option ℕ). or_later 1 b None) none))
 
 -- a value by equal inputs and cells
-pub value_by : (s : SwitchTree) (inputs inputs2 : List ℕ) (cells cells2 : List (List ℕ)) (value : Option (List ℕ)) → inputs2 ≡ inputs → cells2 ≡ cells
-    → IsValue (SwitchIs (row_sheet inputs2 cells2) [] 1 s) value → IsValue (SwitchIs (row_sheet inputs cells) [] 1 s) value
-value_by s inputs inputs2 cells cells2 value same alike is =
-    subst (λ (l : List ℕ). IsValue (SwitchIs (row_sheet l cells) [] 1 s) value) same (subst (λ (l : List (List ℕ)). IsValue (SwitchIs (row_sheet inputs2 l) [] 1 s) value) alike is)
+pub value_by : (s : SwitchTree) (tables : List TableData) (inputs inputs2 : List ℕ) (cells cells2 : List (List ℕ)) (value : Option (List ℕ)) → inputs2 ≡ inputs → cells2 ≡ cells
+    → IsValue (SwitchIs (row_sheet inputs2 cells2) tables 1 s) value → IsValue (SwitchIs (row_sheet inputs cells) tables 1 s) value
+value_by s tables inputs inputs2 cells cells2 value same alike is =
+    subst (λ (l : List ℕ). IsValue (SwitchIs (row_sheet l cells) tables 1 s) value) same (subst (λ (l : List (List ℕ)). IsValue (SwitchIs (row_sheet inputs2 l) tables 1 s) value) alike is)
 
 -- the bytes of a value are given
-pub gives : {E : Type 0} (r : RuleData) (sources : List ℕ) (fields : List (List ℕ)) (value : Option (List ℕ)) (result : Result (Option (List ℕ)) E) → ValueIs r sources fields value
+pub gives : {E : Type 0} (r : LoadedData) (sources : List ℕ) (fields : List (List ℕ)) (value : Option (List ℕ)) (result : Result (Option (List ℕ)) E) → ValueIs r sources fields value
     → IfOk result (λ bytes. unwrap_or bytes [] ≡ answer_field value) → IfOk result (λ bytes. GivesValue r sources fields (unwrap_or bytes []))
 gives r sources fields value (Ok bytes) is made = (value, is, made)
 gives r sources fields value (Err e) is made = tt

@@ -3,3 +3,4 @@ mod RowFields
 mod Cells
 mod Runs
 mod Texts
+mod Loading

@@ -17,9 +17,9 @@ use Rattle.fill_stream.specs.Fronts.{IsMarked}
 use Rattle.fill_stream.specs.declared.filter.Ending.{Ending}
 use Rattle.fill_stream.specs.declared.filter.Ending.TheVariants as ending
 use Rattle.fill_stream.proofs.Filterings.{held_part, rose_later}
-use Rattle.fill_rule.specs.Rule.{RuleData}
 use Rattle.fill_rule.specs.declared.rule.Names.{Names}
 use Rattle.fill_filter.specs.Filled.{AreMade, IsFilled, MakesText, named_head}
+use Rattle.fill_filter.specs.Loaded.{LoadedData}
 use Rattle.fill_filter.specs.Passing.{Begins, BeginsBy, EndsPass, FailsFirst, Finishes, PassWrites, after, mark_text, status_after}
 use Rattle.fill_filter.specs.Places.{PlacesData, places_in, placed}
 use Rattle.fill_filter.specs.Run.{EndWrites, EndsSink, EndsSource, IsTextOf, RunWrites, Writes, WritesPart, WritesSome, code_of, mark_of}
@@ -29,12 +29,12 @@ use Rattle.fill_filter.specs.declared.status.Status.{Status}
 use Rattle.fill_filter.specs.declared.status.Status.TheVariants as status
 
 -- the records behind texts that were made
-record Made (r : RuleData) (places : PlacesData) (rows : Rows) (texts : List (List ℕ)) : Type 0 where
+record Made (r : LoadedData) (places : PlacesData) (rows : Rows) (texts : List (List ℕ)) : Type 0 where
   made : Rows
   filled : AllZip (IsFilled r places) rows made
   text : joined texts ≡ flat_map record_text made
 
-made_of : (r : RuleData) (places : PlacesData) (rows : Rows) (texts : List (List ℕ)) → AllZip (MakesText r places) rows texts → Made r places rows texts
+made_of : (r : LoadedData) (places : PlacesData) (rows : Rows) (texts : List (List ℕ)) → AllZip (MakesText r places) rows texts → Made r places rows texts
 made_of r places [] [] all = record { made = []; filled = tt; text = refl }
 made_of r places [] (t ∷ texts) all = absurd all
 made_of r places (fields ∷ rows) [] all = absurd all
@@ -48,15 +48,15 @@ made_of r places (fields ∷ rows) (t ∷ texts) all =
     }
 
 -- the columns have their places, where the pass begins
-placed_by : (r : RuleData) (names : Option Names) → r.names ≡ names → (mark : List ℕ) (rows : Rows) (rest : Option Rows) (places : PlacesData) (buffer : List ℕ)
-    → BeginsBy names r.inputs r.output mark (Some rows) rest places buffer → places_in r rows ≡ Ok places
-placed_by r None named mark rows rest places buffer begun = ap (λ (o : Option Names). placed o r.inputs r.output rows) named ∙ ap Ok (sym begun.1)
+placed_by : (r : LoadedData) (names : Option Names) → r.rule.names ≡ names → (mark : List ℕ) (rows : Rows) (rest : Option Rows) (places : PlacesData) (buffer : List ℕ)
+    → BeginsBy names r.rule.inputs r.rule.output mark (Some rows) rest places buffer → places_in r.rule rows ≡ Ok places
+placed_by r None named mark rows rest places buffer begun = ap (λ (o : Option Names). placed o r.rule.inputs r.rule.output rows) named ∙ ap Ok (sym begun.1)
 placed_by r (Some names) named mark rows rest places buffer begun =
-    ap (λ (o : Option Names). placed o r.inputs r.output rows) named ∙ ap (λ (l : Rows). placed (Some names) r.inputs r.output l) begun.2 ∙ begun.4
+    ap (λ (o : Option Names). placed o r.rule.inputs r.rule.output rows) named ∙ ap (λ (l : Rows). placed (Some names) r.rule.inputs r.rule.output l) begun.2 ∙ begun.4
 
 -- the text of the first records, after a beginning
-text_by : (r : RuleData) (names : Option Names) → r.names ≡ names → (mark : List ℕ) (rows rest : Rows) (places : PlacesData) (buffer : List ℕ) (n : ℕ) (texts : List (List ℕ))
-    → BeginsBy names r.inputs r.output mark (Some rows) (Some rest) places buffer → AllZip (MakesText r places) (take n rest) texts
+text_by : (r : LoadedData) (names : Option Names) → r.rule.names ≡ names → (mark : List ℕ) (rows rest : Rows) (places : PlacesData) (buffer : List ℕ) (n : ℕ) (texts : List (List ℕ))
+    → BeginsBy names r.rule.inputs r.rule.output mark (Some rows) (Some rest) places buffer → AllZip (MakesText r places) (take n rest) texts
     → IsTextOf r mark rows (n + headers (is_some names)) (buffer ++ joined texts)
 text_by r None named mark rows rest places buffer n texts begun all =
     let m = made_of r places (take n rest) texts all in
@@ -87,8 +87,8 @@ text_by r (Some names) named mark rows rest places buffer n texts begun all =
     }
 
 -- which records follow the header
-rows_by : (r : RuleData) (names : Option Names) (mark : List ℕ) (rows : Rows) (rest : Option Rows) (places : PlacesData) (buffer : List ℕ)
-    → BeginsBy names r.inputs r.output mark (Some rows) rest places buffer → (more : Rows) × (rest ≡ Some more) × (length rows ≡ length more + headers (is_some names))
+rows_by : (r : LoadedData) (names : Option Names) (mark : List ℕ) (rows : Rows) (rest : Option Rows) (places : PlacesData) (buffer : List ℕ)
+    → BeginsBy names r.rule.inputs r.rule.output mark (Some rows) rest places buffer → (more : Rows) × (rest ≡ Some more) × (length rows ≡ length more + headers (is_some names))
     × ((n : ℕ) → slice_get rows (n + headers (is_some names)) ≡ slice_get more n)
 rows_by r None mark rows rest places buffer begun =
     (rows, begun.0, omega arith, λ n. let count : n + 0 ≡ n = omega arith in ap (slice_get rows) count)
@@ -103,7 +103,7 @@ rows_by r (Some names) mark rows rest places buffer begun =
 held_done : (old mid new : Option (List ℕ)) (buffer whole : List ℕ) → Held old mid buffer whole → Appends mid new buffer → Appends old new whole
 held_done old mid new buffer whole h rest = subst (Appends old new) h.2 (Appends-trans old mid new h.0 buffer h.1 rest)
 
-module _ (r : RuleData) (mark : List ℕ) (places : PlacesData) (buffer now : List ℕ) (old mid new : Option (List ℕ)) where
+module _ (r : LoadedData) (mark : List ℕ) (places : PlacesData) (buffer now : List ℕ) (old mid new : Option (List ℕ)) where
   abbrev makes : List (List ℕ) → List ℕ → Type 0
   makes fields text = MakesText r places fields text
 
@@ -111,20 +111,20 @@ module _ (r : RuleData) (mark : List ℕ) (places : PlacesData) (buffer now : Li
   refuses fields column = bad_column places.sources fields ≡ Some column
 
   -- a part of what was made was written while the records were read
-  fault_known : (names : Option Names) → r.names ≡ names → (rows : Rows) (rest : Option Rows) → BeginsBy names r.inputs r.output mark (Some rows) rest places buffer
+  fault_known : (names : Option Names) → r.rule.names ≡ names → (rows : Rows) (rest : Option Rows) → BeginsBy names r.rule.inputs r.rule.output mark (Some rows) rest places buffer
       → Filtered makes refuses ending.WriteFault rest old new buffer now → WritesPart r mark rows old new
   fault_known names named rows None begun all = let rest = rows_by r names mark rows None places buffer begun in let bad : ◌≡◌ {A = Option Rows} None (Some rest.0) = rest.1 in cc
   fault_known names named rows (Some rest) begun all =
       (all.0 + headers (is_some names), buffer ++ joined all.1, text_by r names named mark rows rest places buffer all.0 all.1 begun all.2, all.3)
 
-  pub fault_written : (rows rest : Option Rows) → Begins r mark rows rest places buffer → Filtered makes refuses ending.WriteFault rest old new buffer now
+  pub fault_written : (rows rest : Option Rows) → Begins r.rule mark rows rest places buffer → Filtered makes refuses ending.WriteFault rest old new buffer now
       → PassWrites r how.WriteFault mark rows old new
   fault_written None rest begun all = tt
-  fault_written (Some rows) rest begun all = fault_known r.names refl rows rest begun all
+  fault_written (Some rows) rest begun all = fault_known r.rule.names refl rows rest begun all
 
   -- what is held is written at last, whole or in part
-  finish_known : (names : Option Names) → r.names ≡ names → (e : Ending) (h : How) (rows : Rows) (rest : Rows) (before after_faults : ℕ) → (e ≡ ending.WriteFault → ⊥)
-      → BeginsBy names r.inputs r.output mark (Some rows) (Some rest) places buffer
+  finish_known : (names : Option Names) → r.rule.names ≡ names → (e : Ending) (h : How) (rows : Rows) (rest : Rows) (before after_faults : ℕ) → (e ≡ ending.WriteFault → ⊥)
+      → BeginsBy names r.rule.inputs r.rule.output mark (Some rows) (Some rest) places buffer
       → Filtered makes refuses e (Some rest) old mid buffer now → Finishes e (is_some names) h mid new now before after_faults
       → PassWrites r h mark (Some rows) old new
   finish_known names named ending.WriteFault h rows rest before later none begun all fin = absurd (none refl)
@@ -157,14 +157,14 @@ module _ (r : RuleData) (mark : List ℕ) (places : PlacesData) (buffer now : Li
             ((places, all.0, placed_by r names named mark rows (Some rest) places buffer begun, place, all.3), (buffer ++ joined all.1, text, held_done old mid new now _ all.5 done.1))
       ]
 
-  pub finish_written : (e : Ending) (headed : Bool) (h : How) (rows rest : Option Rows) (before later : ℕ) → (e ≡ ending.WriteFault → ⊥) → headed ≡ is_some r.names
-      → Begins r mark rows rest places buffer → Filtered makes refuses e rest old mid buffer now → Finishes e headed h mid new now before later
+  pub finish_written : (e : Ending) (headed : Bool) (h : How) (rows rest : Option Rows) (before later : ℕ) → (e ≡ ending.WriteFault → ⊥) → headed ≡ is_some r.rule.names
+      → Begins r.rule mark rows rest places buffer → Filtered makes refuses e rest old mid buffer now → Finishes e headed h mid new now before later
       → PassWrites r h mark rows old new
   finish_written e headed h None rest before later none is begun all fin = tt
   finish_written e headed h (Some rows) rest before later none is begun all fin =
-      let own = rows_by r r.names mark rows rest places buffer begun in
-      finish_known r.names refl e h rows own.0 before later none
-      (subst (λ (o : Option Rows). BeginsBy r.names r.inputs r.output mark (Some rows) o places buffer) own.1 begun)
+      let own = rows_by r r.rule.names mark rows rest places buffer begun in
+      finish_known r.rule.names refl e h rows own.0 before later none
+      (subst (λ (o : Option Rows). BeginsBy r.rule.names r.rule.inputs r.rule.output mark (Some rows) o places buffer) own.1 begun)
       (subst (λ (o : Option Rows). Filtered makes refuses e o old mid buffer now) own.1 all)
       (subst (λ (b : Bool). Finishes e b h mid new now before later) is fin)
 
@@ -184,7 +184,7 @@ finish_fault e headed h old new buffer first before now none later fin is =
     no_fault ending.Broken headed none is = cc
 
 -- nothing was written where there are no places
-pub fails_written : (r : RuleData) (h : How) (mark : List ℕ) (rows : Option Rows) (old : Option (List ℕ)) → FailsFirst r rows h → PassWrites r h mark rows old old
+pub fails_written : (r : LoadedData) (h : How) (mark : List ℕ) (rows : Option Rows) (old : Option (List ℕ)) → FailsFirst r.rule rows h → PassWrites r h mark rows old old
 fails_written r h mark None old fails = tt
 fails_written r (how.Missing name) mark (Some rows) old fails = (fails, Appends-nil old)
 fails_written r (how.Ambiguous name) mark (Some rows) old fails = (fails, Appends-nil old)
@@ -194,7 +194,7 @@ fails_written r (how.NotText n column) mark (Some rows) old fails = absurd fails
 fails_written r how.WriteFault mark (Some rows) old fails = absurd fails
 
 -- such an end is no fault
-pub fails_no_fault : (r : RuleData) (h : How) (rows : Option Rows) → FailsFirst r rows h → h ≡ how.WriteFault → ⊥
+pub fails_no_fault : (r : LoadedData) (h : How) (rows : Option Rows) → FailsFirst r.rule rows h → h ≡ how.WriteFault → ⊥
 fails_no_fault r (how.Missing name) rows fails is = cc
 fails_no_fault r (how.Ambiguous name) rows fails is = cc
 fails_no_fault r how.Broken rows fails is = cc
@@ -203,10 +203,10 @@ fails_no_fault r (how.NotText n column) rows fails is = cc
 fails_no_fault r how.WriteFault None fails is = fails
 fails_no_fault r how.WriteFault (Some rows) fails is = fails
 
-all_some : (r : RuleData) (mark : List ℕ) (rows : Rows) (old new : Option (List ℕ)) → Writes r mark rows (length rows) old new → WritesSome r mark rows old new
+all_some : (r : LoadedData) (mark : List ℕ) (rows : Rows) (old new : Option (List ℕ)) → Writes r mark rows (length rows) old new → WritesSome r mark rows old new
 all_some r mark rows old new w = inr (length rows, w)
 
-status_known : (r : RuleData) (h : How) (failed ended : Bool) (mark : List ℕ) (rows : Rows) (old new : Option (List ℕ)) → EndsPass r h mark rows old new
+status_known : (r : LoadedData) (h : How) (failed ended : Bool) (mark : List ℕ) (rows : Rows) (old new : Option (List ℕ)) → EndsPass r h mark rows old new
     → EndWrites r (status_after h failed ended) mark rows old new
 status_known r (how.Missing name) failed ended mark rows old new w = w
 status_known r (how.Ambiguous name) failed ended mark rows old new w = w
@@ -219,7 +219,7 @@ status_known r how.Broken true ended mark rows old new w = w
 status_known r how.Broken false ended mark rows old new w = w
 
 -- what a pass has written of a stream's records is what the run has
-pub status_writes : (r : RuleData) (h : How) (failed ended marked : Bool) (left : Option (List ℕ)) (old new : Option (List ℕ)) → IsMarked left marked
+pub status_writes : (r : LoadedData) (h : How) (failed ended marked : Bool) (left : Option (List ℕ)) (old new : Option (List ℕ)) → IsMarked left marked
     → PassWrites r h (mark_text marked) (option_map records_of left) old new → RunWrites r (status_after h failed ended) left old new
 status_writes r h failed ended marked None old new is w = tt
 status_writes r h failed ended marked (Some bytes) old new is w =
@@ -227,7 +227,7 @@ status_writes r h failed ended marked (Some bytes) old new is w =
     subst (λ (m : List ℕ). EndWrites r (status_after h failed ended) m (records_of bytes) old new) same (status_known r h failed ended (mark_text marked) (records_of bytes) old new w)
 
 -- what is known of a stream is known of it with its first bytes read ahead
-pub run_kept : (r : RuleData) (how : Status) (left fronted old new : Option (List ℕ)) → Keeps left fronted → RunWrites r how fronted old new → RunWrites r how left old new
+pub run_kept : (r : LoadedData) (how : Status) (left fronted old new : Option (List ℕ)) → Keeps left fronted → RunWrites r how fronted old new → RunWrites r how left old new
 run_kept r how None fronted old new kept w = tt
 run_kept r how (Some bytes) None old new kept w = absurd kept
 run_kept r how (Some bytes) (Some same) old new kept w = subst (λ (b : List ℕ). EndWrites r how (mark_of b) (records_of b) old new) kept w

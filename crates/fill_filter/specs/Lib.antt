@@ -1,3 +1,4 @@
+pub mod Loaded
 pub mod Places
 pub mod Filled
 pub mod Run

@@ -10,6 +10,7 @@ use Rattle.fill_stream.specs.declared.filter.Ending.TheVariants as ending
 use Rattle.fill_rule.specs.Rule.{RuleData}
 use Rattle.fill_rule.specs.declared.rule.Names.{Names}
 use Rattle.fill_filter.specs.Filled.{named_head}
+use Rattle.fill_filter.specs.Loaded.{LoadedData}
 use Rattle.fill_filter.specs.Places.{Misplaced, Missing, Ambiguous, PlacesData, head_of, places_by, places_in}
 use Rattle.fill_filter.specs.Run.{IsBad, Writes, WritesPart, WritesSome}
 use Rattle.fill_filter.specs.declared.pass.How.{How}
@@ -24,16 +25,16 @@ abbrev pub mark_text : Bool → List ℕ
 mark_text marked = if marked then 239 ∷ 187 ∷ 191 ∷ [] else []
 
 -- what a pass that ended so has written of these records
-abbrev pub EndsPass : RuleData → How → List ℕ → Rows → Option (List ℕ) → Option (List ℕ) → Type 0
+abbrev pub EndsPass : LoadedData → How → List ℕ → Rows → Option (List ℕ) → Option (List ℕ) → Type 0
 EndsPass r how.All mark rows old new = Writes r mark rows (length rows) old new
-EndsPass r (how.NotText n column) mark rows old new = IsBad r rows n column × Writes r mark rows n old new
-EndsPass r (how.Missing name) mark rows old new = (places_in r rows ≡ Err (Missing name.now)) × Appends old new []
-EndsPass r (how.Ambiguous name) mark rows old new = (places_in r rows ≡ Err (Ambiguous name.now)) × Appends old new []
+EndsPass r (how.NotText n column) mark rows old new = IsBad r.rule rows n column × Writes r mark rows n old new
+EndsPass r (how.Missing name) mark rows old new = (places_in r.rule rows ≡ Err (Missing name.now)) × Appends old new []
+EndsPass r (how.Ambiguous name) mark rows old new = (places_in r.rule rows ≡ Err (Ambiguous name.now)) × Appends old new []
 EndsPass r how.WriteFault mark rows old new = WritesPart r mark rows old new
 EndsPass r how.Broken mark rows old new = WritesSome r mark rows old new
 
 -- the same, where records are known
-abbrev pub PassWrites : RuleData → How → List ℕ → Option Rows → Option (List ℕ) → Option (List ℕ) → Type 0
+abbrev pub PassWrites : LoadedData → How → List ℕ → Option Rows → Option (List ℕ) → Option (List ℕ) → Type 0
 PassWrites r e mark None old new = ⊤
 PassWrites r e mark (Some rows) old new = EndsPass r e mark rows old new
 

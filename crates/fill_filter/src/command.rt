@@ -1,14 +1,14 @@
 //! The run of a rule as a command does it: a status, and lines that say how it goes.
 ghost use Rattle.std.specs.Prelude.{◌≡◌, true};
 ghost use Rattle.fill_rule.specs.Rule.{IsRule, rule_data};
+ghost use Rattle.fill_filter.specs.Loaded.{loaded_data};
 ghost use Rattle.fill_filter.specs.Run.{RanAs, code_of};
 
 use crate::lines::say_why;
 use crate::progress::Progress;
 use crate::run::filter_stream;
-use crate::{Ended, Status};
+use crate::{Ended, LoadedRule, Status};
 use fill_edge::Sink;
-use fill_rule::Rule;
 use fill_stream::{Counts, Source};
 use std::alloc::Global;
 
@@ -27,25 +27,25 @@ pub struct Ran<S> {
 /// rows there were and how many of them were filled, and one each million rows how far it is.
 pub fn run_rule<S: Source + Drop, O: Sink, E: Sink>(
     alloc: Global,
-    rule: &Rule,
+    loaded: &LoadedRule,
     source: S,
     quiet: bool,
     out: &mut O,
     err: &mut E,
 ) -> Ran<S>
-    requires { IsRule (rule_data rule.now) }
-    ensures ran { RanAs (rule_data rule.now) result.status (S.left source) (S.left result.source) (S.faults source) (S.faults result.source) (O.written out.old) (O.written out.new) (O.faults out.old) (O.faults out.new) }
+    requires { IsRule (rule_data loaded.now.rule) }
+    ensures ran { RanAs (loaded_data loaded.now) result.status (S.left source) (S.left result.source) (S.faults source) (S.faults result.source) (O.written out.old) (O.written out.new) (O.faults out.old) (O.faults out.new) }
     ensures whole { S.whole result.source ≡ S.whole source }
     ensures silent { quiet ≡ true → result.status ≡ 0 → err.new ≡ err.old }
 {
     if quiet {
         let mut counts = Counts::new();
-        let ended = filter_stream(alloc, rule, source, out, &mut counts);
+        let ended = filter_stream(alloc, loaded, source, out, &mut counts);
         let _ = say_why(err, ended.status);
         left_by(ended)
     } else {
         let mut progress = Progress::new(err);
-        let ended = filter_stream(alloc, rule, source, out, &mut progress);
+        let ended = filter_stream(alloc, loaded, source, out, &mut progress);
         let _ = progress.end(ended.status);
         left_by(ended)
     }

@@ -17,7 +17,7 @@ pub(crate) fn field_at(row: &ByteRecord, i: usize) -> &[u8]
     row.get(i).unwrap_or(b"")
 }
 
-/// The same of the field in a column.
+/// The bytes of the field in a column, from 1.
 pub(crate) fn field(row: &ByteRecord, column: usize) -> &[u8]
     requires { 0 < column }
     ensures { result.now ≡ field_of column (fields_of row.now) }

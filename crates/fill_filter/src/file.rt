@@ -1,13 +1,16 @@
 //! The run of a rule that stands in a file.
-ghost use Rattle.std.specs.Prelude.{◌≡◌, IfErr, IfOk};
+ghost use Rattle.std.specs.Prelude.{◌≡◌, ◌≢◌, IfErr, IfOk, true};
 ghost use Rattle.fill_edge.specs.Outside.{NoneFell};
 ghost use Rattle.fill_rule.specs.Rule.{IsRule, rule_data};
-ghost use Rattle.fill_filter.specs.RuleFile.{HasNoRule, HasRule, RanFile, TellsNoRule, status_of};
+ghost use Rattle.fill_filter.specs.Loaded.{loaded_data};
+ghost use Rattle.fill_filter.specs.RuleFile.{HasLoaded, HasNoRule, HasRule, RanFile, TellsNoRule, status_of};
 ghost use Rattle.fill_filter.specs.Said.{Says};
 
 use crate::lines::{MEMORY_LINE, no_rule_line, say};
-use crate::{Ran, run_rule};
+use crate::{LoadedRule, Ran, run_rule};
 use fill_edge::{Cabinet, LARGEST_FILE, ReadError, Sink, read_all};
+use fill_lookups::open_tables;
+use fill_open::Stop;
 use fill_rule::{Rule, RuleError, read_rule};
 use fill_stream::Source;
 use std::alloc::{AllocError, Global};
@@ -21,8 +24,8 @@ pub struct RuleFile<'a> {
     pub quiet: bool,
 }
 
-/// Why a file has no rule.
-#[derive(Clone, Copy, Debug, PartialEq, Eq)]
+/// Why there is no rule to run.
+#[derive(Debug, Drop)]
 pub(crate) enum NoRule {
     /// There is no such file, or a read of it failed.
     Unread,
@@ -30,14 +33,16 @@ pub(crate) enum NoRule {
     TooLong,
     /// The line of this number, from 1, is the first that no rule has there.
     BadLine { number: usize },
+    /// The tables that it looks up in do not open.
+    NoTables(Stop),
     /// Out of memory.
     NoMemory,
 }
 
 /// Runs the rule that stands in a file over a stream, as `run_rule` does.
 ///
-/// Where there is no rule, a line on `err` says why, with the name of the file, and neither is the stream read nor
-/// anything written to `out`.
+/// The tables that the rule looks up in are read first. Where there is no rule, or a table does not open, a line on `err`
+/// says why, with the name of the file, and neither is the stream read nor anything written to `out`.
 pub fn run_rule_file<C: Cabinet, S: Source + Drop, O: Sink, E: Sink>(
     alloc: Global,
     file: RuleFile<'_>,
@@ -49,15 +54,33 @@ pub fn run_rule_file<C: Cabinet, S: Source + Drop, O: Sink, E: Sink>(
     ensures ran { RanFile file.entry.name.now (C.files cabinet.old) (C.faults cabinet.old) (C.faults cabinet.new) result.status (S.left source) (S.left result.source) (S.faults source) (S.faults result.source)
         (O.written out.old) (O.written out.new) (O.faults out.old) (O.faults out.new) (Says (E.written err.old) (E.written err.new) (E.faults err.old) (E.faults err.new)) }
     ensures whole { S.whole result.source ≡ S.whole source }
+    ensures silent { file.entry.quiet ≡ true → result.status ≡ 0 → err.new ≡ err.old }
     ensures files { C.files cabinet.new ≡ C.files cabinet.old }
     ensures later { NoneFell (C.faults cabinet.old) (C.faults cabinet.new) }
 {
-    match open_rule(alloc, cabinet, file.name) {
-        Ok(rule) => run_rule(alloc, &rule, source, file.quiet, out, err),
+    match load_rule(alloc, cabinet, file.name) {
+        Ok(loaded) => run_rule(alloc, &loaded, source, file.quiet, out, err),
         Err(why) => {
-            let status = tell_no_rule(alloc, file.name, why, err);
+            let status = tell_no_rule(alloc, file.name, &why, err);
             Ran { status, source }
         }
+    }
+}
+
+/// The rule in the file of this name, with its tables.
+fn load_rule<C: Cabinet>(alloc: Global, cabinet: &mut C, name: &str) -> Result<LoadedRule, NoRule>
+    ensures ok { IfOk result (λ loaded. HasLoaded (C.files cabinet.old) name.now (loaded_data loaded)) }
+    ensures rule { IfOk result (λ loaded. IsRule (rule_data loaded.rule)) }
+    ensures err { IfErr result (HasNoRule (C.files cabinet.old) name.now (C.faults cabinet.old) (C.faults cabinet.new)) }
+    ensures files { C.files cabinet.new ≡ C.files cabinet.old }
+    ensures later { NoneFell (C.faults cabinet.old) (C.faults cabinet.new) }
+{
+    match open_rule(alloc, cabinet, name) {
+        Ok(rule) => match open_tables(alloc, cabinet, &rule.lookups) {
+            Ok(tables) => Ok(LoadedRule { rule, tables }),
+            Err(stop) => Err(NoRule::NoTables(stop)),
+        },
+        Err(why) => Err(why),
     }
 }
 
@@ -85,8 +108,9 @@ fn open_rule<C: Cabinet>(alloc: Global, cabinet: &mut C, name: &str) -> Result<R
 
 /// Writes the line that says why there is no rule, and answers the status. Where there is no memory for the line, that is
 /// said instead.
-fn tell_no_rule<E: Sink>(alloc: Global, name: &str, why: NoRule, err: &mut E) -> u8
-    ensures { TellsNoRule name.now why result (Says (E.written err.old) (E.written err.new) (E.faults err.old) (E.faults err.new)) }
+fn tell_no_rule<E: Sink>(alloc: Global, name: &str, why: &NoRule, err: &mut E) -> u8
+    ensures told { TellsNoRule name.now why.now result (Says (E.written err.old) (E.written err.new) (E.faults err.old) (E.faults err.new)) }
+    ensures some { result ≢ 0 }
 {
     match no_rule_line(alloc, name, why) {
         Ok(line) => {
@@ -101,13 +125,16 @@ fn tell_no_rule<E: Sink>(alloc: Global, name: &str, why: NoRule, err: &mut E) ->
 }
 
 /// The status of a command that has no rule.
-fn status_of(why: NoRule) -> u8
-    ensures { result ≡ status_of why }
+fn status_of(why: &NoRule) -> u8
+    ensures { result ≡ status_of why.now }
 {
     match why {
         NoRule::Unread => 3,
         NoRule::TooLong => 5,
         NoRule::BadLine { .. } => 5,
+        NoRule::NoTables(Stop::Unread(_)) => 3,
+        NoRule::NoTables(Stop::Refused(_)) => 5,
+        NoRule::NoTables(Stop::NoMemory) => 6,
         NoRule::NoMemory => 6,
     }
 }

@@ -5,6 +5,7 @@ mod command;
 mod fields;
 mod file;
 mod lines;
+mod loaded;
 mod pass;
 mod places;
 mod progress;
@@ -15,5 +16,6 @@ mod text;
 
 pub use command::{Ran, run_rule};
 pub use file::{RuleFile, run_rule_file};
+pub use loaded::LoadedRule;
 pub use run::filter_stream;
 pub use status::{Ended, Status};

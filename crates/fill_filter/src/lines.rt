@@ -1,11 +1,12 @@
 //! The lines that a run of a rule leaves on `err`.
 ghost use Rattle.std.specs.Prelude.{◌≡◌, IfOk, string_bytes};
-ghost use Rattle.fill_filter.specs.RuleFile.{no_rule_line};
+ghost use Rattle.fill_filter.specs.RuleFile.{no_rule_line, unread_line};
 ghost use Rattle.fill_filter.specs.Said.{Says};
 
 use crate::Status;
 use crate::file::NoRule;
 use fill_edge::{Sink, WriteFault, write_all};
+use fill_open::Stop;
 use fill_stream::Counts;
 use std::alloc::{AllocError, Global};
 
@@ -63,16 +64,26 @@ fn say_number<E: Sink>(err: &mut E, number: u64) -> Result<(), WriteFault> {
     write_all(err, buffer.format(number).as_bytes())
 }
 
-/// The line that says why the file of this name has no rule; there may be no memory for it.
-pub(crate) fn no_rule_line(alloc: Global, name: &str, why: NoRule) -> Result<String, AllocError>
-    ensures { IfOk result (λ line. string_bytes line ≡ no_rule_line name.now why) }
+/// The line of a file that cannot be read.
+fn unread_line(alloc: Global, name: &str) -> Result<String, AllocError>
+    ensures { IfOk result (λ line. string_bytes line ≡ unread_line name.now) }
+{
+    format!(in alloc; "fillcsv: {name}: cannot be read\n")
+}
+
+/// The line that says why there is no rule to run in the file of this name; there may be no memory for it.
+pub(crate) fn no_rule_line(alloc: Global, name: &str, why: &NoRule) -> Result<String, AllocError>
+    ensures { IfOk result (λ line. string_bytes line ≡ no_rule_line name.now why.now) }
 {
     match why {
-        NoRule::Unread => format!(in alloc; "fillcsv: {name}: cannot be read\n"),
+        NoRule::Unread => unread_line(alloc, name),
         NoRule::TooLong => format!(in alloc; "fillcsv: {name}: more than 16777216 bytes\n"),
         NoRule::BadLine { number } => {
             format!(in alloc; "fillcsv: {name}: line {number} is not understood\n")
         }
+        NoRule::NoTables(Stop::Unread(file)) => unread_line(alloc, file.as_str()),
+        NoRule::NoTables(Stop::Refused(line)) => String::from_str(alloc, line.as_str()),
+        NoRule::NoTables(Stop::NoMemory) => Err(AllocError),
         NoRule::NoMemory => Err(AllocError),
     }
 }

@@ -6,10 +6,12 @@ ghost use Rattle.fill_sheet.specs.Report.{record_text};
 ghost use Rattle.fill_stream.specs.Filters.{IsCounted};
 ghost use Rattle.fill_rule.specs.Rule.{IsRule, rule_data};
 ghost use Rattle.fill_filter.specs.Filled.{named_head};
+ghost use Rattle.fill_filter.specs.Loaded.{loaded_data};
 ghost use Rattle.fill_filter.specs.Passing.{Begins, BeginsNamed, FailsAs, FailsFirst, FailsNamed, Finishes, PassWrites, after, how_of, mark_text};
 ghost use Rattle.fill_filter.specs.Places.{places_by};
 ghost use Rattle.fill_filter.specs.Placing.{ArePlaces, places_data};
 
+use crate::LoadedRule;
 use crate::places::{Places, Unplaced, places_by, places_of};
 use crate::rows::{PlacedRule, put_row};
 use csv::ByteRecord;
@@ -43,29 +45,29 @@ pub(crate) enum How<'r> {
 /// Runs a rule over all records, behind a byte order mark or none.
 pub(crate) fn pass<'r, R: Read + Drop, K: Sink, W: Watch>(
     alloc: Global,
-    rule: &'r Rule,
+    loaded: &'r LoadedRule,
     marked: bool,
     records: &mut RecordStream<R>,
     sink: &mut K,
     watch: &mut W,
 ) -> How<'r>
-    requires { IsRule (rule_data rule.now) }
-    ensures writes { PassWrites (rule_data rule.now) result (mark_text marked) records.old.rest (K.written sink.old) (K.written sink.new) }
+    requires { IsRule (rule_data loaded.now.rule) }
+    ensures writes { PassWrites (loaded_data loaded.now) result (mark_text marked) records.old.rest (K.written sink.old) (K.written sink.new) }
     ensures later { K.faults sink.old ≤ K.faults sink.new }
     ensures fault { result ≡ How.WriteFault → Rose (K.faults sink.old) (K.faults sink.new) }
 {
-    let (places, mut buffer) = match begin(alloc, rule, marked, records) {
+    let (places, mut buffer) = match begin(alloc, &loaded.rule, marked, records) {
         Ok(begun) => begun,
         Err(how) => return how,
     };
     let placed = PlacedRule {
         alloc,
-        rule,
+        loaded,
         places,
     };
     match filter_records(records, &placed, &mut buffer, sink, watch) {
         Ending::WriteFault => How::WriteFault,
-        ending => finish(ending, rule.names.is_some(), &mut buffer, sink),
+        ending => finish(ending, loaded.rule.names.is_some(), &mut buffer, sink),
     }
 }
 

@@ -67,7 +67,7 @@ fn only_one<'r>(name: &'r [u8], columns: &[usize]) -> Result<usize, Unplaced<'r>
     }
 }
 
-/// The same, a new column where there is none.
+/// The one of these columns, which have the name, or a new column where there is none.
 fn one_or_new<'r>(name: &'r [u8], new: usize, columns: &[usize]) -> Result<usize, Unplaced<'r>>
     requires { 0 < new }
     ensures ok { IfOk result (λ column. one_or_new name.now new columns.now ≡ Ok column) }

@@ -7,16 +7,16 @@ ghost use Rattle.fill_sheet.specs.Report.{record_text};
 ghost use Rattle.fill_apply.specs.Applied.{answer_field};
 ghost use Rattle.fill_columns.specs.Fields.{with_field};
 ghost use Rattle.fill_stream.specs.Filters.{Puts, Tells};
-ghost use Rattle.fill_rule.specs.Rule.{rule_data};
 ghost use Rattle.fill_filter.specs.Filled.{GivesValue};
+ghost use Rattle.fill_filter.specs.Loaded.{loaded_data};
 ghost use Rattle.fill_filter.specs.Placed.{IsPlaced, Makes};
 
+use crate::LoadedRule;
 use crate::fields::{bad_column, field, field_at, texts};
 use crate::places::Places;
 use crate::text::row_bytes;
 use csv::ByteRecord;
-use fill_cells::switch_value;
-use fill_rule::Rule;
+use fill_cells::cells_value;
 use fill_stream::{Cell, Filter, Unmade};
 use fill_text::{List, NoMemory, Text};
 use std::alloc::Global;
@@ -25,7 +25,7 @@ use std::alloc::Global;
 #[derive(Drop)]
 pub(crate) struct PlacedRule<'r> {
     pub(crate) alloc: Global,
-    pub(crate) rule: &'r Rule,
+    pub(crate) loaded: &'r LoadedRule,
     pub(crate) places: Places,
 }
 
@@ -34,10 +34,11 @@ impl PlacedRule<'_> {
     fn value(&self, row: &ByteRecord) -> Result<Option<List<u8>>, NoMemory>
         requires valid { IsPlaced self.now }
         requires text { IsText self.now.places.sources.items (fields_of row.now) }
-        ensures { IfOk result (λ bytes. GivesValue (rule_data self.now.rule.now) self.now.places.sources.items (fields_of row.now) (unwrap_or bytes [])) }
+        ensures { IfOk result (λ bytes. GivesValue (loaded_data self.now.loaded.now) self.now.places.sources.items (fields_of row.now) (unwrap_or bytes [])) }
     {
+        let LoadedRule { rule, tables } = self.loaded;
         let cells = texts(self.alloc, row, &self.places.sources)?;
-        let value = switch_value(self.alloc, &self.rule.switch, &self.rule.inputs, &cells)?;
+        let value = cells_value(self.alloc, &rule.switch, &rule.inputs, cells, tables)?;
         utf8_of(self.alloc, value)
     }
 
@@ -57,7 +58,7 @@ impl PlacedRule<'_> {
         }
     }
 
-    /// The same of a record whose cell is empty.
+    /// Puts what is made of a record whose cell is empty, and tells what the cell shows.
     fn fill_empty(&self, row: &ByteRecord, to: &mut Vec<u8>) -> Result<Cell, NoMemory>
         requires valid { IsPlaced self.now }
         requires text { IsText self.now.places.sources.items (fields_of row.now) }

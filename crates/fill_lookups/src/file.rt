@@ -29,7 +29,7 @@ pub fn open_file<C: Cabinet>(alloc: Global, cabinet: &mut C, name: &str) -> Resu
     }
 }
 
-/// The refusal with this line. Out of memory for the line is out of memory.
+/// The refusal with this line, or `NoMemory` where memory ran out for the line.
 pub fn refused(line: Result<String, AllocError>) -> Stop
     ensures { MatchResult line (λ text. result ≡ Stop.Refused text) (λ _. result ≡ Stop.NoMemory) }
 {

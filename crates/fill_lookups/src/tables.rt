@@ -1,6 +1,5 @@
 //! The tables in which rules may look up, and their keys.
 ghost use Rattle.std.specs.Prelude.{◌≡◌, [], All, IfOk, IfErr, OnOk, map};
-ghost use Rattle.std.specs.Str.{chars};
 ghost use Rattle.fill_edge.specs.Outside.{NoneFell};
 ghost use Rattle.fill_tables.specs.Keys.{AreKeyColumns};
 ghost use Rattle.fill_open.specs.Opened.{Told, Passed};

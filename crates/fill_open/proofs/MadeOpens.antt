@@ -127,7 +127,7 @@ generated_opens words held n is =
     let range = made_in_range words n is in
     subst (λ (c : Option CommandData). (asked_opens c held).outcome ≡ Passed (made_ready n)) (sym is) (made_opens_ready n range.0 range.1)
 
--- where checks pass, nothing stops but want of memory
+-- where checks pass, nothing stops but out of memory
 only_memory : {A : Type 0} (o : Opened A) (x : A) (why : Stop) → o ≡ Passed x → Refuses o why → why ≡ stop.NoMemory
 only_memory o x (stop.Unread name) passed refuses = absurd refuses
 only_memory o x (stop.Refused line) passed refuses = cc

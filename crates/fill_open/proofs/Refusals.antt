@@ -11,7 +11,7 @@ use Rattle.fill_open.specs.Stops.{Counts, Stops, Refuses}
 use Rattle.fill_open.specs.declared.stop.Stop.{Stop}
 use Rattle.fill_open.specs.declared.stop.Stop.TheVariants as stop
 
--- the stop of a line, or of want of memory for it
+-- the stop of a line, or out of memory for it
 abbrev pub IsStopOf : {E : Type 0} → Result (String Global) E → Stop → Type 0
 IsStopOf line why = MatchResult line (λ text. why ≡ stop.Refused text) (λ _. why ≡ stop.NoMemory)
 

@@ -51,7 +51,7 @@ apply_line program error.NoMemory = memory_line
 abbrev pub program_in : List ℕ → Reading → Opened SwitchTree
 program_in program r = checked (apply_line program) r
 
--- what may stop the check of a report's bytes for these inputs; want of memory is free
+-- what may stop the check of a report's bytes for these inputs; out of memory is free
 abbrev pub ProgramRefuses : List ℕ → List ℕ → List ℕ → Stop → Type 0
 ProgramRefuses inputs program bytes (stop.Unread name) = ⊥
 ProgramRefuses inputs program bytes (stop.Refused line) = (r : Reading) × SavedIs inputs bytes r × (program_in program r ≡ Refused (string_bytes line))
@@ -103,7 +103,7 @@ abbrev pub ApplyUnread : Names → Files → Counts → Counts → List ℕ → 
 ApplyUnread names None before now name = Rose (before name) (now name)
 ApplyUnread names (Some held) before now name = AppliedIs names held (Unread name) ⊎ (ComesTo names held name × Rose (before name) (now name))
 
--- what may stop the steps; want of memory is free
+-- what may stop the steps; out of memory is free
 abbrev pub ApplyStops : Names → Files → Counts → Counts → Stop → Type 0
 ApplyStops names files before now (stop.Unread name) = ApplyUnread names files before now (string_bytes name)
 ApplyStops names files before now (stop.Refused line) = Told files (λ held. AppliedIs names held (Refused (string_bytes line)))

@@ -20,13 +20,13 @@ abbrev pub IsUnread : {A : Type 0} → (Held → Opening A) → Files → List �
 IsUnread steps None name = ⊥
 IsUnread steps (Some held) name = (steps held).outcome ≡ Unread name
 
--- what may stop steps that read files; want of memory is free
+-- what may stop steps that read files; out of memory is free
 abbrev pub Stops : {A : Type 0} → (Held → Opening A) → Files → Counts → Counts → Stop → Type 0
 Stops steps files before now (stop.Unread name) = IsUnread steps files (string_bytes name) ⊎ ReadFails steps files before now (string_bytes name)
 Stops steps files before now (stop.Refused line) = Told files (λ held. (steps held).outcome ≡ Refused (string_bytes line))
 Stops steps files before now stop.NoMemory = ⊤
 
--- what may stop a check of bytes that were read; want of memory is free
+-- what may stop a check of bytes that were read; out of memory is free
 abbrev pub Refuses : {A : Type 0} → Opened A → Stop → Type 0
 Refuses o (stop.Unread name) = ⊥
 Refuses o (stop.Refused line) = o ≡ Refused (string_bytes line)

@@ -1,5 +1,5 @@
 //! The generator: a session that fills the second column of a sheet of any number of lines.
-ghost use Rattle.std.specs.Prelude.{◌≡◌, ◌≤◌, ◌<◌, ◌++◌, IfOk, OnOk, OnErr};
+ghost use Rattle.std.specs.Prelude.{◌≡◌, ◌≤◌, ◌<◌, ◌++◌, IfOk, OnOk};
 ghost use Rattle.fill_open.specs.Made.{made_session, made_sheet, pattern, character, made_output, made_line};
 
 use fill_text::{List, NoMemory};

@@ -1,5 +1,5 @@
 //! The keys of a table file.
-ghost use Rattle.std.specs.Prelude.{◌≡◌, ℕ, IfErr, IfOk, List, length};
+ghost use Rattle.std.specs.Prelude.{◌≡◌, IfErr, IfOk, List, length};
 ghost use Rattle.fill_edge.specs.Outside.{NoneFell};
 ghost use Rattle.fill_text.specs.Data.{TableData};
 ghost use Rattle.fill_open.specs.Keys.{AreKeys, OpensKeys, keys_opens, narrow_table_opens, unless_wide};

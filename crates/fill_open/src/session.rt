@@ -29,7 +29,7 @@ pub struct Ready {
 /// Opens the session of a command.
 ///
 /// The files are read and checked in this order: the session, the sheet, and then for each `table` line its file. The
-/// first thing that fails decides. For a generated session nothing is read, and it always opens but for want of memory.
+/// first thing that fails decides. For a generated session nothing is read, and it always opens unless memory runs out.
 pub fn open_session<C: Cabinet>(
     alloc: Global,
     cabinet: &mut C,

@@ -11,12 +11,12 @@ pub enum Stop {
     Unread(String),
     /// A file is refused; this is the line that says so.
     Refused(String),
-    /// Want of memory.
+    /// Out of memory.
     NoMemory,
 }
 
 impl Stop {
-    /// The refusal with this line, or want of memory where there was none for the line.
+    /// The refusal with this line, or `NoMemory` where memory ran out for the line.
     pub(crate) fn refused(line: Result<String, AllocError>) -> Stop
         ensures { MatchResult line (λ text. result ≡ Stop.Refused text) (λ _. result ≡ Stop.NoMemory) }
     {

@@ -23,7 +23,7 @@ pub record IsFault (token_set : TokenSet) (bytes : List ℕ) (at : ℕ) : Type 0
   pub front : IsFront token_set (take at bytes)
   pub longest : (n : ℕ) → n ≤ length bytes → IsFront token_set (take n bytes) → n ≤ at
 
--- why bytes are refused. Want of memory is free
+-- why bytes are refused. Out of memory is free
 abbrev pub Refuses : TokenSet → List ℕ → ReadProgramError → Type 0
 Refuses token_set bytes (Bad at) = IsFault token_set bytes at
 Refuses token_set bytes NoMemory = Unit {0}

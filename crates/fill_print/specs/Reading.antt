@@ -41,7 +41,7 @@ abbrev pub Fails : {A : Type 0} → (A → List ℕ → List ℕ → Type 0) →
 Fails R bytes NoMemory = Unit {0}
 Fails R bytes (Bad left) = Halts R bytes left
 
--- the outcome of a reader: a value with the bytes after its text, or how many bytes were left where it had to stop; want of memory is free
+-- the outcome of a reader: a value with the bytes after its text, or how many bytes were left where it had to stop; out of memory is free
 abbrev pub Reads : {X A : Type 0} → (X → A) → (X → List ℕ) → (A → List ℕ → List ℕ → Type 0) → List ℕ → Result X ReadError → Type 0
 Reads view after R bytes (Ok x) = Takes R bytes (view x) (after x)
 Reads view after R bytes (Err e) = Fails R bytes e

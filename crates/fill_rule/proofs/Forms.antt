@@ -1,6 +1,6 @@
 -- What is true of the rule of each file.
-use Rattle.std.proofs.Common.{◌≡◌, ◌≢◌, ℕ, zero, suc, ◌+◌, ◌-◌, ◌*◌, ◌<◌, ◌≤◌, ◌==◌, ◌&&◌, List, [], ◌∷◌, ◌++◌, length, take, drop, get_or, All, Contains, Bool, true, false, not, Option, None, Some, Result, Ok, Err, IfSome, refl, sym, ap, subst, ◌∙◌, arith, add-one}
-use Rattle.std.specs.Prelude.{if◌then◌else◌, nat_le, nat_lt, option_and_then, option_map, codes}
+use Rattle.std.proofs.Common.{◌≡◌, ◌≢◌, ℕ, zero, suc, ◌+◌, ◌*◌, ◌<◌, ◌≤◌, ◌==◌, ◌&&◌, List, [], ◌∷◌, ◌++◌, length, take, drop, get_or, All, Contains, Bool, true, false, Option, None, Some, Result, Ok, Err, refl, sym, ap, subst, ◌∙◌, arith, add-one}
+use Rattle.std.specs.Prelude.{if◌then◌else◌, nat_le, nat_lt, option_and_then, codes}
 use Rattle.std.proofs.lemmas.Bool.{and_parts}
 use Rattle.std.proofs.lemmas.Bool.Decides.{nat_tests}
 use Rattle.std.proofs.lemmas.List.{length-drop, length-take, take_all, take_more}
@@ -15,9 +15,12 @@ use Rattle.fill_script.proofs.Lines.{if_some, then_some, number-within}
 use Rattle.fill_tokens.specs.declared.token_set.TheConstants.TokenSet as set
 use Rattle.fill_apply.specs.Saved.{SavedBy, columns_read}
 use Rattle.fill_tree.specs.Switch.{SwitchTree}
-use Rattle.fill_rule.specs.File.{FileIs, Form, ended, form_in, from_line, if_apart, if_rising, inputs_in, is_first, is_header, is_rising, named_form, names_in, output_in, plain_form, says}
-use Rattle.fill_rule.specs.Rule.{AreNamesOf, IsRule, RuleData}
+use Rattle.fill_words.specs.Words.{IsLookup, LookupData}
+use Rattle.fill_rule.specs.Lookups.{from_line, lookups_from}
+use Rattle.fill_rule.specs.File.{FileIs, Form, form_in, if_apart, if_rising, inputs_in, is_first, is_header, is_rising, named_form, names_in, output_in, plain_form, says, with_value}
+use Rattle.fill_rule.specs.Rule.{AreNamesOf, IsRule}
 use Rattle.fill_rule.specs.declared.rule.Names.{Names}
+use Rattle.fill_rule.proofs.TableLines.{lookups_proper}
 
 before-some : (o : Option ℕ) (rest : Option (List ℕ)) (ns : List ℕ) → before o rest ≡ Some ns → (n : ℕ) × (more : List ℕ) × (o ≡ Some n) × (rest ≡ Some more) × (n ∷ more ≡ ns)
 before-some None rest ns is = cc
@@ -149,19 +152,15 @@ pub record IsForm (f : Form) : Type 0 where
   pub output : IsColumn f.output
   pub apart : ¬ (Contains f.inputs f.output)
   pub names : AreNamesOf f.inputs f.names
+  pub lookups : All IsLookup f.lookups
 
-if_ok : {A : Type 0} (b : Bool) (x y : A) (e : ℕ) → (if b then Ok x else Err e) ≡ Ok y → x ≡ y
-if_ok true x y e is = cc
-if_ok false x y e is = cc
+with_some : {A B : Type 0} (make : A → B) (r : Result A ℕ) (y : B) → with_value make r ≡ Ok y → (x : A) × (r ≡ Ok x) × (make x ≡ y)
+with_some make (Ok x) y is = (x, refl, cc)
+with_some make (Err number) y is = cc
 
-ended-same : (number : ℕ) (lines : List (List (List ℕ))) (made f : Form) → ended number lines made ≡ Ok f → made ≡ f
-ended-same number lines made f is =
-    let last = from_some number _ (λ (_ : List (List ℕ)). if nat_le (length lines) number then Ok made else Err (number + 1)) f is in
-    if_ok (nat_le (length lines) number) made f (number + 1) last.2
-
-made-form : (names : Option Names) (inputs : List ℕ) (output : ℕ) → AreInputColumns inputs → IsColumn output × ¬ (Contains inputs output) → AreNamesOf inputs names
-    → IsForm (record { names = names; inputs = inputs; output = output })
-made-form names inputs output are is named = record {
+made-form : (names : Option Names) (inputs : List ℕ) (output : ℕ) (lookups : List LookupData) → AreInputColumns inputs → IsColumn output × ¬ (Contains inputs output) → AreNamesOf inputs names
+    → All IsLookup lookups → IsForm (record { names = names; inputs = inputs; output = output; lookups = lookups })
+made-form names inputs output lookups are is named looked = record {
   some = are.some;
   few = are.few;
   columns = are.columns;
@@ -169,6 +168,7 @@ made-form names inputs output are is named = record {
   output = is.0;
   apart = is.1;
   names = named;
+  lookups = looked;
 }
 
 plain-proper : (lines : List (List (List ℕ))) (f : Form) → plain_form lines ≡ Ok f → IsForm f
@@ -177,8 +177,9 @@ plain-proper lines f is =
     let line = then_some inputs_in (nth lines 2) one.0 one.1 in
     let two = from_some 3 (option_and_then (output_in one.0) (nth lines 3)) _ f one.2 in
     let line2 = then_some (output_in one.0) (nth lines 3) two.0 two.1 in
-    let same = ended-same 4 lines (record { names = None; inputs = one.0; output = two.0 }) f two.2 in
-    subst IsForm same (made-form None one.0 two.0 (inputs-columns line.0 one.0 line.2) (output-column one.0 line2.0 two.0 line2.2) tt)
+    let last = with_some (λ lookups. record { names = None; inputs = one.0; output = two.0; lookups = lookups }) (lookups_from 4 [] (drop 3 lines)) f two.2 in
+    subst IsForm last.2 (made-form None one.0 two.0 last.0 (inputs-columns line.0 one.0 line.2) (output-column one.0 line2.0 two.0 line2.2) tt
+    (lookups_proper (drop 3 lines) 4 [] last.0 (All-nil IsLookup) last.1))
 
 named-proper : (lines : List (List (List ℕ))) (f : Form) → named_form lines ≡ Ok f → IsForm f
 named-proper lines f is =
@@ -188,8 +189,9 @@ named-proper lines f is =
     let line2 = then_some (output_in one.0) (nth lines 4) two.0 two.1 in
     let three = from_some 5 (option_and_then (names_in (length one.0)) (nth lines 5)) _ f two.2 in
     let line3 = then_some (names_in (length one.0)) (nth lines 5) three.0 three.1 in
-    let same = ended-same 6 lines (record { names = Some three.0; inputs = one.0; output = two.0 }) f three.2 in
-    subst IsForm same (made-form (Some three.0) one.0 two.0 (inputs-columns line.0 one.0 line.2) (output-column one.0 line2.0 two.0 line2.2) (names-count (length one.0) line3.0 three.0 line3.2))
+    let last = with_some (λ lookups. record { names = Some three.0; inputs = one.0; output = two.0; lookups = lookups }) (lookups_from 6 [] (drop 5 lines)) f three.2 in
+    subst IsForm last.2 (made-form (Some three.0) one.0 two.0 last.0 (inputs-columns line.0 one.0 line.2) (output-column one.0 line2.0 two.0 line2.2)
+    (names-count (length one.0) line3.0 three.0 line3.2) (lookups_proper (drop 5 lines) 6 [] last.0 (All-nil IsLookup) last.1))
 
 pub form-proper : (lines : List (List (List ℕ))) (f : Form) → form_in lines ≡ Ok f → IsForm f
 form-proper lines f is = first (says is_first (nth lines 1)) (says is_header (nth lines 2)) is
@@ -200,7 +202,7 @@ form-proper lines f is = first (says is_first (nth lines 1)) (says is_header (nt
     first false headed h = cc
 
 pub rule-of-form : (f : Form) (s : SwitchTree) → IsForm f → All (Contains f.inputs) (columns_read s.cases)
-    → IsRule (record { names = f.names; inputs = f.inputs; output = f.output; switch = s })
+    → IsRule (record { names = f.names; inputs = f.inputs; output = f.output; lookups = f.lookups; switch = s })
 rule-of-form f s is reads = record {
   some = is.some;
   few = is.few;
@@ -209,12 +211,13 @@ rule-of-form f s is reads = record {
   output = is.output;
   apart = is.apart;
   names = is.names;
+  lookups = is.lookups;
   reads = reads;
 }
 
 -- the rule that a file's lines say
 pub file_is : (bytes : List ℕ) (f : Form) (s : SwitchTree) (lines : List (List (List ℕ))) → form_in lines ≡ Ok f → lines ≡ take (length bytes) (records_of bytes)
-    → 2 * length (records_of bytes) ≤ length bytes + 1 → SavedBy set.ALL f.inputs bytes (Ok s) → FileIs bytes (Ok (record { names = f.names; inputs = f.inputs; output = f.output; switch = s }))
+    → 2 * length (records_of bytes) ≤ length bytes + 1 → SavedBy set.ALL f.inputs bytes (Ok s) → FileIs bytes (Ok (record { names = f.names; inputs = f.inputs; output = f.output; lookups = f.lookups; switch = s }))
 file_is bytes f s lines is read few saved =
     let all : take (length bytes) (records_of bytes) ≡ records_of bytes = take_all (length bytes) (records_of bytes) (omega arith) in
     (f, ap form_in (sym (read ∙ all)) ∙ is, saved, refl)

@@ -1,1 +1,3 @@
+mod Back
 mod Forms
+mod TableLines

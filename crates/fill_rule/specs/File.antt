@@ -1,14 +1,15 @@
 -- Which bytes are the file of a rule, or else the number of their first bad line.
-use Rattle.std.specs.Prelude.{◌≡◌, ◌⊎◌, ℕ, ◌+◌, ◌==◌, ◌&&◌, List, [], ◌∷◌, length, take, drop, Bool, true, false, if◌then◌else◌, not, nat_le, nat_lt, Option, None, Some, Result, Ok, Err, codes, option_and_then}
+use Rattle.std.specs.Prelude.{◌≡◌, ◌⊎◌, ℕ, ◌+◌, ◌==◌, ◌&&◌, List, [], ◌∷◌, length, take, drop, Bool, true, false, if◌then◌else◌, nat_le, nat_lt, Option, None, Some, Result, Ok, Err, codes, option_and_then}
 use Rattle.std.specs.List.{list_any}
 use Rattle.std.specs.Str.{bytes_eq}
 use Rattle.fill_text.specs.Data.{nth}
 use Rattle.fill_records.specs.Records.{field_of, records_of}
 use Rattle.fill_script.specs.Line.{has_form, is_word, number_between, numbers_in}
 use Rattle.fill_tokens.specs.declared.token_set.TheConstants.TokenSet as set
-use Rattle.fill_apply.specs.Saved.{SavedBy, is_shown}
+use Rattle.fill_apply.specs.Saved.{SavedBy}
 use Rattle.fill_apply.specs.declared.error.ApplyError.{ApplyError}
-use Rattle.fill_tree.specs.Switch.{SwitchTree}
+use Rattle.fill_words.specs.Words.{LookupData}
+use Rattle.fill_rule.specs.Lookups.{from_line, lookups_from}
 use Rattle.fill_rule.specs.Rule.{RuleData}
 use Rattle.fill_rule.specs.declared.error.RuleError.{RuleError}
 use Rattle.fill_rule.specs.declared.error.RuleError.TheVariants as error
@@ -19,6 +20,7 @@ pub record Form : Type 0 where
   pub names : Option Names
   pub inputs : List ℕ
   pub output : ℕ
+  pub lookups : List LookupData
 
 -- the line that a rule's file begins with
 abbrev pub is_first : List (List ℕ) → Bool
@@ -53,22 +55,17 @@ abbrev pub names_in : ℕ → List (List ℕ) → Option Names
 names_in count line =
     if has_form (codes "names") (count + 2) line then Some (record { inputs = take count (drop 1 line); output = field_of (count + 2) line }) else None
 
--- what the line of a number gives, which the rest is made of; without it the line is the first bad one
-abbrev pub from_line : {A B : Type 0} → ℕ → Option A → (A → Result B ℕ) → Result B ℕ
-from_line number None rest = Err number
-from_line number (Some x) rest = rest x
-
--- the line of a number shows a program, and is the last one
-abbrev pub ended : ℕ → List (List (List ℕ)) → Form → Result Form ℕ
-ended number lines form =
-    from_line number (option_and_then (λ line. if is_shown line then Some line else None) (nth lines number)) (λ _. if nat_le (length lines) number then Ok form else Err (number + 1))
+-- what is made of a value, where there is one
+abbrev pub with_value : {A B : Type 0} → (A → B) → Result A ℕ → Result B ℕ
+with_value make (Ok x) = Ok (make x)
+with_value make (Err number) = Err number
 
 -- the lines after the first, without a header
 abbrev pub plain_form : List (List (List ℕ)) → Result Form ℕ
 plain_form lines =
     from_line 2 (option_and_then inputs_in (nth lines 2)) (λ inputs.
     from_line 3 (option_and_then (output_in inputs) (nth lines 3)) (λ output.
-    ended 4 lines (record { names = None; inputs = inputs; output = output })))
+    with_value (λ lookups. record { names = None; inputs = inputs; output = output; lookups = lookups }) (lookups_from 4 [] (drop 3 lines))))
 
 -- and with one
 abbrev pub named_form : List (List (List ℕ)) → Result Form ℕ
@@ -76,7 +73,7 @@ named_form lines =
     from_line 3 (option_and_then inputs_in (nth lines 3)) (λ inputs.
     from_line 4 (option_and_then (output_in inputs) (nth lines 4)) (λ output.
     from_line 5 (option_and_then (names_in (length inputs)) (nth lines 5)) (λ names.
-    ended 6 lines (record { names = Some names; inputs = inputs; output = output }))))
+    with_value (λ lookups. record { names = Some names; inputs = inputs; output = output; lookups = lookups }) (lookups_from 6 [] (drop 5 lines)))))
 
 -- whether there is a line of the property
 abbrev pub says : (List (List ℕ) → Bool) → Option (List (List ℕ)) → Bool
@@ -91,7 +88,7 @@ form_in lines = if says is_first (nth lines 1) then (if says is_header (nth line
 -- tokens, and whose guards read inputs alone, or the number of the first bad line. Out of memory is of no file
 abbrev pub FileIs : List ℕ → Result RuleData RuleError → Type 0
 FileIs bytes (Ok r) = (form : Form) × (form_in (records_of bytes) ≡ Ok form) × SavedBy set.ALL form.inputs bytes (Ok r.switch)
-    × (r ≡ record { names = form.names; inputs = form.inputs; output = form.output; switch = r.switch })
+    × (r ≡ record { names = form.names; inputs = form.inputs; output = form.output; lookups = form.lookups; switch = r.switch })
 FileIs bytes (Err (error.BadLine number)) = (form_in (records_of bytes) ≡ Err number)
     ⊎ ((form : Form) × (why : ApplyError) × (form_in (records_of bytes) ≡ Ok form) × SavedBy set.ALL form.inputs bytes (Err why) × (number ≡ length (records_of bytes)))
 FileIs bytes (Err error.NoMemory) = ⊥

@@ -1,5 +1,6 @@
 -- The code's form, and its errors.
-use Rattle.std.specs.Prelude.{◌≡◌, ℕ, ⊤, Option, None, Some, Result, Ok, Err}
+use Rattle.std.specs.Prelude.{◌≡◌, ℕ, ⊤, Option, None, Result, Err, map}
+use Rattle.fill_words.specs.Words.{lookup_data}
 use Rattle.fill_rule.specs.File as file
 use Rattle.fill_rule.specs.declared.form.Form.{Form}
 use Rattle.fill_rule.specs.declared.error.RuleError.{RuleError}
@@ -7,9 +8,9 @@ use Rattle.fill_rule.specs.declared.error.RuleError.TheVariants as error
 
 -- what a form of the code stands for
 abbrev pub form_data : Form → file.Form
-form_data f = record { names = f.names; inputs = f.inputs.items; output = f.output }
+form_data f = record { names = f.names; inputs = f.inputs.items; output = f.output; lookups = map lookup_data f.lookups.items }
 
--- the error tells the first bad line; want of memory is free
+-- the error tells the first bad line; out of memory is free
 abbrev pub IsFormError : {A : Type 0} → Result A ℕ → RuleError → Type 0
 IsFormError r (error.BadLine number) = r ≡ Err number
 IsFormError r error.NoMemory = ⊤

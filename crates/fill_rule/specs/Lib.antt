@@ -1,3 +1,4 @@
+pub mod Lookups
 pub mod Rule
 pub mod File
 pub mod Form

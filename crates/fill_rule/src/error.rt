@@ -11,7 +11,7 @@ pub enum RuleError {
     /// The first line, from 1, that no rule has there. A line after the last one counts as such.
     #[error("line {number} is wrong")]
     BadLine { number: usize },
-    /// Want of memory.
+    /// Out of memory.
     #[error("out of memory")]
     NoMemory,
 }

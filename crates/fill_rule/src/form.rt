@@ -1,13 +1,15 @@
 //! The form of a rule's file: which lines stand where.
-ghost use Rattle.std.specs.Prelude.{◌≡◌, ◌≤◌, IfErr, IfOk, Ok, Some, length, option_and_then};
+ghost use Rattle.std.specs.Prelude.{◌≡◌, ◌≤◌, IfErr, IfOk, Ok, Some, drop, length, option_and_then};
 ghost use Rattle.fill_text.specs.Data.{nth};
-ghost use Rattle.fill_rule.specs.File.{ended, form_in, inputs_in, is_first, is_header, named_form, names_in, output_in, plain_form, says};
+ghost use Rattle.fill_rule.specs.File.{form_in, inputs_in, is_first, is_header, named_form, names_in, output_in, plain_form, says};
 ghost use Rattle.fill_rule.specs.Form.{IsFormError, IsLineError, form_data};
 
-use crate::lines::{inputs_in, is_first, is_header, is_shown, names_in, output_in};
+use crate::lines::{inputs_in, is_first, is_header, names_in, output_in};
+use crate::lookups::lookups_from;
 use crate::{Names, RuleError};
 use fill_records::Record;
 use fill_text::NoMemory;
+use fill_words::Lookup;
 use std::alloc::Global;
 
 /// What the lines before the conditional program say.
@@ -16,6 +18,7 @@ pub(crate) struct Form {
     pub(crate) names: Option<Names>,
     pub(crate) inputs: Vec<u32>,
     pub(crate) output: u32,
+    pub(crate) lookups: Vec<Lookup>,
 }
 
 /// What the lines of a file say.
@@ -107,22 +110,11 @@ fn names_at(
     }
 }
 
-/// The form, where the line of a number shows a program and is the last one.
-fn ended(lines: &[Record], number: usize, form: Form) -> Result<Form, RuleError>
-    requires number { (1 ≤ number) × (number ≤ 6) }
-    ensures ok { IfOk result (λ ended_form. ended number lines.now (form_data form) ≡ Ok (form_data ended_form)) }
-    ensures err { IfErr result (IsFormError (ended number lines.now (form_data form))) }
+/// The lines after the first ones, of this number.
+fn lines_after(lines: &[Record], count: usize) -> &[Record]
+    ensures { result.now ≡ drop count lines.now }
 {
-    let Some(line) = lines.get(number - 1) else {
-        return Err(RuleError::BadLine { number });
-    };
-    if !is_shown(line) {
-        return Err(RuleError::BadLine { number });
-    }
-    if lines.len() > number {
-        return Err(RuleError::BadLine { number: number + 1 });
-    }
-    Ok(form)
+    &lines[count.min(lines.len())..]
 }
 
 /// What the lines after the first say, without a header.
@@ -132,12 +124,13 @@ fn plain_form(alloc: Global, lines: &[Record]) -> Result<Form, RuleError>
 {
     let inputs = inputs_at(alloc, lines, 2)?;
     let output = output_at(lines, 3, inputs.as_slice())?;
-    let form = Form {
+    let lookups = lookups_from(alloc, 4, lines_after(lines, 3))?;
+    Ok(Form {
         names: None,
         inputs,
         output,
-    };
-    ended(lines, 4, form)
+        lookups,
+    })
 }
 
 /// What they say with one.
@@ -148,10 +141,11 @@ fn named_form(alloc: Global, lines: &[Record]) -> Result<Form, RuleError>
     let inputs = inputs_at(alloc, lines, 3)?;
     let output = output_at(lines, 4, inputs.as_slice())?;
     let names = names_at(alloc, lines, 5, inputs.as_slice().len())?;
-    let form = Form {
+    let lookups = lookups_from(alloc, 6, lines_after(lines, 5))?;
+    Ok(Form {
         names: Some(names),
         inputs,
         output,
-    };
-    ended(lines, 6, form)
+        lookups,
+    })
 }

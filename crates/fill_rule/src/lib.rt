@@ -3,7 +3,9 @@
 
 mod error;
 mod form;
+pub mod laws;
 mod lines;
+mod lookups;
 mod read;
 mod rule;
 mod save;
@@ -11,4 +13,4 @@ mod save;
 pub use error::RuleError;
 pub use read::read_rule;
 pub use rule::{Names, Rule};
-pub use save::{rule_text, save_rule};
+pub use save::rule_text;

@@ -18,7 +18,7 @@ const LAST: u32 = 1_000;
 const MOST: usize = 8;
 
 /// Whether a line has this word and so many fields.
-fn has_form(line: &Record, word: &[u8], fields: usize) -> bool
+pub(crate) fn has_form(line: &Record, word: &[u8], fields: usize) -> bool
     ensures { result ≡ has_form word.now fields line.now }
 {
     line.len() == fields && line.field(1) == word

@@ -1,5 +1,5 @@
 //! Reading a rule's file.
-ghost use Rattle.std.specs.Prelude.{◌≡◌, ◌≢◌, All, Contains, Err, IfErr, IfOk, Ok};
+ghost use Rattle.std.specs.Prelude.{◌≢◌, All, Err, IfErr, IfOk, Ok};
 ghost use Rattle.fill_rule.specs.File.{FileIs};
 ghost use Rattle.fill_rule.specs.Rule.{IsRule, rule_data};
 
@@ -24,6 +24,7 @@ pub fn read_rule(alloc: Global, bytes: &[u8]) -> Result<Rule, RuleError>
             names: form.names,
             inputs: form.inputs,
             output: form.output,
+            lookups: form.lookups,
             switch,
         }),
         Err(why) => {

@@ -1,6 +1,7 @@
 //! Rules.
 use fill_text::List;
 use fill_tree::Switch;
+use fill_words::Lookup;
 
 /// The names of a rule's columns in the header of the sheet that it was learned on, as bytes.
 #[derive(Debug, Drop)]
@@ -20,6 +21,9 @@ pub struct Rule {
     pub inputs: Vec<u32>,
     /// The column that it fills as it stood there.
     pub output: u32,
+    /// The tables that the program looks up in, by the paths of their files, and their keys. It speaks of tables by their
+    /// numbers in this order.
+    pub lookups: Vec<Lookup>,
     /// The program.
     pub switch: Switch,
 }

@@ -1,90 +1,51 @@
 //! Writing a rule's file.
-ghost use Rattle.std.specs.Prelude.{◌≡◌, ◌++◌, ◌∷◌, [], All, IfOk, OnOk, codes, map, option_copied, option_map};
+ghost use Rattle.std.specs.Prelude.{◌≡◌, ◌++◌, ◌∷◌, [], IfOk, OnOk, codes, map};
 ghost use Rattle.std.specs.List.{flat_map};
 ghost use Rattle.std.specs.Fmt.{decimal};
-ghost use Rattle.fill_sheet.specs.Columns.{IsColumn};
 ghost use Rattle.fill_sheet.specs.Report.{record_text};
 ghost use Rattle.fill_tree.specs.Switch.{switch_tree};
-ghost use Rattle.fill_rule.specs.Rule.{header_lines, names_in, names_lines, rule_data, rule_text};
+ghost use Rattle.fill_print.specs.Notation.{switch_text};
+ghost use Rattle.fill_rule.specs.Rule.{header_lines, names_lines, rule_data, rule_text};
 
 use crate::lines::copied;
+use crate::lookups::put_lookups;
 use crate::{Names, Rule};
 use fill_print::print_switch;
-use fill_records::Record;
 use fill_sheet::put_record;
 use fill_text::{List, NoMemory};
 use fill_tree::Switch;
 use std::alloc::Global;
 
 /// The bytes of a rule's file.
+#[tactic(auto, unfolding(crate::specs::Rule::rule_text))]
 pub fn rule_text(alloc: Global, rule: &Rule) -> Result<List<u8>, NoMemory>
     ensures { IfOk result (λ bytes. bytes ≡ rule_text (rule_data rule.now)) }
 {
-    text_of(alloc, &rule.names, &rule.inputs, rule.output, &rule.switch)
-}
-
-/// The bytes of the file of a rule that was learned on a sheet with this header or with none, from its columns as they stand
-/// there, the inputs rising.
-pub fn save_rule(
-    alloc: Global,
-    header: Option<&Record>,
-    inputs: &[u32],
-    output: u32,
-    switch: &Switch,
-) -> Result<List<u8>, NoMemory>
-    requires inputs { All IsColumn inputs.now }
-    requires output { IsColumn output }
-    ensures { IfOk result (λ bytes. bytes ≡ rule_text (record { names = option_map (names_in inputs.now output) (option_copied header.entry); inputs = inputs.now; output = output; switch = switch_tree switch.now })) }
-{
-    let names = match header {
-        Some(header) => Some(names_in(alloc, header, inputs, output)?),
-        None => None,
-    };
-    text_of(alloc, &names, inputs, output, switch)
-}
-
-/// The names of these columns in a header.
-fn names_in(alloc: Global, header: &Record, inputs: &[u32], output: u32) -> Result<Names, NoMemory>
-    requires inputs { All IsColumn inputs.now }
-    requires output { IsColumn output }
-    ensures { IfOk result (λ names. names ≡ names_in inputs.now output header.now) }
-{
-    let mut names = List::new(alloc);
-    for column in inputs {
-        names.push(copied(alloc, header.field(*column))?)?;
-    }
-    Ok(Names {
-        inputs: names,
-        output: copied(alloc, header.field(output))?,
-    })
-}
-
-/// The bytes of the file of a rule with these parts.
-#[tactic(auto, unfolding(crate::specs::Rule::rule_text))]
-fn text_of(
-    alloc: Global,
-    names: &Option<Names>,
-    inputs: &[u32],
-    output: u32,
-    switch: &Switch,
-) -> Result<List<u8>, NoMemory>
-    ensures { IfOk result (λ bytes. bytes ≡ rule_text (record { names = names.now; inputs = inputs.now; output = output; switch = switch_tree switch.now })) }
-{
     let mut text = List::new(alloc);
     put_pair(alloc, &mut text, b"rule", b"1")?;
-    put_header(alloc, &mut text, names)?;
-    put_inputs(alloc, &mut text, inputs)?;
-    let mut buffer = itoa::Buffer::new();
-    put_pair(
-        alloc,
-        &mut text,
-        b"output",
-        buffer.format(output).as_bytes(),
-    )?;
-    put_names(alloc, &mut text, names)?;
-    let shown = print_switch(alloc, switch)?;
-    put_pair(alloc, &mut text, b"switch", shown.as_slice())?;
+    put_header(alloc, &mut text, &rule.names)?;
+    put_inputs(alloc, &mut text, &rule.inputs)?;
+    put_output(alloc, &mut text, rule.output)?;
+    put_names(alloc, &mut text, &rule.names)?;
+    put_lookups(alloc, &mut text, &rule.lookups)?;
+    put_switch(alloc, &mut text, &rule.switch)?;
     Ok(text)
+}
+
+/// Puts the line of the output at the end.
+fn put_output(alloc: Global, to: &mut List<u8>, output: u32) -> Result<(), NoMemory>
+    ensures { OnOk result (to.new ≡ to.old ++ record_text (codes "output" ∷ decimal output ∷ [])) }
+{
+    let mut buffer = itoa::Buffer::new();
+    put_pair(alloc, to, b"output", buffer.format(output).as_bytes())
+}
+
+/// Puts the line of the program at the end.
+fn put_switch(alloc: Global, to: &mut List<u8>, switch: &Switch) -> Result<(), NoMemory>
+    ensures { OnOk result (to.new ≡ to.old ++ record_text (codes "switch" ∷ switch_text (switch_tree switch.now) ∷ [])) }
+{
+    let shown = print_switch(alloc, switch)?;
+    put_pair(alloc, to, b"switch", shown.as_slice())
 }
 
 /// Puts a line of a word and a field at the end.

@@ -1,8 +1,8 @@
 -- How a read of one record after another takes the records of a text.
-use Rattle.std.proofs.Common.{◌≡◌, ℕ, zero, suc, ◌+◌, ◌<◌, ◌≤◌, List, [], ◌∷◌, ◌++◌, Bool, true, false, length, Option, None, Some, refl, sym, ap, subst, ◌∙◌, arith}
+use Rattle.std.proofs.Common.{◌≡◌, ℕ, zero, suc, ◌+◌, List, [], ◌∷◌, true, false, length, Option, None, Some, refl, sym, ap, ◌∙◌, arith}
 use Rattle.std.specs.Prelude.{option_map}
 use Rattle.csv.specs.Machine.{Read, next_record, ends_at_end}
-use Rattle.csv.specs.Reading.{ReadRecord, Reached, records, records_from, records_next, source_of, default_config, strip_bom}
+use Rattle.csv.specs.Reading.{ReadRecord, Reached, records_from, records_next, source_of, default_config, strip_bom}
 use Rattle.csv.specs.declared.reader.Reader.{Reader}
 use Rattle.csv.specs.declared.parser.State.{State}
 use Rattle.csv.specs.declared.parser.State.TheVariants as st

@@ -18,7 +18,7 @@ joined (text ∷ more) = text ++ joined more
 abbrev pub Held : Option (List ℕ) → Option (List ℕ) → List ℕ → List ℕ → Type 0
 Held old new buffer whole = (front : List ℕ) × Appends old new front × (front ++ buffer ≡ whole)
 
--- what a refusal tells: the column for which the record is refused. Want of memory is free
+-- what a refusal tells: the column for which the record is refused. Out of memory is free
 abbrev pub Tells : (ℕ → Type 0) → Unmade → Type 0
 Tells Refuses unmade.NoMemory = ⊤
 Tells Refuses (unmade.Refused column) = Refuses column

@@ -1,5 +1,5 @@
 //! The first bytes of a stream, read ahead.
-ghost use Rattle.std.specs.Prelude.{◌≡◌, ◌<◌, ◌≤◌, ◌∷◌, [], IfOk, OnErr, OnOk, drop, length, min, take};
+ghost use Rattle.std.specs.Prelude.{◌≡◌, ◌<◌, ◌≤◌, [], IfOk, OnErr, OnOk, drop, length, min, take};
 ghost use Rattle.std.specs.Io.KnownBytes.{Keeps, prepend_known};
 ghost use Rattle.fill_edge.specs.Outside.{Rose};
 ghost use Rattle.fill_stream.specs.Fronts.{GivesByte, GivesFront, IsMarked, is_marked};

@@ -9,7 +9,7 @@ use Rattle.clap.specs.Words.{Row, Text}
 use Rattle.fill_words.specs.declared.asked.Typed.{Typed}
 use Rattle.fill_words.specs.declared.refusal.Refusal.{Refusal}
 use Rattle.fill_words.specs.declared.refusal.Refusal.TheVariants.{Shown, Usage, NoMemory}
-use Rattle.fill_words.specs.Words.{ChosenData, IsRefusedBy, RefusesPart, Shows, Wrong, example_in, meaning_by, row_in, with_example, typed_data, typed_of}
+use Rattle.fill_words.specs.Words.{ChosenData, IsRefusedBy, RefusesPart, Wrong, example_in, meaning_by, row_in, with_example, typed_data, typed_of}
 
 -- wrong words are a part that means nothing
 pub refused_part : {D : Type 0} (m : Option D) (why : Refusal) → m ≡ None → IsRefusedBy Wrong why → RefusesPart m why

@@ -1,5 +1,5 @@
 -- The tables and keys that words ask for are proper.
-use Rattle.std.proofs.Common.{◌≡◌, ℕ, Bool, List, [], ◌∷◌, ◌++◌, map, Option, None, Some, Result, Ok, Err, All, ap, refl, sym, subst}
+use Rattle.std.proofs.Common.{◌≡◌, ℕ, Bool, List, [], ◌∷◌, ◌++◌, map, Option, None, Some, Result, Ok, Err, All, ap, refl, subst}
 use Rattle.std.specs.Prelude.{IfOk, codes, length, nat_lt, ◌==◌}
 use Rattle.std.specs.List.{after_first, before_first, position_or_len}
 use Rattle.std.proofs.lemmas.List.Elements.{All-push, All-nil}
@@ -9,7 +9,7 @@ use Rattle.fill_script.specs.Line.{columns_in as numbers_of_columns}
 use Rattle.fill_script.proofs.Lines.{columns-within, if_some, map_some, then_some}
 use Rattle.fill_words.specs.declared.asked.Asked.{Asked}
 use Rattle.fill_words.specs.declared.refusal.Refusal.{Refusal}
-use Rattle.fill_words.specs.Words.{Answers, AskedData, Asks, ChosenData, IsLookup, Key, LookupData, Meaning, Table, TargetData, TypedData, added, chosen, chosen_in, columns_in, data_in, key_in, lookup_data, lookups_in, meaning_by, meaning_of_rows, table_in, texts_of}
+use Rattle.fill_words.specs.Words.{Answers, AskedData, Asks, ChosenData, IsLookup, Key, LookupData, Table, TargetData, TypedData, added, chosen, chosen_in, columns_in, data_in, key_in, lookup_data, lookups_in, meaning_by, meaning_of_rows, table_in, texts_of}
 
 -- what each word gives is proper, and so is all that words give
 added_all : {D : Type 0} (P : D → Type 0) (one : Text → Option D) → ((w : Text) (x : D) → one w ≡ Some x → P x)
@@ -43,24 +43,23 @@ lookups_proper tables keys all is =
     added_all IsLookup key_in key_proper found.0 keys all (added_all IsLookup table_in table_proper [] tables found.0 (All-nil IsLookup) found.1) found.2
 
 -- what was chosen has the tables and keys of the words
-chosen_lookups : (a : Option Bool) (b c : Option ℕ) (d : Option TargetData) (e : Option (List TypedData)) (f : Option (List LookupData)) (g : Option (Option Text)) (all : ChosenData)
-    → chosen a b c d e f g ≡ Some all → f ≡ Some all.lookups
-chosen_lookups None b c d e f g all is = cc
-chosen_lookups (Some a) None c d e f g all is = cc
-chosen_lookups (Some a) (Some b) None d e f g all is = cc
-chosen_lookups (Some a) (Some b) (Some c) None e f g all is = cc
-chosen_lookups (Some a) (Some b) (Some c) (Some d) None f g all is = cc
-chosen_lookups (Some a) (Some b) (Some c) (Some d) (Some e) None g all is = cc
-chosen_lookups (Some a) (Some b) (Some c) (Some d) (Some e) (Some f) None all is = cc
-chosen_lookups (Some a) (Some b) (Some c) (Some d) (Some e) (Some f) (Some g) all is =
-    let same : record { only_sure = a; profile = b; depth = c; to = d; examples = e; lookups = f; save = g } ≡ all = cc in
+chosen_lookups : (a : Option Bool) (b c : Option ℕ) (d : Option TargetData) (e : Option (List TypedData)) (f : Option (List LookupData)) (all : ChosenData)
+    → chosen a b c d e f ≡ Some all → f ≡ Some all.lookups
+chosen_lookups None b c d e f all is = cc
+chosen_lookups (Some a) None c d e f all is = cc
+chosen_lookups (Some a) (Some b) None d e f all is = cc
+chosen_lookups (Some a) (Some b) (Some c) None e f all is = cc
+chosen_lookups (Some a) (Some b) (Some c) (Some d) None f all is = cc
+chosen_lookups (Some a) (Some b) (Some c) (Some d) (Some e) None all is = cc
+chosen_lookups (Some a) (Some b) (Some c) (Some d) (Some e) (Some f) all is =
+    let same : record { only_sure = a; profile = b; depth = c; to = d; examples = e; lookups = f } ≡ all = cc in
     ap (λ (x : ChosenData). Some x.lookups) same
 
 by_choice : (rows : List Row) (o : Option ChosenData) (a : AskedData) → chosen_in rows ≡ o → meaning_by rows o ≡ Asks a → All IsLookup a.lookups
 by_choice rows None a is means = cc
 by_choice rows (Some c) a is means =
     let same : data_in rows c ≡ a = cc in
-    subst (λ (x : AskedData). All IsLookup x.lookups) same (lookups_proper (texts_of (codes "table") rows) (texts_of (codes "key") rows) c.lookups (chosen_lookups _ _ _ _ _ _ _ c is))
+    subst (λ (x : AskedData). All IsLookup x.lookups) same (lookups_proper (texts_of (codes "table") rows) (texts_of (codes "key") rows) c.lookups (chosen_lookups _ _ _ _ _ _ c is))
 
 -- the tables and keys of words that `clap` takes
 pub rows_proper : (rows : List Row) (result : Result Asked Refusal) → Answers (meaning_of_rows rows) result

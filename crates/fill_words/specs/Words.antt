@@ -194,14 +194,6 @@ key_in word = if nat_lt (position_or_len (λ b. b == 58) word) (length word)
 abbrev pub lookups_in : List Text → List Text → Option (List LookupData)
 lookups_in tables keys = option_and_then (λ before. added key_in before keys) (added table_in [] tables)
 
--- ---- saved rules
-
--- the path that the rule is saved under, if it is; a rule that looks up in tables cannot be saved
-abbrev pub save_in : Option Text → List Text → Option (Option Text)
-save_in None tables = Some None
-save_in (Some path) [] = Some (Some path)
-save_in (Some path) (table ∷ tables) = None
-
 -- ---- all options
 
 -- the value of an option
@@ -224,7 +216,6 @@ pub record ChosenData : Type 0 where
   pub to : TargetData
   pub examples : List TypedData
   pub lookups : List LookupData
-  pub save : Option Text
 
 abbrev pub data_in : List Row → ChosenData → AskedData
 data_in rows chosen = record {
@@ -242,7 +233,7 @@ data_in rows chosen = record {
   quiet = is_set (codes "quiet") rows;
   explain = is_set (codes "explain") rows;
   strict = is_set (codes "strict") rows;
-  save = chosen.save;
+  save = first_of (codes "save") rows;
 }
 
 abbrev pub chosen_data : Chosen → ChosenData
@@ -253,19 +244,18 @@ chosen_data c = record {
   to = target_data c.to;
   examples = map typed_data c.examples.items;
   lookups = map lookup_data c.lookups.items;
-  save = option_map string_bytes c.save;
 }
 
 -- these values, where there are all of them
-abbrev pub chosen : Option Bool → Option ℕ → Option ℕ → Option TargetData → Option (List TypedData) → Option (List LookupData) → Option (Option Text) → Option ChosenData
-chosen (Some only_sure) (Some profile) (Some depth) (Some to) (Some examples) (Some lookups) (Some save) =
-    Some (record { only_sure = only_sure; profile = profile; depth = depth; to = to; examples = examples; lookups = lookups; save = save })
-chosen _ _ _ _ _ _ _ = None
+abbrev pub chosen : Option Bool → Option ℕ → Option ℕ → Option TargetData → Option (List TypedData) → Option (List LookupData) → Option ChosenData
+chosen (Some only_sure) (Some profile) (Some depth) (Some to) (Some examples) (Some lookups) =
+    Some (record { only_sure = only_sure; profile = profile; depth = depth; to = to; examples = examples; lookups = lookups })
+chosen _ _ _ _ _ _ = None
 
 abbrev pub chosen_in : List Row → Option ChosenData
 chosen_in rows = chosen (only_sure_in (first_of (codes "only") rows)) (profile_in (first_of (codes "profile") rows)) (depth_in (first_of (codes "depth") rows))
     (target_in (first_of (codes "to") rows) (first_of (codes "new") rows)) (examples_in (texts_of (codes "example") rows))
-    (lookups_in (texts_of (codes "table") rows) (texts_of (codes "key") rows)) (save_in (first_of (codes "save") rows) (texts_of (codes "table") rows))
+    (lookups_in (texts_of (codes "table") rows) (texts_of (codes "key") rows))
 
 abbrev pub meaning_by : List Row → Option ChosenData → Meaning
 meaning_by rows None = Wrong
@@ -309,13 +299,13 @@ asked_in words = if list_any is_rule_word words then run_meaning words else shee
 
 -- ---- answers
 
--- the refusal says what the words mean, or is want of memory
+-- the refusal says what the words mean, or that memory ran out
 abbrev pub IsRefusedBy : Meaning → Refusal → Type 0
 IsRefusedBy meaning (Shown text) = meaning ≡ Shows
 IsRefusedBy meaning (Usage text) = meaning ≡ Wrong
 IsRefusedBy meaning NoMemory = ⊤
 
--- the answer says what the words mean, or is want of memory
+-- the answer says what the words mean, or that memory ran out
 abbrev pub Answers : Meaning → Result Asked Refusal → Type 0
 Answers meaning result = MatchResult result (λ asked. meaning ≡ Asks (data_of asked)) (IsRefusedBy meaning)
 
@@ -335,7 +325,7 @@ abbrev pub IsProper : Order → Type 0
 IsProper (order.Fill asked) = All IsLookup (map lookup_data asked.lookups.items)
 IsProper (order.Run saved) = ⊤
 
--- the refusal says that a part of the words means nothing, or it is want of memory
+-- the refusal says that a part of the words means nothing, or that memory ran out
 abbrev pub RefusesPart : {D : Type 0} → Option D → Refusal → Type 0
 RefusesPart meaning (Shown text) = ⊥
 RefusesPart meaning (Usage text) = meaning ≡ None

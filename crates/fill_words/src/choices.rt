@@ -1,6 +1,6 @@
 //! The options that take one of a few words.
-ghost use Rattle.std.specs.Prelude.{◌≡◌, IfOk, IfErr, Some, map, option_map, string_bytes};
-ghost use Rattle.fill_words.specs.Words.{RefusesPart, depth_in, only_sure_in, profile_in, save_in, target_data, target_in};
+ghost use Rattle.std.specs.Prelude.{◌≡◌, IfOk, IfErr, Some, option_map, string_bytes};
+ghost use Rattle.fill_words.specs.Words.{RefusesPart, depth_in, only_sure_in, profile_in, target_data, target_in};
 
 use crate::{Refusal, Target};
 use std::alloc::Global;
@@ -95,34 +95,6 @@ pub(crate) fn target_by(
         (None, None) => Err(Refusal::of_usage(alloc, NEITHER)),
     }
 }
-
-/// The path that the rule is saved under, by the word after `--save` and those after `--table`.
-pub(crate) fn save_by(
-    alloc: Global,
-    path: Option<&str>,
-    tables: &[&str],
-) -> Result<Option<String>, Refusal>
-    ensures ok { IfOk result (λ save. save_in (option_map (λ w. w.now) path.entry) (map (λ w. w.now) tables.now) ≡ Some (option_map string_bytes save)) }
-    ensures err { IfErr result (RefusesPart (save_in (option_map (λ w. w.now) path.entry) (map (λ w. w.now) tables.now))) }
-{
-    let Some(path) = path else {
-        return Ok(None);
-    };
-    if !tables.is_empty() {
-        return Err(Refusal::of_usage(alloc, SAVED_LOOKUP));
-    }
-    match String::from_str(alloc, path) {
-        Ok(path) => Ok(Some(path)),
-        Err(_) => Err(Refusal::NoMemory),
-    }
-}
-
-/// What is wrong where a rule that looks up in tables is to be saved.
-const SAVED_LOOKUP: &str =
-    "error: the argument '--save <RULE>' cannot be used with '--table <NAME=FILE>'
-
-For more information, try '--help'.
-";
 
 /// What is wrong where the words name two columns to fill.
 const BOTH: &str = "error: the argument '--to <COLUMN>' cannot be used with '--new <NAME>'

@@ -1,7 +1,7 @@
 //! Keys of lookup tables among the words.
-ghost use Rattle.std.specs.Prelude.{◌≡◌, All, IfOk, IfErr, Some, map, option_map, string_bytes};
+ghost use Rattle.std.specs.Prelude.{◌≡◌, IfOk, IfErr, Some, map, option_map, string_bytes};
 ghost use Rattle.fill_script.specs.Line.{columns_in as numbers_of_columns, is_distinct, number_between, numbers_in};
-ghost use Rattle.fill_words.specs.Words.{IsLookup, IsRefusedBy, RefusesPart, Wrong, added, columns_in, key_in, lookup_data};
+ghost use Rattle.fill_words.specs.Words.{IsRefusedBy, RefusesPart, Wrong, added, columns_in, key_in, lookup_data};
 
 use crate::columns::columns_of;
 use crate::{Lookup, Refusal};

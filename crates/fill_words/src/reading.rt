@@ -5,7 +5,7 @@ ghost use Rattle.clap.specs.Walk.{first_of, rows_of};
 ghost use Rattle.clap.specs.Words.{found_of};
 ghost use Rattle.fill_words.specs.Words.{Answers, AnswersOrder, AnswersRun, Asks, IsLookup, IsProper, RefusesPart, asked_in, chosen_data, chosen_in, data_in, is_rule_word, is_set, lookup_data, meaning_of_rows, run_meaning, run_of_rows, sheet_meaning, text_of, texts_of};
 
-use crate::choices::{depth_of, only_sure_of, profile_of, save_by, target_by};
+use crate::choices::{depth_of, only_sure_of, profile_of, target_by};
 use crate::columns::columns_of;
 use crate::examples::examples_of;
 use crate::options::{options, run_options};
@@ -26,6 +26,16 @@ fn text_of(alloc: Global, matches: &ArgMatches<'_>, id: &str) -> Result<String, 
     ensures { IfOk result (λ text. string_bytes text ≡ text_of id.now (rows_of (found_of matches.now))) }
 {
     String::from_str(alloc, value_of(matches, id).unwrap_or(""))
+}
+
+/// The value of an option, if it has one.
+fn word_of(alloc: Global, matches: &ArgMatches<'_>, id: &str) -> Result<Option<String>, AllocError>
+    ensures { IfOk result (λ word. option_map string_bytes word ≡ first_of id.now (rows_of (found_of matches.now))) }
+{
+    match value_of(matches, id) {
+        Some(word) => Ok(Some(String::from_str(alloc, word)?)),
+        None => Ok(None),
+    }
 }
 
 /// Whether a flag is among the words.
@@ -60,8 +70,6 @@ pub(crate) struct Chosen {
     pub examples: Vec<Typed>,
     /// The tables, and then their keys.
     pub lookups: Vec<Lookup>,
-    /// The path that the rule is saved under, if it is.
-    pub save: Option<String>,
 }
 
 /// What these options ask for.
@@ -79,11 +87,6 @@ fn chosen_by(alloc: Global, matches: &ArgMatches<'_>) -> Result<Chosen, Refusal>
         values_of(matches, "table"),
         values_of(matches, "key"),
     )?;
-    let save = save_by(
-        alloc,
-        value_of(matches, "save"),
-        values_of(matches, "table"),
-    )?;
     Ok(Chosen {
         only_sure,
         profile,
@@ -91,7 +94,6 @@ fn chosen_by(alloc: Global, matches: &ArgMatches<'_>) -> Result<Chosen, Refusal>
         to,
         examples,
         lookups,
-        save,
     })
 }
 
@@ -124,7 +126,7 @@ fn asked_with(alloc: Global, matches: &ArgMatches<'_>, chosen: Chosen) -> Result
         quiet: is_set(matches, "quiet"),
         explain: is_set(matches, "explain"),
         strict: is_set(matches, "strict"),
-        save: chosen.save,
+        save: word_of(alloc, matches, "save")?,
     })
 }
 

@@ -16,7 +16,7 @@ pub enum Refusal {
     Shown(String),
     /// The words are wrong: this text goes to the standard error.
     Usage(String),
-    /// Want of memory.
+    /// Out of memory.
     NoMemory,
 }
 

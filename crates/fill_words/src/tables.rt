@@ -1,6 +1,6 @@
 //! Lookup tables among the words.
-ghost use Rattle.std.specs.Prelude.{◌≡◌, [], All, IfOk, IfErr, Some, map};
-ghost use Rattle.fill_words.specs.Words.{IsLookup, RefusesPart, added, lookup_data, lookups_in, table_in};
+ghost use Rattle.std.specs.Prelude.{◌≡◌, [], IfOk, IfErr, Some, map};
+ghost use Rattle.fill_words.specs.Words.{RefusesPart, added, lookup_data, lookups_in, table_in};
 
 use crate::keys::with_keys;
 use crate::{Lookup, Refusal};

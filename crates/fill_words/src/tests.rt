@@ -152,7 +152,7 @@ fn words_that_are_wrong(rt: HostRuntime) -> Result<(), Fail> {
         ),
         (
             "people.csv --to Label --save label.rule --table months=months.csv",
-            "wrong: error: the argument '--save <RULE>' cannot be used with '--table <NAME=FILE>'\n\nFor more information, try '--help'.\n",
+            "Asked { file: \"people.csv\", to: There(\"Label\"), from: [], header: true, examples: [], replace: false, lookups: [Table { name: \"months\", file: \"months.csv\" }], depth: 1, states: false, only_sure: false, profile: 3, quiet: false, explain: false, strict: false, save: Some(\"label.rule\") }",
         ),
         (
             "--rule label.rule people.csv",

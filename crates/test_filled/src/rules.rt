@@ -15,12 +15,22 @@ const MORE: &[u8] =
 const FILLED: &[u8] =
     b"\xef\xbb\xbfCity,Label,Id,Name\nUlm,Einstein (Ulm),1,Albert Einstein\nBonn,kept,2,A B\n\"X, \"\"Y\"\"\",\"D (X, \"\"Y\"\")\",\"3\n3\",C D\nKiel,,4\n";
 
+const DATES: &[u8] = b"Day,Month\n2012-03-11,March\n1999-07-30,\n";
+
+const MONTHS: &[u8] = b"03,March\n05,May\n07,July\n";
+
+const MONTH_RULE: &[u8] =
+    b"rule,1\nheader\ninputs,1\noutput,2\nnames,Day,Month\ntable,months,m.csv\nkey,months,1\nswitch,\"Switch(else=>Concat(Whole(Select(2,1,1,Sub(Col(1),Pos([Hyphen],[],1),Pos([],[Hyphen],-1))))))\"\n";
+
 fn set(alloc: Global, scene: &mut Scene, words: &[&str]) -> Result<(), Fail> {
     for word in words {
         scene.words.push(String::from_str(alloc, word)?)?;
     }
     scene.folder.cabinet.put("people.csv", PEOPLE)?;
     scene.folder.cabinet.put("label.rule", RULE)?;
+    scene.folder.cabinet.put("dates.csv", DATES)?;
+    scene.folder.cabinet.put("m.csv", MONTHS)?;
+    scene.folder.cabinet.put("month.rule", MONTH_RULE)?;
     Ok(())
 }
 
@@ -74,6 +84,33 @@ fn rules_are_saved_and_run(rt: HostRuntime) -> Result<(), Fail> {
             output: FILLED,
             saved: b"",
             said: b"fillcsv: 4 rows, 2 filled\n",
+        },
+        Row {
+            words: &[
+                "dates.csv",
+                "--to",
+                "Month",
+                "--table",
+                "months=m.csv",
+                "--key",
+                "months:1",
+                "--save",
+                "a.rule",
+                "--quiet",
+            ],
+            input: b"",
+            status: 0,
+            output: b"Day,Month\n2012-03-11,March\n1999-07-30,July\n",
+            saved: MONTH_RULE,
+            said: b"",
+        },
+        Row {
+            words: &["--rule", "month.rule"],
+            input: b"Month,Day\n,2021-05-17\n,2021-12-01\n",
+            status: 0,
+            output: b"Month,Day\nMay,2021-05-17\n,2021-12-01\n",
+            saved: b"",
+            said: b"fillcsv: 2 rows, 1 filled\n",
         },
         Row {
             words: &[

@@ -1,8 +1,9 @@
 //! Runs of a saved rule.
 use fill_edge::MemorySink;
-use fill_filter::run_rule;
+use fill_filter::{LoadedRule, run_rule};
 use fill_rule::{read_rule, rule_text};
 use fill_stream::MemorySource;
+use fill_tables::Tables;
 use std::alloc::Global;
 use std::test::Fail;
 
@@ -17,6 +18,10 @@ const PLAIN: &[u8] =
 /// What follows a sign that the third profile alone has, up to one that it lacks.
 const SIGNS: &[u8] =
     b"rule,1\ninputs,1\noutput,2\nswitch,\"Switch(else=>Concat(Sub(Col(1),Pos([Equals],[],1),Pos([NonDigit],[End],1))))\"\n";
+
+/// A month by its number, from a table.
+const LOOKED_UP: &[u8] =
+    b"rule,1\nheader\ninputs,1\noutput,2\nnames,Number,Month\ntable,months,months.csv\nkey,months,1\nkey,months,2,1\nswitch,\"Switch(else=>Concat(Whole(Select(2,1,1,Whole(Col(1))))))\"\n";
 
 /// A run of a rule, and what it comes to.
 #[derive(Clone, Copy)]
@@ -35,9 +40,12 @@ fn runs(alloc: Global, row: &Row) -> Result<bool, Fail> {
     let mut out = MemorySink::new(alloc, 10_000, 7)?;
     let mut err = MemorySink::new(alloc, 10_000, 7)?;
     out.fail_at(row.failing.1)?;
-    let rule = read_rule(alloc, row.rule)?;
+    let loaded = LoadedRule {
+        rule: read_rule(alloc, row.rule)?,
+        tables: Tables::new(alloc),
+    };
     let source = MemorySource::new(row.bytes, 5, row.failing.0);
-    let ran = run_rule(alloc, &rule, source, false, &mut out, &mut err);
+    let ran = run_rule(alloc, &loaded, source, false, &mut out, &mut err);
     Ok(ran.status == row.status && out.written() == row.output && err.written() == row.line)
 }
 
@@ -146,7 +154,7 @@ fn a_run_ends_where_it_must(rt: HostRuntime) -> Result<(), Fail> {
 
 #[test]
 fn a_rule_is_written_as_it_was_read(rt: HostRuntime) -> Result<(), Fail> {
-    for bytes in [NAMED, PLAIN, SIGNS] {
+    for bytes in [NAMED, PLAIN, SIGNS, LOOKED_UP] {
         let rule = read_rule(rt.alloc(), bytes)?;
         let text = rule_text(rt.alloc(), &rule)?;
         assert!(rt; text.as_slice() == bytes);

@@ -1,5 +1,5 @@
 //! What stands first, and fixed words.
-ghost use Rattle.std.specs.Prelude.{◌≡◌, ℕ, List, [], ◌∷◌, ◌++◌, length, Result, Ok, Err, MatchOption};
+ghost use Rattle.std.specs.Prelude.{◌≡◌, [], ◌∷◌, Result, Ok, Err, MatchOption};
 ghost use Rattle.fill_print.specs.Reading.{IsNotNext, Plain, Reads};
 
 use crate::read::error::ReadError;

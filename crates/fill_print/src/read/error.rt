@@ -1,7 +1,7 @@
 //! Why bytes are not read.
 use thiserror::Error;
 
-/// Why a part was not read: want of memory, or the number of bytes that were left at the first wrong one.
+/// Why a part was not read: out of memory, or the number of bytes that were left at the first wrong one.
 #[derive(Clone, Copy, Debug, PartialEq, Eq)]
 pub(crate) enum ReadError {
     NoMemory,
@@ -14,7 +14,7 @@ pub enum ReadProgramError {
     /// The bytes are no text of a conditional program; `at` is the length of their longest prefix that begins one.
     #[error("no conditional program after {at} bytes")]
     Bad { at: usize },
-    /// Want of memory.
+    /// Out of memory.
     #[error("out of memory")]
     NoMemory,
 }

@@ -1,5 +1,5 @@
 //! Literals, and the second one of a guard.
-ghost use Rattle.std.specs.Prelude.{◌≡◌, true, false};
+ghost use Rattle.std.specs.Prelude.{true, false};
 ghost use Rattle.fill_print.specs.Grammar.{Matched, NoSecond, SecondLiteral};
 ghost use Rattle.fill_print.specs.Reading.{Reads};
 ghost use Rattle.fill_print.specs.Switches.{LiteralFront, SecondFront};

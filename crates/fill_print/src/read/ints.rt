@@ -1,6 +1,6 @@
 //! Signed numbers.
-ghost use Rattle.std.specs.Prelude.{◌≡◌, ◌≤◌, ◌<◌, ◌-◌, ◌∷◌, [], negsuc, pos, Result};
-ghost use Rattle.fill_print.specs.Reading.{Reads, Plain};
+ghost use Rattle.std.specs.Prelude.{◌≡◌, ◌≤◌, ◌<◌, ◌-◌, negsuc, Result};
+ghost use Rattle.fill_print.specs.Reading.{Reads};
 ghost use Rattle.fill_print.specs.Ints.{Int, Negative, Zero, Positive};
 
 use crate::read::bytes::{first, word};

@@ -1,5 +1,5 @@
 //! Programs.
-ghost use Rattle.std.specs.Prelude.{◌≡◌, true, false, map, option_map};
+ghost use Rattle.std.specs.Prelude.{true, false, map, option_map};
 ghost use Rattle.fill_tree.specs.Meaning.{atom_tree, program_tree};
 ghost use Rattle.fill_print.specs.Grammar.{NoAtom, SomeAtom, WholeProgram};
 ghost use Rattle.fill_print.specs.Programs.{AtomStep, ProgramAtom, ProgramAtoms, ProgramFront};

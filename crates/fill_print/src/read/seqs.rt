@@ -1,7 +1,7 @@
 //! Sequences of tokens.
 ghost use Rattle.std.specs.Prelude.{◌≡◌, ◌<◌, ◌≤◌, [], ◌∷◌, ◌++◌, length};
 ghost use Rattle.fill_print.specs.Reading.{Reads};
-ghost use Rattle.fill_print.specs.Seqs.{AtStart, Later, Spot, TokenSeq, TokenStep, room_after};
+ghost use Rattle.fill_print.specs.Seqs.{AtStart, Later, TokenSeq, TokenStep, room_after};
 ghost use Rattle.fill_print.specs.Tokens.{tokens_of};
 
 use crate::notation::Notation;

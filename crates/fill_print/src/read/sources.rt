@@ -2,7 +2,7 @@
 ghost use Rattle.std.specs.Prelude.{◌≡◌, ◌||◌, false, List, map, option_map};
 ghost use Rattle.fill_tree.specs.Grammar.{is_part};
 ghost use Rattle.fill_tree.specs.Meaning.{source_tree, atom_tree};
-ghost use Rattle.fill_print.specs.Conditions.{Room, ConditionFront, ConditionStep, Conditions, IsRoom, PartFront, SourceFront, at_start};
+ghost use Rattle.fill_print.specs.Conditions.{ConditionFront, ConditionStep, Conditions, IsRoom, PartFront, SourceFront, at_start};
 ghost use Rattle.fill_print.specs.Grammar.{Column, Constant, FirstCondition, LaterCondition, Lookup, NoAtom, SubPart, WholePart};
 ghost use Rattle.fill_print.specs.Reading.{Reads};
 ghost use Rattle.fill_print.specs.Tokens.{tokens_of};

@@ -1,5 +1,5 @@
 //! Conditional programs.
-ghost use Rattle.std.specs.Prelude.{◌≡◌, map, option_map, IfOk, IfErr};
+ghost use Rattle.std.specs.Prelude.{map, option_map, IfOk, IfErr};
 ghost use Rattle.fill_tree.specs.Switch.{SwitchTree, case_tree, switch_tree};
 ghost use Rattle.fill_print.specs.Faults.{IsTextOf, ReadsBack, Refuses};
 ghost use Rattle.fill_print.specs.Grammar.{NoCase, SomeCase, WholeCase, WholeSwitch};

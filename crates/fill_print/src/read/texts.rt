@@ -80,7 +80,7 @@ pub(crate) fn quoted(
     loop {
         let (next, after) = character(rest, may_end)?;
         let Some(c) = next else {
-            // A string is UTF-8, so that only want of memory refuses its text.
+            // A string is UTF-8, so that only out of memory refuses its text.
             let Ok(text) = Text::from_utf8(alloc, spelled.as_bytes()) else {
                 return Err(ReadError::NoMemory);
             };

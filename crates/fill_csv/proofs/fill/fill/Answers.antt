@@ -1,4 +1,4 @@
-use Rattle.std.proofs.Common.{◌≡◌, ◌∙◌, Err, ap, inl, inr, refl}
+use Rattle.std.proofs.Common.{◌∙◌, Err, ap, inl, inr, refl}
 use Rattle.std.proofs.KnownBytes.{Keeps-refl}
 use Rattle.fill_words.specs.Words.{data_of}
 use Rattle.fill_csv.specs.Read.{read_data}

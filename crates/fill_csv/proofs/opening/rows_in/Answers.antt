@@ -1,4 +1,4 @@
-use Rattle.std.proofs.Common.{◌≡◌, ◌∙◌, ℕ, List, Result, Ok, ap, subst, sym}
+use Rattle.std.proofs.Common.{◌≡◌, ◌∙◌, ℕ, Result, Ok, ap, subst, sym}
 use Rattle.fill_text.specs.Data.{SheetData}
 use Rattle.fill_sheet.specs.Sheet.{read_sheet}
 use Rattle.fill_sheet.specs.declared.error.SheetError.{SheetError}

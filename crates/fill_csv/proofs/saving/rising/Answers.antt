@@ -1,4 +1,4 @@
-use Rattle.std.proofs.Common.{◌≡◌, All, List, ℕ, subst, sym}
+use Rattle.std.proofs.Common.{◌≡◌, All, subst, sym}
 use Rattle.fill_sheet.specs.Columns.{IsColumn, rising}
 use Rattle.fill_sheet.proofs.Decisions.{rising-columns}
 use Rattle.fill_sheet.proofs.Rising.{sorted-rising}

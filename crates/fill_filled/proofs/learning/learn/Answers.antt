@@ -1,4 +1,4 @@
-use Rattle.std.proofs.Common.{◌∙◌, refl}
+use Rattle.std.proofs.Common.{◌∙◌}
 use Rattle.fill_filled.proofs.Gained.{learns_more}
 use Rattle.fill_filled.proofs.learning.learn.Goals as goal
 

@@ -1,5 +1,5 @@
 use Rattle.std.specs.Io.KnownBytes.{prepend_known}
-use Rattle.fill_rule.specs.Rule.{rule_data}
+use Rattle.fill_filter.specs.Loaded.{loaded_data}
 use Rattle.fill_filter.proofs.Runs.{end_behind, ends_source, status_writes}
 use Rattle.fill_filter.proofs.run.filter_from.Goals as goal
 
@@ -8,7 +8,7 @@ returns-clause-writes g c =
     let rest = rw c.new.ensures at c.new-records.ensures in
     let wrote = rw rest at c.pass-how.ensures.writes in
     rw c.status_of-status.ensures
-    (status_writes (rule_data c.args.rule.now) c.pass-how.result c.failed.result c.ended.result c.args.marked (prepend_known c.args.source.front (g.S.Source.left c.args.source.source))
+    (status_writes (loaded_data c.args.loaded.now) c.pass-how.result c.failed.result c.ended.result c.args.marked (prepend_known c.args.source.front (g.S.Source.left c.args.source.source))
     (g.K.Sink.written c.args.sink.now) (g.K.Sink.written c.pass-how.new.sink) c.requires.marked wrote)
 
 pub returns-clause-source : goal.returns-clause-source

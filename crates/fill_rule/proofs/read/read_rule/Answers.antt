@@ -1,4 +1,4 @@
-use Rattle.std.proofs.Common.{◌∙◌, ap}
+use Rattle.std.proofs.Common.{◌∙◌}
 use Rattle.fill_tree.specs.Switch.{switch_tree}
 use Rattle.fill_rule.specs.Form.{form_data}
 use Rattle.fill_rule.proofs.Forms.{file_is, form-proper, rule-of-form}

@@ -1,8 +1,7 @@
 use Rattle.std.proofs.Common.{arith}
-use Rattle.csv.specs.Records.{fields_of}
 use Rattle.fill_stream.specs.Filters.{Puts}
 use Rattle.fill_stream.specs.Records.{Took}
-use Rattle.fill_stream.proofs.Filterings.{progress_end, progress_kept, progress_more, progress_part, progress_refused, progress_some, progress_start, rose_later}
+use Rattle.fill_stream.proofs.Filterings.{progress_end, progress_kept, progress_more, progress_part, progress_refused, progress_some, progress_start}
 use Rattle.fill_stream.proofs.filter.filter_records.Goals as goal
 
 pub loop-record-init : goal.loop-record-init

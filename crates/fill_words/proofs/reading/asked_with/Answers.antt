@@ -1,4 +1,4 @@
-use Rattle.std.proofs.Common.{ap, sym, not, map, flat_map, option_map, string_bytes, ◌∙◌}
+use Rattle.std.proofs.Common.{ap, sym, not, map, flat_map, ◌∙◌}
 use Rattle.fill_words.specs.Words.{Asks, columns_in, lookup_data, target_data, typed_data}
 use Rattle.fill_words.proofs.reading.asked_with.Goals as goal
 
@@ -20,5 +20,5 @@ returns c =
       quiet = sym c.is_set-4.ensures i;
       explain = sym c.is_set-5.ensures i;
       strict = sym c.is_set-6.ensures i;
-      save = option_map string_bytes c.args.chosen.save;
+      save = sym c.in_ok-word_of.ensures i;
     })
