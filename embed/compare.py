@@ -130,12 +130,15 @@ def filled(random):
 
 def ruled(random):
     """A run of a saved rule; the rule and the sheet may be damaged, and standard input may be left out."""
-    rule = random.choice([EXAMPLES["label.rule"], damaged(random, EXAMPLES["label.rule"], random.randrange(1, 4))])
-    files = {"a.rule": rule, "-": random.choice([EXAMPLES["more-people.csv"], EXAMPLES["people.csv"], EXAMPLES["sales.csv"], b""])}
+    saved = EXAMPLES[random.choice(["label.rule", "month.rule"])]
+    rule = random.choice([saved, damaged(random, saved, random.randrange(1, 4))])
+    sheet = random.choice(["more-people.csv", "people.csv", "more-sales.csv", "sales.csv", None])
+    files = {"a.rule": rule, "months.csv": EXAMPLES["months.csv"], "-": EXAMPLES[sheet] if sheet else b""}
     if random.random() < 0.5 and files["-"]:
         files["-"] = damaged(random, files["-"], random.randrange(1, 5))
-    if random.random() < 0.1:
-        del files["-"]
+    for name in ("months.csv", "-"):
+        if random.random() < 0.1:
+            del files[name]
     words = random.choice([["--rule", "a.rule"]] * 5 + [["--rule", "-"], ["--rule", "gone.rule"], ["--rule"]])
     return "fillcsv", words + random.choice([[], [], ["--quiet"], ["--state"]]), files
 
@@ -173,7 +176,8 @@ def main(programs, number, seed):
         if want is not None and want != got or not is_told(request, got):
             return True, want
         if got.saved:
-            return differs(flashfill.request_of("fillcsv", ["--rule", "a.rule"], {"a.rule": got.saved, "-": EXAMPLES["more-people.csv"]}))
+            files = {**EXAMPLES, "a.rule": got.saved, "-": EXAMPLES["more-people.csv"]}
+            return differs(flashfill.request_of("fillcsv", ["--rule", "a.rule"], files))
         return False, want
 
     with concurrent.futures.ThreadPoolExecutor(4) as pool:

@@ -57,6 +57,10 @@ export const FILTERS = [
 
 /** Shows how many rows have each state; a button shows these rows alone. */
 export function showStates(filled, filter, onFilter) {
+    if (filled?.isWhole && filled.counts[GIVEN] === 0) {
+        byId("chips").replaceChildren(element("span", { class: "hint" }, "Nothing is given yet: type what one cell of the green column should be."));
+        return;
+    }
     const chips = FILTERS.map(({ name, states, mark }) => {
         const count = states.reduce((sum, it) => sum + (filled?.counts[it] ?? 0), 0);
         const isOn = filter === name;

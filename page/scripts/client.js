@@ -38,7 +38,7 @@ export class Client {
     hold(name, bytes) {
         if (bytes) this.#held.set(name, bytes);
         else this.#held.delete(name);
-        return this.ask("hold", { name, bytes });
+        return this.ask("hold", { name, bytes }, `hold ${name}`);
     }
 
     /** Holds this file alone. */

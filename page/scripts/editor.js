@@ -1,14 +1,14 @@
 // Typing into cells, and the keys of the sheet.
 import { element } from "./dom.js";
 
-/** Typing that has begun: the text field in a cell of the filled column. */
+/** Typing that has begun: the text field in a cell. */
 export class Editor {
     #field = null;
-    #record = null;
+    #cell = null;
 
     /**
-     * `calls.onTyping(record, text)` comes with each change, `onDone(record, text, isEntered)` with the end: null as text
-     * says that it was given up, `isEntered` that a key ended it and not a click elsewhere.
+     * `calls.onTyping(cell, text)` comes with each change, `onDone(cell, text, isEntered)` with the end; a cell has a `record`
+     * and a `column`. Null as text says that it was given up, `isEntered` that a key ended it and not a click elsewhere.
      */
     constructor(grid, calls) {
         this.grid = grid;
@@ -19,14 +19,14 @@ export class Editor {
         return this.#field !== null;
     }
 
-    /** Begins in the chosen cell, with a text that is all selected where `isWhole`. */
-    open(text, isWhole) {
+    /** Begins in the chosen cell, behind a text. */
+    open(text) {
         const cell = this.grid.activeCell;
         if (this.isOpen || !cell) return;
-        this.#record = this.grid.active.record;
+        this.#cell = this.grid.active;
         this.#field = element("textarea", {
-            class: "editor", rows: 1, spellcheck: "false", autocomplete: "off", "aria-label": `Text of row ${this.#record + 1}`,
-            oninput: () => this.calls.onTyping(this.#record, this.#field.value),
+            class: "editor", rows: 1, spellcheck: "false", autocomplete: "off", "aria-label": `Text of row ${this.#cell.record + 1}`,
+            oninput: () => this.calls.onTyping(this.#cell, this.#field.value),
             onkeydown: (event) => this.#key(event),
             onblur: () => this.close(true, false),
         });
@@ -34,8 +34,7 @@ export class Editor {
         cell.append(this.#field);
         cell.classList.add("editing");
         this.#field.focus({ preventScroll: true });
-        if (isWhole) this.#field.select();
-        else this.#field.setSelectionRange(text.length, text.length);
+        this.#field.setSelectionRange(text.length, text.length);
     }
 
     /** Ends; what was typed stands if `isKept`. */
@@ -47,7 +46,7 @@ export class Editor {
         field.parentElement?.classList.remove("editing");
         field.remove();
         if (isFocused) this.grid.place.focus({ preventScroll: true });
-        this.calls.onDone(this.#record, isKept ? field.value : null, isEntered);
+        this.calls.onDone(this.#cell, isKept ? field.value : null, isEntered);
     }
 
     #key(event) {
@@ -57,7 +56,7 @@ export class Editor {
         if (key === "Enter" && altKey) {
             event.preventDefault();
             this.#field.setRangeText("\n", this.#field.selectionStart, this.#field.selectionEnd, "end");
-            this.calls.onTyping(this.#record, this.#field.value);
+            this.calls.onTyping(this.#cell, this.#field.value);
         } else if (key === "Enter" || key === "Tab") {
             event.preventDefault();
             this.close(true, true);
@@ -94,7 +93,7 @@ function stepOf({ key, ctrlKey, metaKey, shiftKey }, grid) {
 
 /**
  * Lets keys work on the sheet. `calls` has what they do: `type(text)` begins with a text, `edit()` goes on with what stands
- * there, `clear()`, `next(step)`, `take(which)`; `mayEdit()` says whether the chosen cell is one to fill.
+ * there, and `clear()`.
  */
 export function listen(grid, calls) {
     grid.place.addEventListener("keydown", (event) => {
@@ -103,10 +102,7 @@ export function listen(grid, calls) {
         const isPlain = !ctrlKey && !metaKey && !altKey;
         const step = altKey ? null : stepOf(event, grid);
         let isDone = true;
-        if (altKey && key === "ArrowDown") calls.next(1);
-        else if (altKey && key === "ArrowUp") calls.next(-1);
-        else if (altKey && (event.code === "Digit1" || event.code === "Digit2")) calls.take(event.code === "Digit1" ? 0 : 1);
-        else if ((key === "Enter" && isPlain && !event.shiftKey) || key === "F2") calls.edit();
+        if ((key === "Enter" && isPlain && !event.shiftKey) || key === "F2") calls.edit();
         else if (step) grid.move(...step);
         else if (key === "Delete" || (key === "Backspace" && isPlain)) calls.clear();
         else if (isPlain && [...key].length === 1) calls.type(key);

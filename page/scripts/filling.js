@@ -33,6 +33,8 @@ export class Filling {
         this.quick = new Client(module);
         this.reasons = new Client(module);
         this.filled = null;
+        this.bytes = null;
+        this.held = null;
     }
 
     get isBusy() {
@@ -57,6 +59,8 @@ export class Filling {
         const answer = await this.quick.ask("open", { word: name, more: [[name, bytes]] });
         if (answer.records.length === 0) return answer;
         this.filled = null;
+        this.bytes = bytes;
+        this.held = null;
         this.#turn++;
         // parts of the sheet come with their requests
         this.quick.holdOnly(name, new Uint8Array());
@@ -80,8 +84,16 @@ export class Filling {
         }
     }
 
+    /** Holds a sheet with its corrections; as it was opened, its file is held byte for byte. */
+    #holdSheet(sheet) {
+        if (sheet === (this.held ?? sheet.origin)) return;
+        this.held = sheet;
+        this.client.hold(fileWord(sheet.name), sheet === sheet.origin ? this.bytes : sheetBytes(sheet));
+    }
+
     async #fillAll(turn, sheet, choices) {
         const began = performance.now();
+        this.#holdSheet(sheet);
         const request = { words: shownWords(sheet, choices), column: choices.place(sheet), header: choices.header };
         const asked = this.client.ask("fill", request, "fill");
         this.calls.onBusy();
@@ -101,7 +113,7 @@ export class Filling {
         const records = [...new Set([...(choices.header ? [0] : []), ...given, ...inView])].sort((a, b) => a - b);
         const part = partOf(sheet, choices, records);
         const answer = await this.quick.ask("fill", partRequest(part), "view").catch(() => null);
-        if (answer === null || answer.status > 1 || turn !== this.#turn || this.filled?.sheet !== sheet || this.filled.turn >= turn) return;
+        if (answer === null || answer.status > 1 || turn !== this.#turn || this.filled?.sheet.origin !== sheet.origin || this.filled.turn >= turn) return;
         this.#viewTurn = turn;
         const { filled } = this;
         const texts = filled.texts.slice();
@@ -132,8 +144,11 @@ export class Filling {
     }
 }
 
+/** The bytes of a sheet's file. */
+export const sheetBytes = (sheet) => new TextEncoder().encode(textOf(sheet.records));
+
 /** The request that fills a part of a sheet. */
 function partRequest({ sheet, choices }) {
-    const more = [[fileWord(sheet.name), new TextEncoder().encode(textOf(sheet.records))]];
+    const more = [[fileWord(sheet.name), sheetBytes(sheet)]];
     return { words: shownWords(sheet, choices), column: choices.place(sheet), header: choices.header, more };
 }

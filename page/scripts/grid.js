@@ -38,8 +38,9 @@ export class Grid {
     layOut(sheet, choices) {
         const fills = choices.place(sheet);
         const layout = [sheet.width, fills, choices.sources, choices.header, choices.newName].join();
-        if (sheet === this.sheet && layout === this.layout) return;
+        const isSame = sheet.origin === this.sheet?.origin && layout === this.layout;
         this.sheet = sheet;
+        if (isSame) return;
         this.choices = choices;
         this.layout = layout;
         const count = Math.max(sheet.width, fills);
@@ -126,31 +127,47 @@ export class Grid {
         const measure = (weight) => {
             const pen = element("canvas").getContext("2d");
             pen.font = `${weight} ${style.fontSize} ${style.fontFamily}`;
-            return (text) => pen.measureText(text.slice(0, 60)).width;
+            return (text) => pen.measureText(text.slice(0, 150)).width;
         };
         const { sheet, columns } = this;
         const sample = sheet.records.slice(0, SAMPLE);
         const titleWidth = measure(600);
         this.widthOf = measure(400);
-        this.widths = columns.map(({ number, title, role }) => {
+        const wanted = columns.map(({ number, title, role }) => {
             const widest = sample.reduce((most, record) => Math.max(most, this.widthOf(record[number - 1] ?? "")), 0);
-            const wanted = Math.max(titleWidth(title), widest) + 20;
-            return Math.round(role === "fills" ? Math.min(MOST_WIDE, this.place.clientWidth * 0.48, Math.max(150, wanted + 44)) : Math.min(MOST_WIDE, Math.max(64, wanted)));
+            const width = Math.max(titleWidth(title), widest) + 20;
+            return Math.round(role === "fills" ? Math.max(150, width + 44) : Math.max(64, width));
+        });
+        this.widths = wanted.map((it, at) => Math.min(it, columns[at].role === "fills" ? this.#mostFilled : MOST_WIDE));
+        // room that is left over goes to the columns that are cut, but for what the filled one may come to need
+        const filled = columns.findIndex((it) => it.role === "fills");
+        let left = this.place.clientWidth - this.#numbersWidth - this.#mostFilled - this.widths.reduce((sum, it) => sum + it, -this.widths[filled]);
+        wanted.forEach((it, at) => {
+            const more = at === filled ? 0 : Math.max(0, Math.min(left, it - this.widths[at]));
+            this.widths[at] += more;
+            left -= more;
         });
         this.#applyWidths();
     }
 
+    /** How wide the filled column becomes at most. */
+    get #mostFilled() {
+        return Math.round(Math.max(150, Math.min(MOST_WIDE, this.place.clientWidth * 0.48)));
+    }
+
+    get #numbersWidth() {
+        return Math.round(this.widthOf(String(this.sheet.records.length))) + 24;
+    }
+
     #applyWidths() {
-        const numbers = Math.round(this.widthOf(String(this.sheet.records.length))) + 24;
-        this.place.style.setProperty("--columns", [numbers, ...this.widths].map((it) => `${it}px`).join(" ") + " minmax(0, 1fr)");
+        this.place.style.setProperty("--columns", [this.#numbersWidth, ...this.widths].map((it) => `${it}px`).join(" ") + " minmax(0, 1fr)");
     }
 
     /** Makes the filled column as wide as its texts need; it never becomes narrower, so that nothing jumps. */
     #widen() {
         const at = this.columns.findIndex((it) => it.role === "fills");
         const texts = this.filled?.isWhole ? this.filled.texts.slice(0, SAMPLE) : [];
-        const most = Math.max(150, Math.min(MOST_WIDE, this.place.clientWidth * 0.48));
-        const wanted = Math.round(Math.min(most, texts.reduce((most, text) => Math.max(most, this.widthOf(text)), 0) * 1.03 + 48));
+        const wanted = Math.round(Math.min(this.#mostFilled, texts.reduce((most, text) => Math.max(most, this.widthOf(text)), 0) * 1.03 + 48));
         if (wanted <= this.widths[at]) return;
         this.widths[at] = wanted;
         this.#applyWidths();
@@ -213,7 +230,7 @@ export class Grid {
 
     #newRow() {
         const cells = this.columns.map(({ number, role }) => {
-            const cell = element("div", { class: `cell ${role}`, role: "gridcell", "aria-colindex": number + 1, "data-column": number, "aria-readonly": role === "fills" ? null : "true" });
+            const cell = element("div", { class: `cell ${role}`, role: "gridcell", "aria-colindex": number + 1, "data-column": number });
             cell.append(element("span", { class: "text" }));
             if (role === "fills") cell.append(element("span", { class: "mark" }));
             return cell;
@@ -249,7 +266,13 @@ export class Grid {
             cell.classList.toggle("active", isActive);
             cell.setAttribute("aria-selected", String(isActive));
             if (this.columns[index].role === "fills") this.#fillAnswer(cell, record);
-            else setText(cell.firstChild, this.sheet.text(record, column));
+            else {
+                setText(cell.firstChild, this.sheet.text(record, column));
+                const isCorrected = this.choices.isCorrected(record, column);
+                cell.classList.toggle("corrected", isCorrected);
+                if (isCorrected) cell.title = `It was: ${this.sheet.origin.text(record, column)}`;
+                else cell.removeAttribute("title");
+            }
         }
     }
 

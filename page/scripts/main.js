@@ -1,15 +1,15 @@
 // The page: what is shown, and what happens when a person does something.
-import { isDoubtful, problemOf, suggest } from "./answers.js";
+import { GIVEN, isDoubtful, problemOf, suggest } from "./answers.js";
 import { FILTERS, listenToChoices, showChoices, showStates, withColumn } from "./bar.js";
 import { byId, say } from "./dom.js";
 import { Editor, listen } from "./editor.js";
 import { canRun } from "./engine.js";
 import { EXAMPLE } from "./example.js";
 import { askForCells, download, listenForFiles } from "./files.js";
-import { Filling } from "./filling.js";
+import { Filling, sheetBytes } from "./filling.js";
 import { Grid } from "./grid.js";
 import { History, Sheet, firstChoices } from "./model.js";
-import { showCell, showNothing, showOther, showResult, showRule } from "./panel.js";
+import { showCell, showNothing, showOther, showResult, showRule, showTyping } from "./panel.js";
 import { savedRule } from "./rule.js";
 import { TablesCard } from "./tables.js";
 import { fileWord, resultWords, shellLine } from "./words.js";
@@ -21,7 +21,7 @@ class Page {
             onProblem: (text) => this.showProblem(text),
             onBusy: () => this.showBusy(),
         });
-        this.sheet = null;
+        this.opened = null;
         this.history = null;
         this.filled = null;
         this.filter = null;
@@ -33,8 +33,8 @@ class Page {
             onEdit: () => this.edit(),
         });
         this.editor = new Editor(this.grid, {
-            onTyping: (record, text) => this.typing(record, text),
-            onDone: (record, text, isEntered) => this.typed(record, text, isEntered),
+            onTyping: (cell, text) => this.typing(cell, text),
+            onDone: (cell, text, isEntered) => this.typed(cell, text, isEntered),
         });
         this.tables = new TablesCard(this);
     }
@@ -43,9 +43,28 @@ class Page {
         return this.history.now;
     }
 
+    /** The sheet with the corrections of some choices. */
+    sheetOf({ corrected }) {
+        if (this.current?.corrected !== corrected || this.current.sheet.origin !== this.opened) {
+            this.current = { corrected, sheet: this.opened.with(corrected) };
+        }
+        return this.current.sheet;
+    }
+
+    /** The sheet as it is now. */
+    get sheet() {
+        return this.sheetOf(this.choices);
+    }
+
     /** The number of the filled column. */
     get place() {
         return this.choices.place(this.sheet);
+    }
+
+    /** What a column is called. */
+    titleOf(column) {
+        const { column: filled, newName, header } = this.choices;
+        return filled === null && column === this.place ? newName : this.sheet.title(column, header);
     }
 
     /** Opens a sheet, or says why it is none. `sources` are the columns that are read at first, where not the usual ones. */
@@ -58,8 +77,8 @@ class Page {
             return this.showProblem(error.message);
         }
         if (answer.records.length === 0) return this.showProblem(answer.status > 1 ? problemOf(answer) : `${name}: it has no rows`);
-        this.sheet = new Sheet(name, answer.records);
-        const choices = firstChoices(this.sheet);
+        this.opened = new Sheet(name, answer.records);
+        const choices = firstChoices(this.opened);
         this.history = new History(sources ? choices.with({ sources }) : choices);
         this.filled = null;
         this.filter = null;
@@ -72,7 +91,7 @@ class Page {
         await this.refresh();
         if (!this.filled?.isWhole) return;
         const doubtful = suggest(this.filled, this.choices.header, this.choices.header ? 0 : -1);
-        this.grid.choose(doubtful !== null && this.filled.counts[0] > 0 ? doubtful : first, this.place);
+        this.grid.choose(doubtful !== null && this.filled.counts[GIVEN] > 0 ? doubtful : first, this.place);
     }
 
     /** Takes up other choices, which can be undone. */
@@ -112,8 +131,15 @@ class Page {
         return this.changed();
     }
 
-    typing(record, text) {
-        this.preview = this.choices.typing(this.sheet, record, text === "" ? null : text);
+    /** The choices with a text in a cell: a given one in the filled column, where the empty text gives none, else a corrected one. */
+    withText({ record, column }, text) {
+        const { sheet, choices } = this;
+        if (column !== this.place) return choices.correcting(sheet, record, column, text);
+        return choices.typing(sheet, record, text === "" ? null : text);
+    }
+
+    typing(cell, text) {
+        this.preview = this.withText(cell, text);
         this.refresh();
     }
 
@@ -121,43 +147,60 @@ class Page {
      * Typing has ended. An empty text takes back what was given; null leaves all as it was. The text that stood there
      * already is no example, but where Enter was pressed on a guess.
      */
-    typed(record, text, isEntered) {
+    typed(cell, text, isEntered) {
         this.preview = null;
-        const isSame = text === this.startText && !(isEntered && this.wasDoubtful);
+        const isFilled = cell.column === this.place;
+        const isSame = text === this.startText && !(isFilled && isEntered && this.wasDoubtful);
         if (text === null || isSame) return this.refresh();
-        this.give(record, text === "" ? null : text);
+        if (isFilled) this.give(cell.record, text === "" ? null : text);
+        else this.correct(cell, text);
+    }
+
+    /** Another text stands in a cell of the sheet. */
+    correct({ record, column }, text) {
+        if (text === this.sheet.text(record, column)) return this.refresh();
+        this.history.push(this.choices.correcting(this.sheet, record, column, text));
+        return this.changed();
     }
 
     /** Edits the chosen cell, with the text that stands there. */
     edit() {
         if (!this.mayEdit()) return;
-        const { record } = this.grid.active;
+        const { record, column } = this.grid.active;
         const { isWhole, texts, states } = this.filled ?? {};
-        this.startText = isWhole ? texts[record] : (this.choices.given(this.sheet, record) ?? "");
-        this.wasDoubtful = isWhole && isDoubtful(states[record]);
-        this.editor.open(this.startText, false);
+        const isFilled = column === this.place;
+        const given = isFilled ? (this.choices.given(this.sheet, record) ?? "") : this.sheet.text(record, column);
+        this.startText = isFilled && isWhole ? texts[record] : given;
+        this.wasDoubtful = isFilled && isWhole && isDoubtful(states[record]);
+        this.beginTyping(this.startText);
     }
 
     /** Begins to type into the chosen cell. */
     type(text) {
         if (!this.mayEdit()) return;
-        const { record } = this.grid.active;
         this.startText = null;
-        this.editor.open(text, false);
-        this.typing(record, text);
+        this.wasDoubtful = false;
+        this.beginTyping(text);
+        this.typing(this.grid.active, text);
     }
 
+    /** Opens the text field in the chosen cell. */
+    beginTyping(text) {
+        const { record, column } = this.grid.active;
+        this.editor.open(text);
+        showTyping(this.titleOf(column), record);
+    }
+
+    /** Whether the chosen cell can be edited: it is shown. */
     mayEdit() {
-        if (!this.history || this.grid.placeOf(this.grid.active.record) < 0) return false;
-        if (this.grid.active.column === this.place) return true;
-        say("This column is read and stays as it is");
-        byId("cell").classList.remove("nudge");
-        requestAnimationFrame(() => byId("cell").classList.add("nudge"));
-        return false;
+        return this.history !== null && this.grid.placeOf(this.grid.active.record) >= 0;
     }
 
+    /** Takes back what is given in the chosen cell, and empties one that is read. */
     clear() {
-        if (this.mayEdit()) this.give(this.grid.active.record, null);
+        if (!this.mayEdit()) return;
+        if (this.grid.active.column === this.place) this.give(this.grid.active.record, null);
+        else this.correct(this.grid.active, "");
     }
 
     /** Takes one of the two answers of the chosen cell, or any text. */
@@ -183,8 +226,10 @@ class Page {
         byId("grid").focus({ preventScroll: true });
     }
 
-    /** Pastes: one column of cells goes into the filled column from the chosen cell on, and a whole sheet is opened. */
+    /** Pastes: one column of cells goes into the filled column from the chosen cell on, one text corrects a cell, and a whole sheet is opened. */
     paste(text) {
+        const isOneCell = !/[\t\r\n]/.test(text.trimEnd());
+        if (isOneCell && this.grid.active.column !== this.place) return this.correct(this.grid.active, text.trimEnd());
         if (text.includes("\t") || this.grid.active.column !== this.place) return askForCells(text, (name, bytes) => this.open(name, bytes));
         const lines = text.replace(/\r?\n$/, "").split(/\r?\n/);
         const at = this.grid.placeOf(this.grid.active.record);
@@ -234,7 +279,7 @@ class Page {
     /** Asks the engine by the choices as they are, or as they would be with what is being typed. */
     refresh() {
         const choices = this.preview ?? this.choices;
-        return this.filling.fill(this.sheet, choices, this.grid.inView, this.preview !== null);
+        return this.filling.fill(this.sheetOf(choices), choices, this.grid.inView, this.preview !== null);
     }
 
     /** Shows what was filled; not `isWhole` where the rows in view alone are up to date. */
@@ -246,7 +291,7 @@ class Page {
         if (!isWhole) return;
         showStates(filled, this.filter, (it) => this.setFilter(it));
         byId("next").disabled = !filled.isWhole || suggest(filled, header, 0) === null;
-        byId("time").textContent = filled.isWhole ? `filled in ${filled.took < 10 ? filled.took.toFixed(1) : Math.round(filled.took)} ms` : "";
+        byId("time").textContent = filled.isWhole && filled.counts[GIVEN] > 0 ? `filled in ${filled.took < 10 ? filled.took.toFixed(1) : Math.round(filled.took)} ms` : "";
         document.body.dataset.filled = String(Number(document.body.dataset.filled ?? 0) + 1);
         if (this.preview) return;
         this.showResult();
@@ -269,11 +314,12 @@ class Page {
 
     showResult() {
         const line = shellLine(resultWords(this.sheet, this.choices));
-        showResult(line, this.choices, this.filled, {
+        showResult(this.sheet.name, line, this.choices, this.filled, {
             choose: (changes) => this.choose(changes),
             download: () => this.download(),
             copy: (text) => this.copy(text),
             saveRule: () => this.saveRule(),
+            downloadSheet: () => download(this.sheet.name, sheetBytes(this.sheet)),
         });
     }
 
@@ -302,7 +348,7 @@ class Page {
         const { record, column } = this.grid.active;
         if (!this.filled?.isWhole || this.preview || this.editor.isOpen) return;
         const { sheet, choices, filled } = this;
-        if (column !== this.place) return showOther(sheet.title(column, choices.header), record, sheet.text(record, column), () => this.fillColumn(column));
+        if (column !== this.place) return this.drawOther(record, column);
         if (this.explained?.record !== record) this.explained = null;
         this.drawCell(record);
         if (this.explained || !isDoubtful(filled.states[record])) return;
@@ -316,15 +362,40 @@ class Page {
         }
     }
 
-    drawCell(record) {
+    drawOther(record, column) {
         const { sheet, choices } = this;
-        const title = choices.column === null ? choices.newName : sheet.title(choices.column, choices.header);
-        showCell(title, record, this.filled, this.explained?.answers ?? [], {
+        const was = choices.isCorrected(record, column) ? sheet.origin.text(record, column) : null;
+        const isRead = choices.sources.includes(column);
+        showOther(this.titleOf(column), record, { text: sheet.text(record, column), was, isRead }, {
+            edit: () => this.edit(),
+            fill: () => this.fillColumn(column),
+            restore: () => this.correct({ record, column }, was),
+        });
+    }
+
+    drawCell(record) {
+        showCell(this.titleOf(this.place), record, this.filled, this.explained?.answers ?? [], {
             take: (text) => this.take(text),
             edit: () => this.edit(),
             clear: () => this.give(record, null),
             keepEmpty: () => this.take(""),
         });
+    }
+
+    /** Keys that work wherever no text is typed and no dialog is open. */
+    pressed(event) {
+        const { key, code, altKey, shiftKey, target } = event;
+        const isCommand = event.ctrlKey || event.metaKey;
+        if (isCommand === altKey || target.closest("input:not([type=checkbox]), textarea, select, dialog")) return;
+        const letter = key.toLowerCase();
+        if (altKey && key === "ArrowDown") this.next(1);
+        else if (altKey && key === "ArrowUp") this.next(-1);
+        else if (altKey && code === "Digit1") this.takeAnswer(0);
+        else if (altKey && code === "Digit2") this.takeAnswer(1);
+        else if (isCommand && letter === "z" && !shiftKey) this.undo();
+        else if (isCommand && (letter === "y" || letter === "z")) this.redo();
+        else return;
+        event.preventDefault();
     }
 
     /** Lets buttons and keys of the whole page work. */
@@ -335,21 +406,12 @@ class Page {
             type: (text) => this.type(text),
             edit: () => this.edit(),
             clear: () => this.clear(),
-            next: (step) => this.next(step),
-            take: (which) => this.takeAnswer(which),
         });
         byId("undo").addEventListener("click", () => this.undo());
         byId("redo").addEventListener("click", () => this.redo());
         byId("next").addEventListener("click", () => this.next(1));
         byId("stop").addEventListener("click", () => this.filling.stop());
-        document.addEventListener("keydown", (event) => {
-            if (!(event.ctrlKey || event.metaKey) || event.altKey || event.target.matches("input, textarea")) return;
-            const key = event.key.toLowerCase();
-            if (key === "z" && !event.shiftKey) this.undo();
-            else if (key === "y" || (key === "z" && event.shiftKey)) this.redo();
-            else return;
-            event.preventDefault();
-        });
+        document.addEventListener("keydown", (event) => this.pressed(event));
         byId("grid").addEventListener("copy", (event) => {
             const { record, column } = this.grid.active;
             const text = column === this.place && this.filled?.isWhole ? this.filled.texts[record] : this.sheet.text(record, column);

@@ -1,16 +1,32 @@
 // What was opened and what a person chose: a sheet, which never changes, and choices, of which each edit makes new ones.
 
-/** A sheet as the engine reads it. Records are counted from 0, the header among them. */
+/** A sheet as the engine reads it. Records are counted from 0, the header among them. `origin` is the sheet as it was opened. */
 export class Sheet {
-    constructor(name, records) {
+    constructor(name, records, origin = null) {
         this.name = name;
         this.records = records;
+        this.origin = origin ?? this;
         this.width = records.reduce((most, record) => Math.max(most, record.length), 0);
     }
 
     /** The text of a cell; columns are counted from 1. */
     text(record, column) {
         return this.records[record]?.[column - 1] ?? "";
+    }
+
+    /** The sheet with other texts in some cells: texts by column, by record. */
+    with(corrected) {
+        if (corrected.size === 0) return this;
+        const records = this.records.slice();
+        for (const [record, texts] of corrected) {
+            const cells = records[record].slice();
+            for (const [column, text] of texts) {
+                while (cells.length < column) cells.push("");
+                cells[column - 1] = text;
+            }
+            records[record] = cells;
+        }
+        return new Sheet(this.name, records, this.origin);
     }
 
     /** What a column is called on the page. */
@@ -28,7 +44,8 @@ export function usualSources(sheet, column) {
 
 /**
  * What a person chose. `column` is the number of the column to fill, or null for a new one of the name `newName`.
- * `typed` are the texts that were typed, by record; `cleared` the records whose own text is to be forgotten.
+ * `typed` are the texts that were typed, by record; `cleared` the records whose own text is to be forgotten. `corrected` are
+ * texts that stand in the place of other cells, by column, by record.
  * `tables` are lookup tables with their keys, and `depth` says how deep lookups may stand in each other. `onlySure` leaves
  * guesses empty in the result, and `withStates` adds the column of states to it.
  */
@@ -68,6 +85,22 @@ export class Choices {
         if (text === null && own !== "") cleared.add(record);
         if (text !== null && (text !== own || own === "")) typed.set(record, text);
         return this.with({ typed, cleared });
+    }
+
+    /** The same choices with another text in a cell of the sheet; its own text takes the correction back. */
+    correcting(sheet, record, column, text) {
+        const corrected = new Map(this.corrected);
+        const texts = new Map(corrected.get(record));
+        if (text === sheet.origin.text(record, column)) texts.delete(column);
+        else texts.set(column, text);
+        if (texts.size > 0) corrected.set(record, texts);
+        else corrected.delete(record);
+        return this.with({ corrected });
+    }
+
+    /** Whether a cell of the sheet has another text than it was opened with. */
+    isCorrected(record, column) {
+        return this.corrected.get(record)?.has(column) ?? false;
     }
 
     /** All texts that are given, by record and from the top down. */
@@ -119,7 +152,7 @@ function columnToFill(sheet, header) {
 export function firstChoices(sheet) {
     const header = sheet.records.length > 1 && looksLikeHeader(sheet);
     const column = sheet.width > 1 ? columnToFill(sheet, header) : null;
-    const fields = { header, column, newName: "New column", typed: new Map(), cleared: new Set(), tables: [], depth: 1, onlySure: false, withStates: false };
+    const fields = { header, column, newName: "New column", typed: new Map(), cleared: new Set(), corrected: new Map(), tables: [], depth: 1, onlySure: false, withStates: false };
     return new Choices({ ...fields, sources: usualSources(sheet, column) });
 }
 

@@ -25,13 +25,18 @@ function answerButton(which, { text, words }, onTake) {
     return element("button", { type: "button", class: "answer", onclick: () => onTake(text) }, element("span", { class: "answer-text" }, shown(text)), keys, rule);
 }
 
-/** The card of a cell that is not in the filled column. */
-export function showOther(title, record, text, onFill) {
+/**
+ * The card of a cell that is not in the filled column: its text, `was` where it had another one, and whether it is read.
+ * `calls` has `edit()`, `restore()` and `fill()`.
+ */
+export function showOther(title, record, { text, was, isRead }, calls) {
+    const told = isRead ? "The column is filled from this one. Correct a cell, and the answer follows." : "This column is not read.";
+    const restore = was === null ? null : element("button", { type: "button", onclick: calls.restore }, "Take it back");
     byId("cell").replaceChildren(
-        element("h2", {}, `${title}, row ${record + 1}`),
-        element("p", { class: "cell-text" }, text === "" ? element("i", {}, "empty") : text),
-        element("p", {}, "This column is read and stays as it is."),
-        element("button", { type: "button", onclick: onFill }, `Fill “${title}” instead`),
+        element("h2", {}, `${title}, row ${record + 1}`, was === null ? null : element("span", { class: "badge given" }, "corrected")),
+        element("p", { class: "cell-text" }, shown(text)),
+        element("p", {}, was === null ? told : ["It was: ", shown(was)]),
+        element("p", { class: "row-of-buttons" }, element("button", { type: "button", onclick: calls.edit }, "Correct it"), restore, element("button", { type: "button", onclick: calls.fill }, `Fill “${title}” instead`)),
     );
 }
 
@@ -44,7 +49,8 @@ export function showCell(title, record, filled, answers, calls) {
     const refusal = filled.refusals.get(record);
     const text = filled.texts[record];
     const isBlank = filled.counts[GIVEN] === 0;
-    const parts = [element("h2", {}, `${title}, row ${record + 1}`, isBlank ? null : badge(state))];
+    const mark = refusal ? element("span", { class: "badge refused" }, "! not learned from") : badge(state);
+    const parts = [element("h2", {}, `${title}, row ${record + 1}`, isBlank ? null : mark)];
     if (isDoubtful(state) && answers.length === 2) {
         parts.push(element("p", {}, SENTENCES[state]));
         parts.push(element("div", { class: "answers" }, answers.map((it, which) => answerButton(which, it, calls.take))));
@@ -61,6 +67,14 @@ export function showCell(title, record, filled, answers, calls) {
     byId("cell").replaceChildren(...parts);
 }
 
+/** The card of a cell while one types into it. */
+export function showTyping(title, record) {
+    byId("cell").replaceChildren(
+        element("h2", {}, `${title}, row ${record + 1}`),
+        element("p", {}, "Enter keeps the text, Escape leaves the cell as it was. Alt+Enter begins a new line."),
+    );
+}
+
 /** The card where nothing is filled. */
 export function showNothing(text) {
     byId("cell").replaceChildren(element("p", {}, text));
@@ -68,8 +82,18 @@ export function showNothing(text) {
 
 const box = (text, checked, onchange) => element("label", { class: "check" }, element("input", { type: "checkbox", checked, onchange }), ` ${text}`);
 
-/** The card of the result. `calls` has `choose(changes)`, `download()` and `copy()`. */
-export function showResult(line, choices, filled, calls) {
+/** Tells that a line reads the sheet with its corrections, and hands that out. */
+function correctedNote(name, { corrected }, onDownload) {
+    const count = [...corrected.values()].reduce((sum, texts) => sum + texts.size, 0);
+    if (count === 0) return [];
+    return [
+        element("p", {}, `You corrected ${count === 1 ? "a cell" : `${count} cells`} of the sheet: save it as ${name} for the line below.`),
+        element("p", { class: "row-of-buttons" }, element("button", { type: "button", onclick: onDownload }, "Download the corrected sheet")),
+    ];
+}
+
+/** The card of the result of a sheet of this name. `calls` has `choose(changes)`, `download()`, `copy()`, `saveRule()` and `downloadSheet()`. */
+export function showResult(name, line, choices, filled, calls) {
     const { notes, isWhole, rule } = filled;
     const code = element("code", { tabindex: 0, "aria-label": "The command" }, line);
     byId("result").replaceChildren(
@@ -79,6 +103,7 @@ export function showResult(line, choices, filled, calls) {
         box("with a column of states", choices.withStates, (event) => calls.choose({ withStates: event.target.checked })),
         element("p", { class: "row-of-buttons" }, element("button", { type: "button", class: "main", disabled: !isWhole, onclick: calls.download }, "Download CSV")),
         ...(rule.length > 0 ? [element("h2", {}, "The rule"), element("ul", { class: "rule-lines" }, rule.map((it) => element("li", {}, it)))] : []),
+        ...correctedNote(name, choices, calls.downloadSheet),
         element("p", {}, "The proved program writes the same bytes from this line:"),
         element("pre", {}, code),
         element("p", { class: "row-of-buttons" }, element("button", { type: "button", onclick: () => calls.copy(line) }, "Copy this line"), element("button", { type: "button", disabled: !isWhole || filled.counts[GIVEN] === 0, onclick: calls.saveRule }, "Save the rule")),
@@ -86,12 +111,13 @@ export function showResult(line, choices, filled, calls) {
 }
 
 /** Shows below the result how the rule that was saved is run, or why none was. `calls` has `copy(text)`. */
-export function showRule({ problem, name, line }, calls) {
+export function showRule({ problem, name, tables, line }, calls) {
     byId("rule")?.remove();
+    const beside = problem || tables.length === 0 ? "" : `, beside ${tables.join(" and ")}`;
     const parts = problem
         ? [element("p", {}, problem)]
         : [
-              element("p", {}, `${name} fills other sheets with these columns, of any length:`),
+              element("p", {}, `${name} fills other sheets with these columns, of any length${beside}:`),
               element("pre", {}, element("code", { tabindex: 0, "aria-label": "The command for another sheet" }, line)),
               element("p", { class: "row-of-buttons" }, element("button", { type: "button", onclick: () => calls.copy(line) }, "Copy this line")),
           ];

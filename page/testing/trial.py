@@ -98,11 +98,11 @@ class Trial:
             [Number(it.parentElement.dataset.record) + 1, it.querySelector('.text').textContent, it.className.replace('cell fills', '').replace('active', '').trim()]);""")
         return {row: (text, state) for row, text, state in found}
 
-    def downloaded(self):
-        """The bytes of the file that the button offers."""
+    def downloaded(self, button="Download CSV"):
+        """The bytes of the file that a button offers."""
         for old in self.browser.downloads.glob("*"):
             old.unlink()
-        self.browser.run("document.querySelector('#result button.main').click();")
+        self.press_result(button)
         end = time.monotonic() + 60
         while time.monotonic() < end:
             done = [it for it in self.browser.downloads.glob("*") if not it.name.endswith(".crdownload") and not it.name.startswith(".")]
@@ -110,6 +110,10 @@ class Trial:
                 return done[0].read_bytes()
             time.sleep(0.05)
         raise RuntimeError("nothing was downloaded")
+
+    def press_result(self, button):
+        """Presses the button of the result that is called so."""
+        self.browser.run("[...document.querySelectorAll('#result button')].find((it) => it.textContent === args[0]).click();", button)
 
     def line(self):
         return self.browser.run("return document.querySelector('#result code').textContent;")
