@@ -2,7 +2,7 @@
 ghost use Rattle.std.specs.Prelude.{◌≡◌, ◌≢◌, ◌<◌, ◌≤◌, length, IfOk, IfErr, OnErr, IsErrOf, Some};
 ghost use Rattle.std.specs.IoError.{error_kind};
 ghost use Rattle.std.specs.Io.Cursor.{cursor_inner};
-ghost use Rattle.fill_edge.specs.Outside.{counted, IsPieceOf};
+ghost use Rattle.fill_edge.specs.Outside.{IsPieceOf};
 ghost use Rattle.fill_edge.specs.Real.{counts_after, IsPlaced, GivesFrom};
 
 use crate::interruption::is_interrupted;

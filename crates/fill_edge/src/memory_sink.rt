@@ -1,5 +1,5 @@
 //! Output in memory, which tells everything.
-ghost use Rattle.std.specs.Prelude.{◌≡◌, ◌∷◌, ◌++◌, ◌↔◌, ◌⊎◌, ◌<◌, ◌≤◌, [], length, take, Contains, IsErr, IfOk, OnOk, OnErr};
+ghost use Rattle.std.specs.Prelude.{◌≡◌, ◌∷◌, ◌++◌, ◌↔◌, ◌⊎◌, ◌<◌, ◌≤◌, [], length, Contains, IsErr, IfOk, OnOk, OnErr};
 ghost use Rattle.fill_edge.specs.Outside.{counted};
 ghost use Rattle.fill_edge.specs.Memory.{room_for, after_write};
 

@@ -1,5 +1,5 @@
 //! Reading a whole file.
-ghost use Rattle.std.specs.Prelude.{◌≡◌, ◌<◌, ◌≤◌, ℕ, length, take, OnOk, ◌++◌, IfOk, IfErr, IsErrOf, replicate};
+ghost use Rattle.std.specs.Prelude.{◌≡◌, ◌<◌, ◌≤◌, ℕ, length, IfOk, IsErrOf, replicate};
 ghost use Rattle.fill_edge.specs.Outside.{Rose, RoseBeyond, counted, NoneFell, NoneChanged, IsFile, IsMissing, IsTooLong};
 ghost use Rattle.fill_edge.specs.Reading.{read_error};
 ghost use Rattle.fill_edge.specs.declared.reading.ReadError.TheVariants as error;
@@ -22,7 +22,7 @@ pub enum ReadError {
     /// The file has more than `limit` bytes.
     #[error("the file has more than {limit} bytes")]
     TooLong { limit: usize },
-    /// Want of memory.
+    /// Out of memory.
     #[error("out of memory")]
     NoMemory,
 }
@@ -52,7 +52,7 @@ const CHUNK: usize = 65_536;
 
 /// The whole file, of at most `limit` bytes. No more than that is kept of a longer one.
 ///
-/// After want of memory the cabinet has given what was read so far.
+/// After memory ran out the cabinet has given what was read so far.
 pub fn read_all<C: Cabinet>(
     alloc: Global,
     cabinet: &mut C,

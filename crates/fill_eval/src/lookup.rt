@@ -1,5 +1,5 @@
 //! Cells, and the rows that lookups find, by numbers that may be out of range.
-ghost use Rattle.std.specs.Prelude.{◌≡◌, ◌≤◌, ◌↔◌, ℕ, IsTrue, true, false, Contains, MatchOption, None, length, map, option_copied};
+ghost use Rattle.std.specs.Prelude.{◌≡◌, ◌≤◌, ℕ, true, false, MatchOption, None, length, map, option_copied};
 ghost use Rattle.fill_text.specs.Data.{cell_at, key_at, table_cell_at};
 ghost use Rattle.fill_tables.specs.Keys.{IsKeyedRow, KeysDistinguish};
 ghost use Rattle.fill_tables.specs.Tables.{AreTables, key_count};

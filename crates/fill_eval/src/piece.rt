@@ -1,5 +1,5 @@
 //! Pieces of texts.
-ghost use Rattle.std.specs.Prelude.{◌≡◌, ◌<◌, ◌≢◌, [], IfOk, IfSome, option_map};
+ghost use Rattle.std.specs.Prelude.{◌≡◌, ◌<◌, IfOk, IfSome, option_map};
 ghost use Rattle.fill_tree.specs.Value.{IsFilled, IsPieceBetween, IsValue};
 ghost use Rattle.fill_eval.specs.Piece.{IsWithin, piece_text};
 

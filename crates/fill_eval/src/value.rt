@@ -3,7 +3,7 @@
 //! The text of a source is lent by the sheet or the tables, and that of an atom is a piece of it or of the tree's
 //! constant: only an answer is copied. So the time is linear in the tree and in the texts that its places are found in;
 //! a lookup halves the rows of its table.
-ghost use Rattle.std.specs.Prelude.{◌≡◌, ◌≤◌, ◌<◌, ℕ, List, Some, IfOk, IfSome, IfNone, length, map, option_copied, option_map};
+ghost use Rattle.std.specs.Prelude.{◌≤◌, ◌<◌, ℕ, List, Some, IfOk, IfSome, IfNone, length, map, option_copied, option_map};
 ghost use Rattle.fill_tree.specs.Tree.{atoms_of};
 ghost use Rattle.fill_tree.specs.Meaning.{atom_tree, program_tree, select_tree, source_tree};
 ghost use Rattle.fill_tree.specs.Value.{AtomIs, ConditionIs, ConditionsAre, IsValue, ProgramIs, SourceIs};

@@ -3,12 +3,12 @@
 //!
 //! Where two literals hold on the same rows outside, the earlier one in place of the later one makes an earlier guard that
 //! tells the rows apart as well. And from the first literal on that holds on no row outside no other one is needed.
-ghost use Rattle.std.specs.Prelude.{◌≡◌, ℕ, ◌<◌, ◌≤◌, ◌+◌, ◌++◌, ◌∷◌, [], length, All, Contains, IfOk, OnOk, IsTrue, ◌↔◌};
+ghost use Rattle.std.specs.Prelude.{◌≡◌, ◌<◌, ◌≤◌, ◌+◌, ◌++◌, ◌∷◌, [], length, All, Contains, IfOk, OnOk, IsTrue, ◌↔◌};
 ghost use Rattle.fill_tokens.specs.Place.{seq_cmp};
 ghost use Rattle.fill_text.specs.Lists.{Lists};
 ghost use Rattle.fill_tree.specs.Separate.{IsTested};
 ghost use Rattle.fill_guard.specs.Read.{IsRowOf};
-ghost use Rattle.fill_guard.specs.Kept.{KeepsCounted, KeepsRead, Keeps, OnlyLiteral, OfLeast, OfSigns, OfSeqs, OfColumn};
+ghost use Rattle.fill_guard.specs.Kept.{KeepsCounted, KeepsRead, Keeps, OnlyLiteral, OfLeast, OfSigns, OfColumn};
 ghost use Rattle.fill_guard.specs.Least.{AreKept};
 ghost use Rattle.fill_guard.specs.declared.kept.Kept.{Kept};
 

@@ -1,5 +1,5 @@
 //! The least guard of the literals that are kept.
-ghost use Rattle.std.specs.Prelude.{◌≡◌, ◌≢◌, ℕ, List, ◌≤◌, ◌<◌, ◌+◌, [], length, All, IfOk, MatchOption, IsTrue, ◌↔◌};
+ghost use Rattle.std.specs.Prelude.{ℕ, List, ◌≤◌, ◌<◌, ◌+◌, length, All, IfOk, MatchOption, IsTrue, ◌↔◌};
 ghost use Rattle.fill_text.specs.Data.{SheetData};
 ghost use Rattle.fill_tree.specs.Grammar.{AreSettings};
 ghost use Rattle.fill_tree.specs.Separate.{Separates, IsLeastGuard};

@@ -1,5 +1,5 @@
 //! The cells of a column on some rows, and the counts of matches in them.
-ghost use Rattle.std.specs.Prelude.{◌≡◌, ◌≤◌, ◌<◌, length, All, Contains, IfOk};
+ghost use Rattle.std.specs.Prelude.{◌≤◌, ◌<◌, length, All, Contains, IfOk};
 ghost use Rattle.std.specs.List.{AllZip};
 ghost use Rattle.fill_guard.specs.Matches.{IsMatchCount};
 ghost use Rattle.fill_guard.specs.Read.{AreCells, IsRowOf};

@@ -1,5 +1,5 @@
 //! Sequences of tokens and the positions that they reach.
-ghost use Rattle.std.specs.Prelude.{◌≡◌, ℕ, ◌≤◌, ◌<◌, ◌+◌, ◌++◌, ◌∷◌, [], ◌^◌, ◌↔◌, length, slice_get, IfOk, OnOk, IsTrue, true, ◌⊎◌, slice_set, All};
+ghost use Rattle.std.specs.Prelude.{◌≡◌, ℕ, ◌≤◌, ◌<◌, ◌+◌, ◌++◌, ◌∷◌, [], ◌^◌, ◌↔◌, length, slice_get, IfOk, OnOk, IsTrue, true, ◌⊎◌};
 ghost use Rattle.fill_places.specs.Marks.{AreMarks, AreMarked, AreAll, AreWithin, AnyMarked, Reached};
 
 use crate::marks::Marks;

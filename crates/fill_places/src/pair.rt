@@ -1,6 +1,5 @@
 //! The places of one position between two sequences, and its fixed places.
-ghost use Rattle.std.specs.Prelude.{◌≡◌, ◌↔◌, ℕ, ◌≤◌, ◌<◌, ◌+◌, ◌-◌, ◌^◌, ℤ, pos, negsuc, length, slice_get, Some, true, OnOk, IsTrue, FitsSigned};
-ghost use Rattle.std.specs.Int.{w32};
+ghost use Rattle.std.specs.Prelude.{◌≡◌, ◌≤◌, ◌<◌, ◌+◌, ◌-◌, ◌^◌, pos, negsuc, length, slice_get, Some, true, OnOk};
 ghost use Rattle.fill_tokens.specs.Value.{IsCount};
 ghost use Rattle.fill_tokens.specs.Place.{place_cmp};
 ghost use Rattle.fill_tokens.specs.declared.place.Place.{Place};

@@ -1,5 +1,5 @@
 //! The sequences that begin somewhere in a text.
-ghost use Rattle.std.specs.Prelude.{◌≡◌, ◌≢◌, ℕ, ◌<◌, ◌≤◌, ◌+◌, ◌++◌, ◌∷◌, [], ◌↔◌, length, IfOk, OnOk, IsTrue};
+ghost use Rattle.std.specs.Prelude.{◌≡◌, ◌<◌, ◌+◌, ◌∷◌, ◌↔◌, length, IfOk, OnOk, IsTrue};
 ghost use Rattle.fill_tokens.specs.TokenSet.{IsTokenOf};
 ghost use Rattle.fill_tokens.specs.declared.token.Token.TheVariants.{Start, End};
 ghost use Rattle.fill_places.specs.Marks.{AreMarks};

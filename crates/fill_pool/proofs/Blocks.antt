@@ -3,7 +3,7 @@
 --     next_out, next_in      the first place behind the items is taken out, and an item is put there
 --     fewer                  the places of items that are let go are room
 --     part_seen              a part of the items that are lent
-use mathlib.Core.Path.{◌≡◌, refl, sym, subst, ◌∙◌}
+use mathlib.Core.Path.{◌≡◌, refl, subst}
 use Prim.Native.Nat.{ℕ, zero, suc, ◌+◌, ◌-◌, ◌*◌, ◌≤◌}
 use native.Mathlib.Omega.{arith}
 use native.Mathlib.Nat.{zero-mul, suc-mul}
@@ -11,13 +11,13 @@ use mathlib.Core.List.{List, [], ◌∷◌, ◌++◌}
 use lib.ListN.{length, take, drop}
 use seplogic.Ra.Ura.{Ura}
 use base.Fraction.{full_share}
-use mir.Syntax.{Ty, ty_array}
+use mir.Syntax.{ty_array}
 use mir.Raw.{raw as bare}
 use mir.Val.{Val, vstruct, vcons, vnil, of_list}
-use base.Logic.{SProp, ent, sep, emp, via, snd∗, id⊢, mono_r}
+use base.Logic.{ent, sep, emp, via, snd∗, id⊢, mono_r}
 use base.Fml.{Fml, Lft, fsep, fat, froom}
 use types.Logic.{Logic, sem}
-use types.Kit.{Item, Goal, Seq, Step, step, ‵, some, ◌⊛◌, ◌$◌, ◌∵◌, !, qed, by, move, keep, drop as skip, use0, use1, use2, pick, split, frame, fsplit, fjoin, fpick, fpack, feq_i, feq_l, rewrite, done}
+use types.Kit.{Item, Goal, Seq, Step, step, ‵, some, ◌⊛◌, ◌$◌, ◌∵◌, !, qed, by, move, keep, drop as skip, use1, use2, pick, split, fsplit, fjoin, fpick, fpack, feq_i, feq_l, rewrite, done}
 use denote.RattleType.{RattleType, Valss}
 use denote.Laws.{Is, shows}
 use denote.Memory.{part_at, shared_of}
@@ -29,12 +29,12 @@ use denote.Struct.Struct.{Shape, Struct, within}
 use denote.Struct.Owning.{shape}
 use denote.Struct.Declared as Declared
 use denote.Struct.Tuple.{Tuple, tuple_type}
-use borrow.Table.OneValue.{part_in, part_out}
+use borrow.Table.OneValue.{part_out}
 use Rattle.std.specs.Mem.{type_size}
 use Rattle.core.proofs.mem.Param.{El, R, el_x, elτ, lawful, one}
 use Rattle.std_alloc.proofs.RawLayout.{as_raw, as_written}
 use Rattle.std_alloc.proofs.RcSteps.{Good, word}
-use Rattle.fill_pool.specs.Ownership.{rooms, laid}
+use Rattle.fill_pool.specs.Ownership.{laid}
 use Rattle.fill_pool.specs.contracts.block.Store as store
 use Rattle.fill_pool.specs.contracts.block.Start as start
 

@@ -1,7 +1,6 @@
 -- The slices that are there stay what they are as items are put behind them, and as what came after them is cut away.
-use Rattle.std.proofs.Common.{◌≡◌, ◌≢◌, ℕ, ◌+◌, ◌-◌, ◌<◌, ◌≤◌, ◌⊎◌, inl, inr, List, [], ◌∷◌, ◌++◌, map, length, take, drop, set, get_or, refl, sym, ap, ◌∙◌, subst, arith}
-use Rattle.std.specs.Prelude.{slice_range, fold, All}
-use Rattle.std.specs.List.{AllPairs}
+use Rattle.std.proofs.Common.{◌≡◌, ℕ, ◌+◌, ◌-◌, ◌<◌, ◌≤◌, inl, inr, List, [], ◌∷◌, ◌++◌, map, length, take, drop, set, get_or, refl, sym, ap, ◌∙◌, subst, arith}
+use Rattle.std.specs.Prelude.{slice_range, All}
 use Rattle.std.proofs.lemmas.Bool.{cases_eq}
 use Rattle.std.proofs.lemmas.List.{length-map, length-take, length-append, length-set, get_or-take, get_or-set_same, get_or-set_other, take-append-le, take-take, take_all, drop_at, take-map, map-append, map-set, get_or-map, get_or_read, take_more}
 use Rattle.std.proofs.lemmas.List.Elements.{All-head, All-tail, All-push, All-take}

@@ -1,5 +1,4 @@
 //! Slices that are put in, read and cut away.
-ghost use Rattle.std.specs.Prelude.{◌≤◌};
 
 use crate::*;
 use fill_text::NoMemory;

@@ -3,7 +3,7 @@
 //!
 //! A round looks for the cells of the rows that are not reached yet in the texts that the round before made known, so
 //! no row is looked for in a text twice; where it made none known, no row is reached any more.
-ghost use Rattle.std.specs.Prelude.{◌≡◌, ◌≤◌, All, Contains, IfOk, length, map};
+ghost use Rattle.std.specs.Prelude.{◌≤◌, All, Contains, IfOk, length, map};
 ghost use Rattle.fill_tables.specs.Tables.{AreTables};
 ghost use Rattle.fill_text.specs.Lists.{Lists};
 ghost use Rattle.fill_reach.specs.Marks.{AreMarkedAs, IsMarkedAs};

@@ -82,7 +82,7 @@ fn push_row<'a>(
     Ok(())
 }
 
-/// Puts a text to the texts. One that is so long that no place can name its end is refused like one for want of memory.
+/// Puts a text to the texts. One that is so long that no place can name its end is refused like one where memory runs out.
 fn push_text<'a>(texts: &mut Vec<&'a [char]>, text: &'a Text) -> Result<(), NoMemory>
     ensures { OnOk result (Gains (map (λ text. text.now) texts.old.items) (map (λ text. text.now) texts.new.items) (λ v. v ≡ text.now)) }
 {

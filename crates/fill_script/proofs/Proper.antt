@@ -1,6 +1,6 @@
 -- What is true of each script.
 use Rattle.std.proofs.Common.{◌≡◌, ◌≢◌, ℕ, zero, suc, ◌+◌, ◌<◌, ◌≤◌, ◌⊎◌, ◌==◌, ◌||◌, not, inl, inr, List, [], ◌∷◌, length, get_or, take, drop, Bool, true, false, All, Contains, Option, None, Some, Ok, Err, Result, refl, sym, ap, subst, ◌∙◌, arith}
-use Rattle.std.specs.Prelude.{unwrap_or, if◌then◌else◌, nat_le, nat_lt, cond, position, ⊤}
+use Rattle.std.specs.Prelude.{unwrap_or, if◌then◌else◌, nat_le, nat_lt, position, ⊤}
 use Rattle.std.specs.List.{list_any}
 use Rattle.std.specs.Option.{ForSome, is_some}
 use Rattle.std.specs.Result.{IfOk}

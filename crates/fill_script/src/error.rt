@@ -29,7 +29,7 @@ pub enum ScriptError {
     /// No line is `begin`.
     #[error("no begin")]
     MissingBegin,
-    /// Want of memory.
+    /// Out of memory.
     #[error("out of memory")]
     NoMemory,
 }

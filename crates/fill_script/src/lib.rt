@@ -11,5 +11,6 @@ mod script;
 mod statement;
 
 pub use error::ScriptError;
+pub use line::columns_in;
 pub use number::number_in;
 pub use script::{Entry, Script, TableLine};

@@ -105,7 +105,7 @@ fn is_between(n: usize, low: usize, high: usize) -> bool
 }
 
 /// The distinct columns up to `high` that the fields from a place on spell, at least one and at most `most`.
-pub(crate) fn columns_in(
+pub fn columns_in(
     alloc: Global,
     line: &Record,
     first: usize,

@@ -30,7 +30,7 @@ outcome_is_one g examples e (Some r) (Some s) (inl h) (inr k) = absurd (none-som
 outcome_is_one g examples e (Some r) (Some s) (inr h) (inl k) = absurd (none-some s (sym h.0 ∙ k))
 outcome_is_one g examples e (Some r) (Some s) (inr h) (inr k) = fate_is_one g (changed examples e) (Some r) (Some s) h.1 k.1
 
--- an edit's answer that is no want of memory
+-- an edit's answer that is not out of memory
 abbrev IsTold : Result ⊤ EditError → Type 0
 IsTold a = a ≢ Err error.NoMemory
 

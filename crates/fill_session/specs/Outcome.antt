@@ -76,7 +76,7 @@ term_of None examples Clear = 0
 abbrev pub term : SheetData → List Example → Edit → ℕ
 term sheet examples edit = term_of (first_reason sheet examples edit) (changed examples edit) edit
 
--- an edit's answer and the examples that it leaves: after a refusal those of before. Want of memory is free
+-- an edit's answer and the examples that it leaves: after a refusal those of before. Out of memory is free
 abbrev pub Answers : Ground → List Example → Edit → Result ⊤ EditError → List Example → Type 0
 Answers g examples edit (Ok done) after = OutcomeIs g examples edit None × (after ≡ changed examples edit)
 Answers g examples edit (Err reason) after = (reason ≢ error.NoMemory → OutcomeIs g examples edit (Some reason)) × (after ≡ examples)

@@ -1,5 +1,5 @@
 //! The branches that folds stand for.
-ghost use Rattle.std.specs.Prelude.{◌≡◌, ◌≢◌, ℕ, ◌≤◌, ◌++◌, ◌∷◌, List as Listed, length, Some, IfOk, IfErr, OnOk, All};
+ghost use Rattle.std.specs.Prelude.{◌≡◌, ◌≢◌, ◌≤◌, ◌++◌, List as Listed, length, Some, IfOk, IfErr, OnOk, All};
 ghost use Rattle.fill_split.specs.Standing.{rule_of};
 ghost use Rattle.fill_guard.specs.Read.{IsRowOf};
 ghost use Rattle.fill_tree.specs.declared.user.Example.{Example};

@@ -65,7 +65,7 @@ fn renew_states(history: &mut History<Present>, spaces: &[Space])
     }
 }
 
-/// Forgets all spaces but those of what is present and of the history. Want of memory leaves all as it was.
+/// Forgets all spaces but those of what is present and of the history. Out of memory leaves all as it was.
 pub(crate) fn compact(
     alloc: Global,
     spaces: &mut Spaces,

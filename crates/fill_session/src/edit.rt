@@ -45,7 +45,7 @@ pub(crate) fn present_after<L: Ledger>(
     }
 }
 
-/// The same where the edit is this change.
+/// The examples after this change, with their branches.
 fn changed_present<L: Ledger>(
     alloc: Global,
     spaces: &mut Spaces,

@@ -1,5 +1,5 @@
 //! Examples in the order of their rows, and what an edit makes of them.
-ghost use Rattle.std.specs.Prelude.{◌≡◌, ℕ, ◌+◌, ◌*◌, ◌≤◌, ◌++◌, length, drop, nat_lt, nat_le, Some, None, Ok, IfOk, OnOk, MatchOption, IfSome};
+ghost use Rattle.std.specs.Prelude.{◌≡◌, ◌+◌, ◌*◌, ◌≤◌, ◌++◌, length, drop, nat_lt, nat_le, Some, None, Ok, IfOk, OnOk, MatchOption, IfSome};
 ghost use Rattle.std.specs.List.{prefix_len};
 ghost use Rattle.fill_split.specs.Changes.{changed as changed_at, IsPlace, IsAllowed};
 ghost use Rattle.fill_text.specs.Data.{SheetData};

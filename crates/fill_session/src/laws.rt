@@ -36,7 +36,7 @@ pub fn examples_are_reproduced()
         KeysDistinguish g.tables → Contains examples e → AnswerIs g examples e.row a → IsGivenAs e a }
 {}
 
-/// After any moves, refused edits and such as met want of memory among them, the examples are accepted ones, and so are those
+/// After any sequence of moves, even refused or out-of-memory ones, the examples are accepted ones, and so are those
 /// of each state that undo and redo come to.
 pub fn accepted_stay_accepted()
     ensures present { (g : Ground) (moves : List Move) (replies : List Reply) (n : ℕ) (t : Timeline) →

@@ -23,7 +23,7 @@ pub enum Reply {
     Edited(Result<(), EditError>),
     /// What the edit did that was undone, if there was one.
     Undone(Option<Done>),
-    /// The same of the edit that was done again.
+    /// What the edit did that was done again, if there was one.
     Redone(Option<Done>),
     Forgotten,
 }

@@ -1,5 +1,5 @@
 //! The reasons to refuse an edit that are seen without a look at programs.
-ghost use Rattle.std.specs.Prelude.{◌≡◌, ◌↔◌, ◌≤◌, length, IsTrue};
+ghost use Rattle.std.specs.Prelude.{◌≡◌, length, IsTrue};
 ghost use Rattle.fill_session.specs.Outcome.{first_reason, is_row, has_example, inputs_length, length_reason, count_reason};
 ghost use Rattle.fill_tree.specs.declared.user.Edit.TheVariants.{Add, Correct, Retract};
 
@@ -29,7 +29,7 @@ pub(crate) fn first_reason(sheet: &Sheet, examples: &[Example], edit: &Edit) -> 
     }
 }
 
-/// The same of an example for a row that has none.
+/// Why an example for a row is refused without a look at programs.
 fn reason_to_add(sheet: &Sheet, examples: &[Example], row: u32, text: &Text) -> Option<EditError>
     ensures { result ≡ first_reason sheet.now examples.now (Add row text.now) }
 {
@@ -45,7 +45,7 @@ fn reason_to_add(sheet: &Sheet, examples: &[Example], row: u32, text: &Text) -> 
     reason_of_count(examples)
 }
 
-/// The same of another text for a row that has an example.
+/// Why another text for a row's example is refused without a look at programs.
 fn reason_to_correct(
     sheet: &Sheet,
     examples: &[Example],
@@ -63,7 +63,7 @@ fn reason_to_correct(
     reason_of_length(sheet, row, text)
 }
 
-/// The same of taking a row's example away.
+/// Why a row's example is not taken away.
 fn reason_to_retract(sheet: &Sheet, examples: &[Example], row: u32) -> Option<EditError>
     ensures { result ≡ first_reason sheet.now examples.now (Retract row) }
 {

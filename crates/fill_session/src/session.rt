@@ -1,5 +1,5 @@
 //! Sessions.
-ghost use Rattle.std.specs.Prelude.{◌≡◌, ◌≢◌, ◌↔◌, ◌+◌, ◌≤◌, ⊤, List as Listed, length, map, [], None, Some, Ok, Err, Result, IfOk, OnErr, IsTrue, All, option_map};
+ghost use Rattle.std.specs.Prelude.{◌≡◌, ◌≢◌, ◌↔◌, ◌+◌, ◌≤◌, List as Listed, length, map, [], None, Some, Ok, Err, Result, IfOk, OnErr, IsTrue, All, option_map};
 ghost use Rattle.fill_tree.specs.Grammar.{AreSettings};
 ghost use Rattle.fill_tree.specs.Meaning.{program_tree};
 ghost use Rattle.fill_tree.specs.Switch.{switch_tree};

@@ -1,5 +1,5 @@
 //! The characters that stand for blocks of letters and of digits.
-ghost use Rattle.std.specs.Prelude.{◌≡◌, ◌<◌, ◌+◌, length, false, slice_index, IfSome, IfOk, IsTrue};
+ghost use Rattle.std.specs.Prelude.{◌≡◌, ◌<◌, length, false, slice_index, IfSome, IfOk, IsTrue};
 ghost use Rattle.fill_text.specs.Classes.{class_of};
 ghost use Rattle.fill_spans.specs.Read.{AreClasses};
 ghost use Rattle.fill_shapes.specs.Stretched.{is_sign};

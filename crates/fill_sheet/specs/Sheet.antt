@@ -54,6 +54,10 @@ pub record IsSheet (sheet : SheetData) : Type 0 where
   pub full : All (λ row. length row.cells ≡ length sheet.inputs) sheet.rows
   pub limited : length sheet.rows ≤ 20000
 
+-- the sheet whose one row has these cells in the input columns, and no given text
+abbrev pub row_sheet : List ℕ → List (List ℕ) → SheetData
+row_sheet inputs cells = record { inputs = inputs; rows = record { cells = cells; given = None } ∷ [] }
+
 -- the text that a row's output cell gives
 abbrev pub given_at : SheetData → ℕ → Option (List ℕ)
 given_at sheet row = option_and_then (λ r. r.given) (nth sheet.rows row)

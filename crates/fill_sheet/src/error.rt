@@ -14,7 +14,7 @@ pub enum SheetError {
     /// A field that is read is not UTF-8, in the record of this number and this column, both from 1.
     #[error("the field in column {column} of record {number} is not UTF-8")]
     NotUtf8 { number: u32, column: u32 },
-    /// Want of memory.
+    /// Out of memory.
     #[error("out of memory")]
     NoMemory,
 }

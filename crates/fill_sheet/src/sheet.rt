@@ -1,16 +1,16 @@
 //! Sheets.
-ghost use Rattle.std.specs.Prelude.{◌≡◌, ◌≢◌, ℕ, ◌≤◌, ◌==◌, length, position, Contains, Ok, Err, Some, IfOk, IfErr, option_copied};
+ghost use Rattle.std.specs.Prelude.{◌≡◌, ◌≢◌, ◌≤◌, ◌==◌, length, position, Contains, Ok, Err, Some, IfOk, IfErr, option_copied};
 ghost use Rattle.std.specs.List.Sorted.{IsPermutation};
 ghost use Rattle.fill_text.specs.Data.{cell_at};
 ghost use Rattle.fill_sheet.specs.Columns.{AreInputs, IsOutput};
-ghost use Rattle.fill_sheet.specs.Sheet.{IsSheet, given_at, read_sheet, sheet_of};
+ghost use Rattle.fill_sheet.specs.Sheet.{IsSheet, given_at, read_sheet, row_sheet, sheet_of};
 
 use crate::SheetError;
 use crate::columns::{rising, used};
 use crate::reading::{LIMIT, first_number, row_records, rows_of};
 use crate::row::Row;
 use fill_records::{Record, first_bad, read_records};
-use fill_text::Text;
+use fill_text::{NoMemory, Text};
 use std::alloc::Global;
 use std::marker::Model;
 
@@ -82,6 +82,17 @@ impl Sheet {
             });
         }
         let rows = rows_of(alloc, rows, &inputs, output)?;
+        Ok(Sheet { inputs, rows })
+    }
+
+    /// The sheet whose one row has these cells in the input columns, and no given text.
+    pub fn of_row(alloc: Global, inputs: &[u32], cells: Vec<Text>) -> Result<Sheet, NoMemory>
+        requires { IsSheet (row_sheet inputs.now cells.items) }
+        ensures { IfOk result (λ sheet. sheet ≡ row_sheet inputs.now cells.items) }
+    {
+        let inputs = Vec::from_slice(alloc, inputs)?;
+        let mut rows = Vec::new(alloc);
+        rows.push(Row { cells, given: None })?;
         Ok(Sheet { inputs, rows })
     }
 

@@ -31,7 +31,7 @@ pub fn one_weight()
     ensures { (g : Ground) (l : List Example) (v w : ℕ) → WeighsOn g l v → WeighsOn g l w → v ≡ w }
 {}
 
-/// Examples have at most one list of so many best programs. Where some program explains them, it begins with the chosen one.
+/// Examples have at most one list of best programs of each length. Where some program explains them, it begins with the chosen one.
 pub fn best_programs_are_one()
     ensures one { (g : Ground) (l : List Example) (k : ℕ) (ps qs : List Atoms) → AreBestOn g l k ps → AreBestOn g l k qs → ps ≡ qs }
     ensures chosen { (g : Ground) (l : List Example) (k : ℕ) (ps : List Atoms) → 1 ≤ k → FitsOn g l → AreBestOn g l k ps → BeginsWithChosen g l ps }

@@ -1,5 +1,5 @@
 //! Graphs that were met already, so that none are met twice.
-ghost use Rattle.std.specs.Prelude.{◌≡◌, ◌+◌, ℕ, List, Some, IfOk, IfSome, MatchOption, OnErr, OnOk, OnSome};
+ghost use Rattle.std.specs.Prelude.{◌≡◌, ◌+◌, List, Some, IfOk, IfSome, MatchOption, OnErr, OnOk, OnSome};
 ghost use Rattle.std.specs.HashMap.{get, Updates};
 ghost use Rattle.fill_tree.specs.Tree.{Atoms};
 ghost use Rattle.fill_arena.specs.Contents.{Extends, IsGraph};

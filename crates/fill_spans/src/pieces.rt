@@ -1,5 +1,5 @@
 //! The pieces of one token.
-ghost use Rattle.std.specs.Prelude.{◌≡◌, ◌<◌, ◌≤◌, ◌+◌, ◌++◌, ◌∷◌, [], length, OnOk, IfOk};
+ghost use Rattle.std.specs.Prelude.{◌≡◌, ◌<◌, ◌+◌, ◌++◌, ◌∷◌, [], length, OnOk, IfOk};
 ghost use Rattle.fill_tokens.specs.Span.{KindSpans};
 ghost use Rattle.fill_tokens.specs.declared.kind.Kind.TheVariants.{AtStart, AtEnd, Single};
 ghost use Rattle.fill_spans.specs.Pieces.{AreExactly};

@@ -1,5 +1,5 @@
 //! The runs of a class of characters.
-ghost use Rattle.std.specs.Prelude.{◌≡◌, ℕ, List, Bool, ◌<◌, ◌≤◌, ◌+◌, ◌++◌, ◌∷◌, [], length, slice_index, slice_get, Some, OnOk, IfOk};
+ghost use Rattle.std.specs.Prelude.{◌≡◌, ℕ, List, Bool, ◌<◌, ◌+◌, length, slice_index, Some, OnOk, IfOk};
 ghost use Rattle.fill_tokens.specs.Kind.{run_has};
 ghost use Rattle.fill_tokens.specs.Span.{KindSpans};
 ghost use Rattle.fill_tokens.specs.declared.kind.Kind.TheVariants.{Run};

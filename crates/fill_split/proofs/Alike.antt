@@ -1,5 +1,5 @@
 -- folds in another maker, and folds with other values
-use Rattle.std.proofs.Common.{◌≡◌, ◌↔◌, ℕ, ◌<◌, ◌*◌, inl, inr, ⊎_elim, List, [], ◌∷◌, ◌++◌, length, Some, refl, sym, ap, ◌∙◌, subst}
+use Rattle.std.proofs.Common.{◌≡◌, ◌↔◌, ℕ, inl, inr, ⊎_elim, List, [], ◌∷◌, ◌++◌, Some, refl, sym, ap, ◌∙◌, subst}
 use Rattle.std.specs.Prelude.{slice_get, slice_set}
 use Rattle.std.specs.List.{AllZip, All}
 use Rattle.std.proofs.lemmas.Option.{slice_get-get_or}
@@ -8,10 +8,9 @@ use Rattle.fill_split.specs.declared.folds.Folds.{Folds}
 use Rattle.fill_split.specs.declared.maker.Maker.{Ghosts}
 use Rattle.fill_split.specs.declared.rule.Placing.{Placing}
 use Rattle.fill_split.specs.declared.rule.Placing.TheVariants.{First, Lightest}
-use Rattle.fill_split.specs.Keeping.{Keeps}
 use Rattle.fill_split.specs.Placement.{Prefers, GoesTo, NoneFits, Follows, PlacedFrom}
 use Rattle.fill_split.specs.Standing.{Spot, spots, BranchStands, AllStand, ComesTo, Came, Stand, FoldsStand, kept_of}
-use Rattle.fill_split.specs.Renewal.{IsRenewedBranch, IsRenewed, MeanTheSame, StandsToo}
+use Rattle.fill_split.specs.Renewal.{IsRenewedBranch}
 use Rattle.fill_split.specs.LawsOfFolds.{FoldsStay, RenewedStand, PlacedOnce}
 use Rattle.fill_split.proofs.Zips.{zip_lengths, zip_some}
 use Rattle.fill_split.proofs.Pairs.{live}

@@ -8,7 +8,7 @@ use Rattle.fill_split.specs.declared.rule.Placing.TheVariants.{First, Lightest}
 use Rattle.fill_split.specs.declared.folds.Fold.{Fold}
 use Rattle.fill_split.specs.declared.find.Choice.{Choice}
 use Rattle.fill_split.specs.Keeping.{Keeps}
-use Rattle.fill_split.specs.Placement.{Prefers, GoesTo, NoneFits, Loads}
+use Rattle.fill_split.specs.Placement.{Prefers, NoneFits, Loads}
 use Rattle.fill_split.specs.Standing.{KeptStand}
 use Rattle.fill_split.specs.Choices.{IsChosen}
 use Rattle.fill_split.proofs.Zips.{zip_lengths, zip_some}

@@ -5,7 +5,7 @@ use Rattle.std.proofs.lemmas.Bool.{cases_lt}
 use Rattle.std.proofs.lemmas.List.{length_push}
 use Rattle.fill_split.specs.declared.rule.Placing.{Placing}
 use Rattle.fill_split.specs.declared.rule.Placing.TheVariants.{First, Lightest}
-use Rattle.fill_split.specs.Placement.{Prefers, GoesTo, Follows, PlacedFrom, Placed, NoneFits, OpensNinth}
+use Rattle.fill_split.specs.Placement.{Prefers, Follows, PlacedFrom, Placed, NoneFits, OpensNinth}
 use Rattle.fill_split.specs.Refusals.{Unplaceable, IsFirstFrom}
 
 -- a rule prefers one place

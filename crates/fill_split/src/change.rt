@@ -24,7 +24,7 @@ pub enum FoldError {
     /// The item would open a ninth branch.
     #[error("item {item} would open a ninth branch")]
     Ninth { item: usize },
-    /// Want of memory.
+    /// Out of memory.
     #[error("out of memory")]
     NoMemory,
 }

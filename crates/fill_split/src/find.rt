@@ -1,5 +1,5 @@
 //! The branch that an item goes to.
-ghost use Rattle.std.specs.Prelude.{◌≡◌, ◌⊎◌, ℕ, ◌+◌, ◌<◌, ◌≤◌, List as Listed, [], ◌∷◌, ◌++◌, Some, slice_get, length, IfOk, IfSome, IsTrue, MatchOption};
+ghost use Rattle.std.specs.Prelude.{◌≡◌, ◌⊎◌, ◌+◌, ◌<◌, ◌≤◌, List as Listed, [], ◌∷◌, Some, length, IfOk, IfSome, IsTrue, MatchOption};
 ghost use Rattle.fill_split.specs.Keeping.{Keeps, KeepsMarks};
 ghost use Rattle.fill_split.specs.Placement.{NoneFits, Loads};
 ghost use Rattle.fill_split.specs.Standing.{KeptStand};

@@ -1,6 +1,6 @@
 //! What is kept for the first items.
-ghost use Rattle.std.specs.Prelude.{◌≡◌, ℕ, ◌*◌, ◌≤◌, List as Listed, [], length, take, IfOk};
-ghost use Rattle.fill_split.specs.Standing.{spots, Came, AllStand, TracedBy, StandsBy, Traced};
+ghost use Rattle.std.specs.Prelude.{◌≡◌, ◌*◌, List as Listed, [], length, IfOk};
+ghost use Rattle.fill_split.specs.Standing.{spots, Came, AllStand, StandsBy, Traced};
 ghost use Rattle.fill_split.specs.declared.rule.Placing.{Placing};
 
 use crate::folds::{Fold, Folds};

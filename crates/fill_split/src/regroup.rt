@@ -1,5 +1,5 @@
 //! The branches of a changed list of items.
-ghost use Rattle.std.specs.Prelude.{◌≡◌, ℕ, ◌+◌, ◌-◌, ◌*◌, ◌≤◌, List as Listed, [], ◌∷◌, ◌++◌, length, take, drop, IfOk, IfErr, OnOk};
+ghost use Rattle.std.specs.Prelude.{◌≡◌, ◌+◌, ◌-◌, ◌*◌, ◌≤◌, List as Listed, length, take, drop, IfOk, IfErr, OnOk};
 ghost use Rattle.fill_split.specs.Keeping.{Keeps, KeepsMarks};
 ghost use Rattle.fill_split.specs.Standing.{StandsBy, TracedBy, Traced, SinglesStand, rule_of};
 ghost use Rattle.fill_split.specs.Changes.{changed, IsPlace, IsAllowed};

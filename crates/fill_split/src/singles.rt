@@ -1,5 +1,5 @@
 //! What stands for each of the changed items alone.
-ghost use Rattle.std.specs.Prelude.{◌≡◌, ◌+◌, ◌*◌, ◌≤◌, List as Listed, [], ◌∷◌, ◌++◌, length, take, drop, IfOk, IfErr};
+ghost use Rattle.std.specs.Prelude.{◌≡◌, ◌+◌, ◌*◌, ◌≤◌, [], ◌∷◌, ◌++◌, length, take, drop, IfOk, IfErr};
 ghost use Rattle.fill_split.specs.Keeping.{Keeps, KeepsMarks};
 ghost use Rattle.fill_split.specs.Standing.{SinglesStand, ones};
 ghost use Rattle.fill_split.specs.Changes.{put_in, of_option, IsAllowed};

@@ -1,10 +1,8 @@
 -- The widths of records, and the columns from the first to another.
-use Rattle.std.proofs.Common.{◌≡◌, ℕ, zero, suc, ◌+◌, ◌<◌, ◌≤◌, max, List, [], ◌∷◌, ◌++◌, length, get_or, drop, All, add-one, refl, arith}
-use Rattle.std.proofs.Math.Seq.{drop-cons}
+use Rattle.std.proofs.Common.{◌≡◌, ℕ, zero, suc, ◌+◌, ◌<◌, ◌≤◌, List, [], ◌∷◌, ◌++◌, length, get_or, All, refl, arith}
 use Rattle.std.specs.List.{range_with_len}
 use Rattle.std.proofs.lemmas.List.FromFn.{length-range_with_len, get_or-range_with_len}
-use Rattle.std.proofs.lemmas.List.{drop_all}
-use Rattle.fill_tables.specs.Reading.{kept, columns_to, width_of}
+use Rattle.fill_tables.specs.Reading.{columns_to, width_of}
 
 -- columns count from 1
 pub columns_counted : (width : ℕ) → All (λ column. 0 < column) (columns_to width)

@@ -33,7 +33,7 @@ pub enum TableError {
     /// with an earlier one.
     #[error("rows {row1} and {row2} agree in the key")]
     NotAKey { row1: u32, row2: u32 },
-    /// Want of memory.
+    /// Out of memory.
     #[error("out of memory")]
     NoMemory,
 }

@@ -1,6 +1,5 @@
 //! The rows of a table in the order of their cells in some columns.
 ghost use Rattle.std.specs.Prelude.{◌≡◌, ◌<◌, ◌≤◌, [], length, map, position, Some, None, IfOk, IfErr, OnOk, option_copied, slice_get, slice_index_or};
-ghost use Rattle.std.specs.Cmp.Lexicographic.{slice_cmp};
 ghost use Rattle.std.specs.List.Sorted.{IsBinarySearchResult, IsSearchInRange};
 ghost use Rattle.fill_text.specs.Data.{nth};
 ghost use Rattle.fill_tables.specs.Orders.{IsOrder, cell_cmp, cells_at, cells_cmp};

@@ -1,5 +1,5 @@
 //! The classes of characters that tokens match runs of.
-ghost use Rattle.std.specs.Prelude.{◌≡◌, not, ◌||◌};
+ghost use Rattle.std.specs.Prelude.{◌≡◌, ◌||◌};
 ghost use Rattle.fill_text.specs.Classes.{class_of, is_separator, is_digit_category, is_upper_category, is_lower_category, is_alpha_category};
 
 use unicode::properties::{GeneralCategory, is_white_space};

@@ -1,11 +1,11 @@
-//! Want of memory, and bytes that are no text.
+//! Out of memory, and bytes that are no text.
 ghost use Rattle.std.specs.Prelude.{◌≡◌};
 ghost use Rattle.fill_text.specs.declared.error.TextError.TheVariants as text;
 
 use std::alloc::{AllocError, AllocFailed};
 use thiserror::Error;
 
-/// Want of memory: an allocation was refused.
+/// Out of memory: an allocation was refused.
 ///
 /// A call that answers it leaves what it was lent for writing as it was.
 #[derive(Clone, Copy, Debug, PartialEq, Eq, Error)]
@@ -30,7 +30,7 @@ pub enum TextError {
     /// The bytes are not UTF-8; `at` is the length of their longest prefix that is.
     #[error("not UTF-8 after {at} bytes")]
     NotUtf8 { at: usize },
-    /// Want of memory.
+    /// Out of memory.
     #[error("out of memory")]
     NoMemory,
 }

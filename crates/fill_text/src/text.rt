@@ -1,5 +1,5 @@
 //! Texts.
-ghost use Rattle.std.specs.Prelude.{All, ◌≡◌, ◌+◌, ◌<◌, ◌≤◌, ◌^◌, ◌↔◌, IsTrue, [], ◌++◌, length, IfOk, IfErr, OnOk, OnErr, IsUtf8, encode_utf8, encode_utf8_all, slice_index, slice_range, string_bytes};
+ghost use Rattle.std.specs.Prelude.{All, ◌≡◌, ◌+◌, ◌<◌, ◌≤◌, ◌^◌, ◌↔◌, IsTrue, [], ◌++◌, length, IfOk, IfErr, OnOk, OnErr, IsUtf8, encode_utf8_all, slice_index, slice_range, string_bytes};
 ghost use Rattle.std.specs.Char.{IsScalar};
 ghost use Rattle.std.specs.Str.{chars};
 ghost use Rattle.std.specs.Ordering.{nat_cmp};

@@ -2,7 +2,7 @@
 //!
 //! Each call looks at every position of the text once, and the tests there scan each run a fixed number of times in all,
 //! as [`crate::span`] says: so each is linear in the text's length for a fixed place or sequence.
-ghost use Rattle.std.specs.Prelude.{◌≡◌, ◌↔◌, ◌≤◌, ◌<◌, ◌+◌, ℕ, ℤ, MatchOption, IsTrue, length};
+ghost use Rattle.std.specs.Prelude.{◌↔◌, ◌≤◌, ◌<◌, ◌+◌, ℕ, MatchOption, IsTrue, length};
 ghost use Rattle.fill_tokens.specs.Span.{Begins, IsCut};
 ghost use Rattle.fill_tokens.specs.Value.{HasValue, IsCount, IsCutFromLeft, IsCutFromRight};
 

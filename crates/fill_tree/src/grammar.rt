@@ -1,5 +1,5 @@
 //! Which trees the bounded grammar has.
-ghost use Rattle.std.specs.Prelude.{◌≤◌, ◌↔◌, IsTrue, Contains, length, map};
+ghost use Rattle.std.specs.Prelude.{◌≤◌, ◌↔◌, IsTrue, Contains, map};
 ghost use Rattle.fill_tokens.specs.TokenSet.{IsPlaceOf};
 ghost use Rattle.fill_tree.specs.Tree.{atoms_of};
 ghost use Rattle.fill_tree.specs.Grammar.{AreConditions, AreNumbersOf, AreSettings, Allows, HasPart, InGrammar, IsAtom, IsCondition, IsPart, IsSource, atom_depth, source_depth};

@@ -1,4 +1,4 @@
-//! Edits that meet want of memory.
+//! Edits that run out of memory.
 //!
 //! The test passes also where one allocation is refused, whichever it is.
 use crate::session::{Kind, Tried, Work, accepted, edit_of, goes, make};

@@ -1,5 +1,5 @@
 //! Branches of numbers whose sum is at most ten.
-ghost use Rattle.std.specs.Prelude.{◌≡◌, ◌+◌, ◌-◌, ◌<◌, ◌≤◌, List as Listed, ℕ, [], ◌∷◌, ◌++◌, sum, slice_get, Some, length, IfOk, OnErr, MatchOption, refl};
+ghost use Rattle.std.specs.Prelude.{◌≡◌, ◌+◌, ◌-◌, ◌<◌, ◌≤◌, List as Listed, ℕ, [], ◌∷◌, ◌++◌, sum, slice_get, Some, length, IfOk, OnErr, MatchOption};
 ghost use Rattle.std.proofs.Common.{◌∙◌, sym};
 ghost use Rattle.fill_split.specs.Standing.{FoldsStand};
 ghost use Rattle.fill_split.specs.Changes.{put_in, taken_out, IsPlace};

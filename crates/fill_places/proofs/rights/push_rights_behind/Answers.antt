@@ -1,4 +1,4 @@
-use Rattle.std.proofs.Common.{◌∷◌, arith, length, refl, subst}
+use Rattle.std.proofs.Common.{arith, length, refl, subst}
 use Rattle.std.proofs.lemmas.Bool.{iff_false}
 use Rattle.std.proofs.lemmas.Option.{slice_get_read}
 use Rattle.fill_places.specs.Sides.{RightAt}

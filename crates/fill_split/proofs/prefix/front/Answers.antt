@@ -1,4 +1,3 @@
-use Rattle.std.proofs.Common.{sym}
 use Rattle.fill_split.proofs.Coming.{stand_of}
 use Rattle.fill_split.proofs.prefix.front.Goals as goal
 

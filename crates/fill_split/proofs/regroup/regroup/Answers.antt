@@ -1,9 +1,8 @@
-use Rattle.std.proofs.Common.{◌≡◌, ◌*◌, ◌≤◌, length, ap, arith, sym, subst, ◌∙◌, take}
+use Rattle.std.proofs.Common.{◌*◌, length, ap, arith, sym, subst, ◌∙◌, take}
 use Rattle.fill_split.specs.Changes.{changed}
 use Rattle.fill_split.specs.Standing.{Traced, StandsBy, rule_of}
 use Rattle.fill_split.specs.Refusals.{Refuses}
 use Rattle.fill_split.proofs.Marks.{marks_trans}
-use Rattle.fill_split.proofs.Coming.{traced_long}
 use Rattle.fill_split.proofs.Changing.{if_ok, if_err, is_in_places, was_long, front_stands, changed_singles_stand, singles_left, at_in_singles, alone_refuses}
 use Rattle.fill_split.proofs.regroup.regroup.Goals as goal
 

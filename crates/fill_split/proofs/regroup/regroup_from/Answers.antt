@@ -1,4 +1,4 @@
-use Rattle.std.proofs.Common.{◌≡◌, ◌*◌, ◌≤◌, length, take, arith, ap}
+use Rattle.std.proofs.Common.{take}
 use Rattle.fill_split.proofs.regroup.regroup_from.Goals as goal
 
 pub front-requires : goal.front-requires

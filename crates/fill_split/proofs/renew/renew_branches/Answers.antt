@@ -1,4 +1,4 @@
-use Rattle.std.proofs.Common.{◌≡◌, ◌<◌, ◌≤◌, length, arith, ◌∙◌, length-set}
+use Rattle.std.proofs.Common.{◌<◌, ◌≤◌, length, arith, ◌∙◌, length-set}
 use Rattle.fill_split.proofs.Zips.{here}
 use Rattle.fill_split.proofs.Renewing.{renewed_more, renewed_end}
 use Rattle.fill_split.proofs.renew.renew_branches.Goals as goal

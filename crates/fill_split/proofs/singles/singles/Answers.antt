@@ -1,4 +1,4 @@
-use Rattle.std.proofs.Common.{◌≡◌, ◌+◌, ◌*◌, ◌<◌, ◌++◌, ◌∷◌, [], length, arith, sym, ◌∙◌, ap}
+use Rattle.std.proofs.Common.{◌+◌, ◌*◌, ◌<◌, ◌++◌, ◌∷◌, [], length, arith, sym, ◌∙◌, ap}
 use Rattle.fill_split.proofs.Zips.{here}
 use Rattle.fill_split.proofs.Pairs.{ones_next}
 use Rattle.fill_split.proofs.singles.singles.Goals as goal

@@ -1,4 +1,4 @@
-use Rattle.std.proofs.Common.{◌≡◌, ◌≤◌, ◌∙◌, sym, arith, take, length}
+use Rattle.std.proofs.Common.{◌≤◌, ◌∙◌, sym, arith, length}
 use Rattle.std.proofs.lemmas.List.{length-take}
 use Rattle.fill_records.proofs.Texts.{texts_from_no_bad}
 use Rattle.fill_tables.specs.Reading.{columns_to}
