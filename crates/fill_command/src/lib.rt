@@ -11,6 +11,3 @@ mod stop;
 
 pub use command::run;
 pub use stop::{MEMORY_LINE, say};
-
-#[cfg(test)]
-mod tests;

@@ -6,8 +6,6 @@ mod names;
 mod places;
 mod programs;
 mod quotes;
-#[cfg(test)]
-mod tests;
 
 pub use guards::rule_lines;
 pub use names::{Named, Names};

@@ -11,8 +11,6 @@ mod options;
 mod reading;
 mod refusal;
 mod tables;
-#[cfg(test)]
-mod tests;
 
 pub use asked::{Asked, Lookup, Order, Saved, Target, Typed};
 pub use reading::read_words;

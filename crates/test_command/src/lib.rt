@@ -1,5 +1,5 @@
 //! What no contract says of the files and the words of the command, through public calls: session files, saved programs,
-//! and the steps of the opening.
+//! the steps of the opening, and whole runs.
 #![tactic(auto)]
 
 #[cfg(test)]
@@ -10,5 +10,7 @@ mod generator;
 mod keys;
 #[cfg(test)]
 mod opening;
+#[cfg(test)]
+mod running;
 #[cfg(test)]
 mod script;

@@ -6,7 +6,7 @@ mod keys;
 mod noting;
 mod rows;
 
-use crate::command::run;
+use fill_command::run;
 use fill_edge::{Ledger, MemorySink, Steps};
 use noting::NotingCabinet;
 use std::alloc::Global;

@@ -1,5 +1,5 @@
 //! Rules in plain English.
-use crate::{Named, Names, rule_lines};
+use fill_prose::{Named, Names, rule_lines};
 use fill_text::{List, Text};
 use fill_tokens::{Place, Seq, Token};
 use fill_tree::{Atom, Case, Guard, Literal, Program, Select, Source, Switch};

@@ -1,5 +1,5 @@
 //! Words, and what they ask for.
-use crate::{Order, Refusal, read_words};
+use fill_words::{Order, Refusal, read_words};
 use std::alloc::{AllocError, Global};
 use std::test::Fail;
 
