@@ -54,13 +54,14 @@ impl Spoken {
         }
     }
 
-    /// What else the cell of a row could be: its text, and the simplest rule that gives another one with that text. It is
-    /// empty where no rule does.
+    /// Both answers for the cell of a row: its text, and the one that the simplest rule with another one gives, followed by
+    /// that rule if asked for. It is empty where no rule gives another one.
     pub(crate) fn doubt_of(
         &self,
         alloc: Global,
         session: &Session,
         row: u32,
+        with_rule: bool,
     ) -> Result<String, NoMemory>
         requires first { 1 ≤ row }
         requires last { row ≤ length session.now.spaces.ground.sheet.rows }
@@ -73,9 +74,11 @@ impl Spoken {
         put_answer(&mut line, &answer.text)?;
         line.push_str(", or ")?;
         put_answer(&mut line, &objection.text)?;
-        line.push_str(" by: ")?;
-        let other = program_text(alloc, &objection.program, self.names())?;
-        line.push_str(other.as_str())?;
+        if with_rule {
+            line.push_str(" by: ")?;
+            let other = program_text(alloc, &objection.program, self.names())?;
+            line.push_str(other.as_str())?;
+        }
         Ok(line)
     }
 }

@@ -141,9 +141,33 @@ fn write<O: Sink, L: Ledger>(
         form,
         head: head.as_slice(),
         spoken: &spoken,
-        explain: asked.explain,
+        doubts: Doubts::of(asked),
     };
     write_page(alloc, &page, saving, &mut session, out, steps)
+}
+
+/// What is told of the first cells in doubt.
+#[derive(Clone, Copy)]
+enum Doubts {
+    /// Nothing.
+    Untold,
+    /// Both answers.
+    Answers,
+    /// Both answers, and the rule behind the other one.
+    Rules,
+}
+
+impl Doubts {
+    /// What the words ask for.
+    fn of(asked: &Asked) -> Doubts {
+        if asked.quiet {
+            Doubts::Untold
+        } else if asked.explain {
+            Doubts::Rules
+        } else {
+            Doubts::Answers
+        }
+    }
 }
 
 /// What is written of a sheet beside its answers.
@@ -159,8 +183,8 @@ struct Page<'a> {
     head: &'a [u8],
     /// By which names rules are told.
     spoken: &'a Spoken,
-    /// Whether it is told what else the first cells in doubt could be.
-    explain: bool,
+    /// What is told of the first cells in doubt.
+    doubts: Doubts,
 }
 
 /// The records after the header, where there is one.
@@ -171,19 +195,21 @@ fn rows_after(header: bool, records: &[Record]) -> &[Record]
     &records[start..]
 }
 
-/// What else the cells of the first rows in doubt could be, as far as memory goes. Rows count from 1, and 0 ends them.
+/// What is told of the cells of the first rows in doubt, as far as memory goes. Rows count from 1, and 0 ends them.
 fn doubts_of(alloc: Global, page: &Page<'_>, session: &Session, rows: &[u32]) -> Vec<String>
     requires { let p = page.now in length p.rows.now ≡ length session.now.spaces.ground.sheet.rows }
 {
     let mut doubts = Vec::new(alloc);
-    if !page.explain {
-        return doubts;
-    }
+    let with_rule = match page.doubts {
+        Doubts::Untold => return doubts,
+        Doubts::Answers => false,
+        Doubts::Rules => true,
+    };
     for row in rows {
         if *row == 0 || *row as usize > page.rows.len() {
             break;
         }
-        let Ok(doubt) = page.spoken.doubt_of(alloc, session, *row) else {
+        let Ok(doubt) = page.spoken.doubt_of(alloc, session, *row, with_rule) else {
             break;
         };
         if doubts.push(doubt).is_err() {

@@ -22,7 +22,7 @@ pub(crate) struct Told {
     pub summary: Summary,
     /// The rule that was learned, a line for each of its cases.
     pub rule: Vec<String>,
-    /// What else the cells of the first rows in doubt could be.
+    /// Both answers for the cells of the first rows in doubt.
     pub doubts: Vec<String>,
     /// The text of the rule, where it is to be saved and there is one.
     pub text: Option<List<u8>>,
@@ -105,7 +105,7 @@ fn rule_text(alloc: Global, line: &str) -> Result<String, AllocError> {
     format!(in alloc; "fillcsv: rule: {line}\n")
 }
 
-/// What else the cell of a row could be.
+/// Both answers for the cell of a row.
 fn doubt_text(alloc: Global, row: u32, doubt: &str) -> Result<String, AllocError> {
     format!(in alloc; "fillcsv: row {row}: {doubt}\n")
 }
