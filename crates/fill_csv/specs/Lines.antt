@@ -21,7 +21,7 @@ output_line = codes "fillcsv: output cannot be written\n"
 
 -- the line of a file that spells no sheet
 abbrev pub sheet_line : List ℕ → SheetError → List ℕ
-sheet_line name (sheet.TooManyRows limit) = line_of name (codes "more than " ++ (decimal limit ++ codes " records\n"))
+sheet_line name (sheet.TooManyRows limit) = line_of name (codes "more than " ++ (decimal limit ++ codes " records: learn from some of them with --save, and fill all with --rule\n"))
 sheet_line name (sheet.NotUtf8 number column) =
     line_of name (codes "record " ++ (decimal number ++ (codes ", column " ++ (decimal column ++ codes ": not UTF-8\n"))))
 sheet_line name sheet.NoMemory = memory_line

@@ -32,7 +32,9 @@ pub(crate) fn sheet_line(alloc: Global, name: &str, error: SheetError) -> Result
 {
     match error {
         SheetError::TooManyRows { limit } => {
-            format!(in alloc; "fillcsv: {name}: more than {limit} records\n")
+            format!(in alloc;
+                "fillcsv: {name}: more than {limit} records: learn from some of them with --save, and fill all with --rule\n"
+            )
         }
         SheetError::NotUtf8 { number, column } => {
             format!(in alloc; "fillcsv: {name}: record {number}, column {column}: not UTF-8\n")
