@@ -1,8 +1,9 @@
 -- The programs of a graph that answer otherwise on a row than was said, and the least of them.
-use Rattle.std.specs.Prelude.{ℕ, List, Option}
+use Rattle.std.specs.Prelude.{ℕ, ◌<◌, List, Option}
 use Rattle.fill_text.specs.Data.{SheetData, TableData}
 use Rattle.fill_tokens.specs.declared.prices.Prices.{Prices}
 use Rattle.fill_tree.specs.Chosen.{IsLeast}
+use Rattle.fill_tree.specs.Cost.{program_cost}
 use Rattle.fill_tree.specs.Meaning.{program_tree}
 use Rattle.fill_tree.specs.Tree.{Atoms}
 use Rattle.fill_tree.specs.Value.{IsValue, ProgramIs}
@@ -23,3 +24,7 @@ pub record Objects (c : List Entry) (g : ℕ) (sheet : SheetData) (tables : List
 pub record IsObjection (prices : Prices) (c : List Entry) (g : ℕ) (sheet : SheetData) (tables : List TableData) (row : ℕ) (said : Option (List ℕ)) (o : Objection) : Type 0 where
   pub least : IsLeast prices (Objects c g sheet tables row said) (program_tree o.program)
   pub value : IsValue (ProgramIs sheet tables row (program_tree o.program)) o.text
+
+-- each program that objects costs more
+abbrev pub AllDearer : Prices → List Entry → ℕ → SheetData → List TableData → ℕ → Option (List ℕ) → ℕ → Type 0
+AllDearer prices c g sheet tables row said limit = (p : Atoms) → Objects c g sheet tables row said p → limit < program_cost prices p

@@ -1,12 +1,14 @@
 //! The least program that objects.
-ghost use Rattle.std.specs.Prelude.{◌≡◌, ◌≤◌, length, IfOk, MatchOption, option_copied};
+ghost use Rattle.std.specs.Prelude.{◌≡◌, ◌<◌, ◌≤◌, ◌^◌, length, IfOk, IfSome, MatchOption, option_copied};
+ghost use Rattle.fill_tree.specs.Cost.{program_cost};
+ghost use Rattle.fill_tree.specs.Meaning.{program_tree};
 ghost use Rattle.fill_tree.specs.Tree.{Atoms};
 ghost use Rattle.fill_arena.specs.Contents.{IsGraph};
 ghost use Rattle.fill_arena.specs.Stands.{ProgramStands};
 ghost use Rattle.fill_object.specs.Chains.{IsLeastWithin};
 ghost use Rattle.fill_object.specs.Guide.{IsGuideOf};
 ghost use Rattle.fill_object.specs.Known.{IsOnRow};
-ghost use Rattle.fill_object.specs.Objector.{Answers, IsObjection};
+ghost use Rattle.fill_object.specs.Objector.{AllDearer, Answers, IsObjection};
 ghost use Rattle.fill_object.specs.Pieces.{text_or_empty};
 ghost use Rattle.fill_object.specs.Rests.{IsProgramOf, IsSearch, RestStands};
 ghost use Rattle.fill_object.specs.Wants.{RestAgrees, wanted_first};
@@ -51,9 +53,10 @@ pub fn object(
     requires first { 1 ≤ row }
     requires last { row ≤ length sheet.now.rows }
     requires graph { IsGraph arena.now g }
-    ensures { let told = option_copied said.entry in IfOk result (λ found. MatchOption found
+    ensures objection { let told = option_copied said.entry in IfOk result (λ found. MatchOption found
         ((p : Atoms) → ProgramStands arena.now g p → Answers sheet.now tables.now row told p)
         (IsObjection prices.now arena.now g sheet.now tables.now row told)) }
+    ensures few { IfOk result (λ found. IfSome found (λ o. program_cost prices.now (program_tree o.program) < 2 ^ 64)) }
 {
     let guide = guide_of(alloc, prices, arena, g)?;
     let on = OnRow {
@@ -64,11 +67,48 @@ pub fn object(
         sheet,
         tables,
     };
-    object_on(&on, &guide, g, said)
+    arena.keeps_made();
+    prices.keep_small();
+    let least = least_on(&on, &guide, g, said, u64::MAX)?;
+    match least {
+        Least::Found(chain) => objection_of(&on, &chain),
+        Least::Absent => Ok(None),
+        Least::Dearer => unreachable!(),
+    }
 }
 
-/// What leads the search through the graph.
-fn guide_of(alloc: Global, prices: &Prices, arena: &Arena, g: GraphId) -> Result<Guide, NoMemory>
+/// As [`object`], if the program costs no more than the limit; none where each program that answers otherwise costs more.
+/// The guide is that of the graph.
+pub fn object_within(
+    on: &OnRow<'_>,
+    guide: &Guide,
+    g: GraphId,
+    said: Option<&Text>,
+    limit: u64,
+) -> Result<Option<Objection>, NoMemory>
+    requires row { IsOnRow on.now }
+    requires graph { IsGraph on.now.arena.now g }
+    requires guide { IsGuideOf on.now.prices.now on.now.arena.now g guide.now }
+    ensures objection { let told = option_copied said.entry in IfOk result (λ found. MatchOption found
+        (AllDearer on.now.prices.now on.now.arena.now g on.now.sheet.now on.now.tables.now on.now.row told limit)
+        (IsObjection on.now.prices.now on.now.arena.now g on.now.sheet.now on.now.tables.now on.now.row told)) }
+    ensures few { IfOk result (λ found. IfSome found (λ o. program_cost on.now.prices.now (program_tree o.program) < 2 ^ 64)) }
+{
+    let least = least_on(on, guide, g, said, limit)?;
+    match least {
+        Least::Found(chain) => objection_of(on, &chain),
+        Least::Absent => Ok(None),
+        Least::Dearer => Ok(None),
+    }
+}
+
+/// What leads the search through the graph, on any row.
+pub fn guide_of(
+    alloc: Global,
+    prices: &Prices,
+    arena: &Arena,
+    g: GraphId,
+) -> Result<Guide, NoMemory>
     requires { IsGraph arena.now g }
     ensures { IfOk result (IsGuideOf prices.now arena.now g) }
 {
@@ -76,22 +116,20 @@ fn guide_of(alloc: Global, prices: &Prices, arena: &Arena, g: GraphId) -> Result
     Guide::of(alloc, prices, arena, arena.edges(g), arena.nodes(g))
 }
 
-/// The least program that objects on the row.
-fn object_on(
+/// The least program of the graph that answers otherwise on the row, within a limit of its cost.
+fn least_on(
     on: &OnRow<'_>,
     guide: &Guide,
     g: GraphId,
     said: Option<&Text>,
-) -> Result<Option<Objection>, NoMemory>
+    limit: u64,
+) -> Result<Least, NoMemory>
     requires row { IsOnRow on.now }
     requires graph { IsGraph on.now.arena.now g }
     requires guide { IsGuideOf on.now.prices.now on.now.arena.now g guide.now }
-    ensures { let told = option_copied said.entry in IfOk result (λ found. MatchOption found
-        ((p : Atoms) → ProgramStands on.now.arena.now g p → Answers on.now.sheet.now on.now.tables.now on.now.row told p)
-        (IsObjection on.now.prices.now on.now.arena.now g on.now.sheet.now on.now.tables.now on.now.row told)) }
+    ensures { IfOk result (IsLeastWithin on.now.prices.now limit (ProgramStands on.now.arena.now g) (Answers on.now.sheet.now on.now.tables.now on.now.row (option_copied said.entry))) }
 {
     on.arena.keeps_made();
-    on.prices.keep_small();
     let edges = on.arena.edges(g);
     let search = Search {
         on: *on,
@@ -100,24 +138,19 @@ fn object_on(
         last: on.arena.nodes(g) - 1,
         said: characters(said),
     };
-    let least = least_of(&search, first_wanted(said))?;
-    match least {
-        Least::Found(chain) => objection_of(on, &chain),
-        Least::Absent => Ok(None),
-        Least::Dearer => unreachable!(),
-    }
+    least_of(&search, first_wanted(said), limit)
 }
 
-/// The least rest from the first node on, whatever it costs.
-fn least_of(search: &Search<'_>, wanted: Wanted) -> Result<Least, NoMemory>
+/// The least rest from the first node on, within a limit of its cost.
+fn least_of(search: &Search<'_>, wanted: Wanted, limit: u64) -> Result<Least, NoMemory>
     requires search { IsSearch search.now }
-    ensures { IfOk result (IsLeastWithin search.now.on.prices.now u64.MAX (RestStands search.now 0) (RestAgrees search.now.on search.now.said.now wanted)) }
+    ensures { IfOk result (IsLeastWithin search.now.on.prices.now limit (RestStands search.now 0) (RestAgrees search.now.on search.now.said.now wanted)) }
 {
     let alloc = search.on.alloc;
     let known = Known::new(alloc);
     let rests = Rests::new(alloc, search.last)?;
     let mut found = Found { known, rests };
-    least_rest(search, &mut found, 0, wanted, u64::MAX)
+    least_rest(search, &mut found, 0, wanted, limit)
 }
 
 /// The program of a chain, with its value on the row.

@@ -12,13 +12,13 @@ use std::alloc::Global;
 
 /// The edges of a graph by the node that they lead from, and what they and the rests from each node cost at least.
 #[derive(Drop)]
-pub(crate) struct Guide {
-    pub outs: Outs,
-    pub bounds: Bounds,
+pub struct Guide {
+    pub(crate) outs: Outs,
+    pub(crate) bounds: Bounds,
 }
 
 impl Guide {
-    pub fn of(
+    pub(crate) fn of(
         alloc: Global,
         prices: &Prices,
         arena: &Arena,

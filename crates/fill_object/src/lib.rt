@@ -25,4 +25,6 @@ mod spots;
 mod valued;
 mod wanted;
 
-pub use graph::{Objection, object};
+pub use graph::{Objection, guide_of, object, object_within};
+pub use guide::Guide;
+pub use row::OnRow;

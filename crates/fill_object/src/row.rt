@@ -5,10 +5,10 @@ use fill_tables::Tables;
 use fill_tokens::Prices;
 use std::alloc::Global;
 
-/// A row of a sheet, with the tables, and the arena whose sets are asked for their least trees there, by the prices. All
-/// of it is lent.
+/// A row of a sheet, which counts from 1, with the tables, and the arena whose sets and graphs are asked there, by the
+/// prices. All of it is lent.
 #[derive(Clone, Copy)]
-pub(crate) struct OnRow<'a> {
+pub struct OnRow<'a> {
     pub alloc: Global,
     pub prices: &'a Prices,
     pub arena: &'a Arena,

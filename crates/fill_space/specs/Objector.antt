@@ -1,6 +1,7 @@
 -- The programs that explain examples and answer otherwise on a row than was said, and the least of them.
-use Rattle.std.specs.Prelude.{ℕ, List, Option, None, Some}
+use Rattle.std.specs.Prelude.{ℕ, ◌<◌, List, Option, None, Some}
 use Rattle.fill_tree.specs.Chosen.{IsLeast}
+use Rattle.fill_tree.specs.Cost.{program_cost}
 use Rattle.fill_tree.specs.Meaning.{program_tree}
 use Rattle.fill_tree.specs.Tree.{Atoms}
 use Rattle.fill_tree.specs.Value.{IsValue, ProgramIs}
@@ -33,3 +34,8 @@ pub record IsObjectionOn (g : Ground) (examples : List Example) (row : ℕ) (sai
 abbrev pub ObjectionIs : Ground → List Example → ℕ → Option (List ℕ) → Option ObjectionTree → Type 0
 ObjectionIs g examples row said None = (p : Atoms) → ExplainsOn g examples p → Answers g.sheet g.tables row said p
 ObjectionIs g examples row said (Some o) = IsObjectionOn g examples row said o
+
+-- the objection to what was said, if it costs no more than the limit
+abbrev pub ObjectionWithin : Ground → List Example → ℕ → Option (List ℕ) → ℕ → Option ObjectionTree → Type 0
+ObjectionWithin g examples row said limit None = (p : Atoms) → ObjectsOn g examples row said p → limit < program_cost g.settings.profile.prices p
+ObjectionWithin g examples row said limit (Some o) = IsObjectionOn g examples row said o

@@ -5,6 +5,8 @@ use Rattle.fill_tree.specs.declared.user.Example.{Example}
 use Rattle.fill_arena.specs.Contents.{IsGraph}
 use Rattle.fill_arena.specs.Stands.{ProgramStands}
 use Rattle.fill_arena.specs.declared.entry.Entry.{Entry}
+use Rattle.fill_object.specs.Guide.{IsGuideOf}
+use Rattle.fill_object.specs.declared.guide.Guide.{Guide}
 use Rattle.fill_space.specs.Ground.{Ground, ExplainsOn, FitsOn}
 
 -- what spaces are learned over, and their arena
@@ -33,3 +35,7 @@ pub record SpaceStands (s : SpacesData) (space : ℕ) (examples : List Example) 
 -- the second space, of the later spaces, stands for each list of examples that the first one stood for
 abbrev pub Succeeds : SpacesData → SpacesData → ℕ → ℕ → Type 0
 Succeeds before now space next = (examples : List Example) → SpaceStands before space examples → SpaceStands now next examples
+
+-- the guide leads the search for objections in the space
+abbrev pub GuideStands : SpacesData → ℕ → Guide → Type 0
+GuideStands s space guide = IsGuideOf s.ground.settings.profile.prices s.arena space guide

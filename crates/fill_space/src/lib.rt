@@ -15,7 +15,7 @@ mod space;
 mod spaces;
 
 pub use fill_doubt::Shapes;
-pub use fill_object::Objection;
+pub use fill_object::{Guide, Objection};
 pub use ground::Ground;
 pub use space::Space;
 pub use spaces::Spaces;

@@ -1,8 +1,9 @@
 //! Spaces, and what is asked of each.
-ghost use Rattle.std.specs.Prelude.{◌≡◌, ◌↔◌, ◌<◌, ◌≤◌, ℕ, List as Listed, length, map, option_copied, option_map, IfOk, IsTrue, OnErr, OnOk};
+ghost use Rattle.std.specs.Prelude.{◌≡◌, ◌↔◌, ◌<◌, ◌≤◌, ◌^◌, ℕ, List as Listed, length, map, option_copied, option_map, IfOk, IfSome, IsTrue, OnErr, OnOk};
 ghost use Rattle.std.specs.List.{AllZip};
 ghost use Rattle.fill_arena.specs.Contents.{EachIn};
 ghost use Rattle.fill_arena.specs.Named.{IsNamed};
+ghost use Rattle.fill_tree.specs.Cost.{program_cost};
 ghost use Rattle.fill_tree.specs.Grammar.{AreSettings};
 ghost use Rattle.fill_tree.specs.Meaning.{program_tree};
 ghost use Rattle.fill_tree.specs.declared.user.Example.{Example};
@@ -10,8 +11,8 @@ ghost use Rattle.fill_doubt.specs.Shapes.{ShapesStand};
 ghost use Rattle.fill_space.specs.Best.{AreBestOn};
 ghost use Rattle.fill_space.specs.Doubt.{IsDoubtful};
 ghost use Rattle.fill_space.specs.Ground.{ChosenOn, ExplainsOn};
-ghost use Rattle.fill_space.specs.Objector.{ObjectionIs, objection_tree};
-ghost use Rattle.fill_space.specs.Spaces.{SpaceStands, Succeeds, no_spaces};
+ghost use Rattle.fill_space.specs.Objector.{ObjectionIs, ObjectionWithin, objection_tree};
+ghost use Rattle.fill_space.specs.Spaces.{GuideStands, SpaceStands, Succeeds, no_spaces};
 
 use crate::built::Built;
 use crate::carried::{carry_built, carry_met, known_copies};
@@ -20,7 +21,7 @@ use crate::met::Met;
 use crate::space::{Space, graphs_of, put_graphs};
 use fill_arena::{Arena, GraphId};
 use fill_doubt::Shapes;
-use fill_object::Objection;
+use fill_object::{Guide, Objection, OnRow};
 use fill_sheet::Sheet;
 use fill_tables::Tables;
 use fill_text::{List, NoMemory, Text};
@@ -144,8 +145,9 @@ impl Spaces {
         requires stands { (l : Listed Example) × SpaceStands self.now s l }
         requires first { 1 ≤ row }
         requires last { row ≤ length self.now.ground.sheet.rows }
-        ensures { let told = option_copied said.entry in IfOk result (λ found. (l : Listed Example) → SpaceStands self.now s l →
+        ensures objection { let told = option_copied said.entry in IfOk result (λ found. (l : Listed Example) → SpaceStands self.now s l →
             ObjectionIs self.now.ground l row told (option_map objection_tree found)) }
+        ensures few { IfOk result (λ found. IfSome found (λ o. program_cost self.now.ground.settings.profile.prices (program_tree o.program) < 2 ^ 64)) }
     {
         let ground = &self.ground;
         fill_object::object(
@@ -158,6 +160,46 @@ impl Spaces {
             &ground.sheet,
             &ground.tables,
         )
+    }
+
+    /// What leads the search for objections in a space, on any row.
+    pub fn guide(&self, alloc: Global, s: Space) -> Result<Guide, NoMemory>
+        requires { (l : Listed Example) × SpaceStands self.now s l }
+        ensures { IfOk result (GuideStands self.now s) }
+    {
+        let prices = &self.ground.settings.profile.prices;
+        fill_object::guide_of(alloc, prices, &self.arena, s.graph())
+    }
+
+    /// As [`Spaces::object`], if the program costs no more than the limit; none where each program that answers otherwise
+    /// costs more. The guide is that of the space.
+    pub fn object_within(
+        &self,
+        alloc: Global,
+        guide: &Guide,
+        s: Space,
+        row: u32,
+        said: Option<&Text>,
+        limit: u64,
+    ) -> Result<Option<Objection>, NoMemory>
+        requires stands { (l : Listed Example) × SpaceStands self.now s l }
+        requires first { 1 ≤ row }
+        requires last { row ≤ length self.now.ground.sheet.rows }
+        requires guide { GuideStands self.now s guide.now }
+        ensures objection { let told = option_copied said.entry in IfOk result (λ found. (l : Listed Example) → SpaceStands self.now s l →
+            ObjectionWithin self.now.ground l row told limit (option_map objection_tree found)) }
+        ensures few { IfOk result (λ found. IfSome found (λ o. program_cost self.now.ground.settings.profile.prices (program_tree o.program) < 2 ^ 64)) }
+    {
+        let ground = &self.ground;
+        let on = OnRow {
+            alloc,
+            prices: &ground.settings.profile.prices,
+            arena: &self.arena,
+            row,
+            sheet: &ground.sheet,
+            tables: &ground.tables,
+        };
+        fill_object::object_within(&on, guide, s.graph(), said, limit)
     }
 
     /// Whether the program explains the examples that the space stands for.
