@@ -8,10 +8,10 @@ use Rattle.fill_tree.specs.Value.{IsValue, ProgramIs}
 use Rattle.fill_tree.specs.declared.user.Example.{Example}
 use Rattle.fill_tree.proofs.ProgramOrder.{least_is_one}
 use Rattle.fill_arena.specs.Stands.{ProgramStands}
-use Rattle.fill_object.specs.Objector.{Answers, IsObjection}
+use Rattle.fill_object.specs.Objector.{AllDearer, Answers, IsObjection}
 use Rattle.fill_object.specs.declared.graph.Objection.{Objection}
 use Rattle.fill_space.specs.Ground.{Ground}
-use Rattle.fill_space.specs.Objector.{ObjectionIs, ObjectionTree, ObjectsOn, objection_tree}
+use Rattle.fill_space.specs.Objector.{ObjectionIs, ObjectionTree, ObjectionWithin, ObjectsOn, objection_tree}
 use Rattle.fill_space.specs.Spaces.{SpacesData, SpaceStands}
 
 -- the objection of a space's graph
@@ -28,6 +28,21 @@ object_told s space row said (Ok (Some o)) h = λ l x. record {
   value = h.value;
 }
 object_told s space row said (Err want) h = tt
+
+-- the objection of a space's graph within a limit
+pub within_told : (s : SpacesData) (space row : ℕ) (said : Option (List ℕ)) (limit : ℕ) (r : Result (Option Objection) NoMemory)
+    → IfOk r (λ found. MatchOption found (AllDearer s.ground.settings.profile.prices s.arena space s.ground.sheet s.ground.tables row said limit)
+    (IsObjection s.ground.settings.profile.prices s.arena space s.ground.sheet s.ground.tables row said))
+    → IfOk r (λ found. (l : List Example) → SpaceStands s space l → ObjectionWithin s.ground l row said limit (option_map objection_tree found))
+within_told s space row said limit (Ok None) h = λ l x p o. h p (record { stands = (x.exact p).1 o.explains; otherwise = o.otherwise })
+within_told s space row said limit (Ok (Some o)) h = λ l x. record {
+  least = record {
+    has = record { explains = (x.exact (program_tree o.program)).0 h.least.has.stands; otherwise = h.least.has.otherwise };
+    least = λ q a. h.least.least q (record { stands = (x.exact q).1 a.explains; otherwise = a.otherwise });
+  };
+  value = h.value;
+}
+within_told s space row said limit (Err want) h = tt
 
 -- what a property has is one value, or none
 value_is_one : {A : Type 0} (P : A → Type 0) (o p : Option A) → IsValue P o → IsValue P p → o ≡ p
