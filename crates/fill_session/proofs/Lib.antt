@@ -23,7 +23,9 @@ pub mod Renewing
 pub mod Replaced
 pub mod Reproduced
 pub mod Rising
+pub mod Searching
 pub mod Seen
 pub mod Spliced
 pub mod Stood
+pub mod Suggesting
 pub mod Taking

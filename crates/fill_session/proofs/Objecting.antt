@@ -100,7 +100,7 @@ module _ (g : Ground) (xs : List Example) (bs : List BranchData) (n : ℕ) (b : 
   one_doubts chosen (Some o) h Doubt x = (λ some. refl, λ doubt none. absurd (let e = none in cc))
 
 -- there is an objector exactly where the answer is in doubt
-objector_doubts : (g : Ground) (examples : List Example) (row : ℕ) (found : Option ObjectionTree) (a : Answer) → KeysDistinguish g.tables → ObjectorIs g examples row found → AnswerIs g examples row a → (found ≢ None) ↔ (a.state ≡ Doubt)
+pub objector_doubts : (g : Ground) (examples : List Example) (row : ℕ) (found : Option ObjectionTree) (a : Answer) → KeysDistinguish g.tables → ObjectorIs g examples row found → AnswerIs g examples row a → (found ≢ None) ↔ (a.state ≡ Doubt)
 objector_doubts g [] row found a keys h k = (λ some. absurd (some h), λ doubt. absurd (let e : Sure ≡ Doubt = sym k.2 ∙ doubt in cc))
 objector_doubts g (e ∷ es) row found a keys h k =
     let lists : k.0 ≡ h.0 = branches_are_one g (e ∷ es) k.0 h.0 k.2 h.4 in

@@ -11,5 +11,6 @@ pub mod Objector
 pub mod Outcome
 pub mod Renewed
 pub mod State
+pub mod Suggested
 pub mod Taken
 pub mod Timeline

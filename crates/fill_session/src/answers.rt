@@ -1,8 +1,10 @@
 //! Answers on rows, and the conditional program.
-ghost use Rattle.std.specs.Prelude.{◌≡◌, ◌≤◌, List as Listed, length, IfOk, IfSome, IsTrue, ◌↔◌, MatchOption, map, option_map};
+ghost use Rattle.std.specs.Prelude.{◌≡◌, ◌<◌, ◌≤◌, ◌^◌, List as Listed, length, IfOk, IfSome, IsTrue, ◌↔◌, MatchOption, map, option_map};
 ghost use Rattle.std.specs.List.{AllZip, flat_map};
 ghost use Rattle.fill_split.specs.Standing.{rule_of};
+ghost use Rattle.fill_tree.specs.Cost.{program_cost};
 ghost use Rattle.fill_tree.specs.Guard.{ReadsInputs};
+ghost use Rattle.fill_tree.specs.Meaning.{program_tree};
 ghost use Rattle.fill_tree.specs.Switch.{case_tree, switch_tree};
 ghost use Rattle.fill_tree.specs.declared.user.Example.{Example};
 ghost use Rattle.fill_doubt.specs.Shapes.{ShapesStand};
@@ -75,7 +77,8 @@ pub(crate) fn objector_on(
     requires held { IsHeld spaces.now present.now.examples present.now.folds present.now.branches }
     requires first { 1 ≤ row }
     requires last { row ≤ length spaces.now.ground.sheet.rows }
-    ensures { IfOk result (λ found. ObjectorIs spaces.now.ground present.now.examples row (option_map objection_tree found)) }
+    ensures objector { IfOk result (λ found. ObjectorIs spaces.now.ground present.now.examples row (option_map objection_tree found)) }
+    ensures few { IfOk result (λ found. IfSome found (λ o. program_cost spaces.now.ground.settings.profile.prices (program_tree o.program) < 2 ^ 64)) }
 {
     let shown = present.branches.as_slice();
     let folds = present.folds.branches();

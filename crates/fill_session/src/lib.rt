@@ -11,11 +11,13 @@ mod edit;
 mod error;
 mod examples;
 pub mod laws;
+mod leads;
 mod moves;
 mod present;
 mod reasons;
 mod refusal;
 mod session;
+mod suggestion;
 
 pub use answer::{Answer, State};
 pub use branch::Branch;
@@ -24,3 +26,4 @@ pub use fill_space::{Objection, Shapes};
 pub use fill_undo::{Done, Kind};
 pub use moves::{Move, Reply};
 pub use session::Session;
+pub use suggestion::Suggestion;

@@ -1,5 +1,6 @@
 //! Sessions.
-ghost use Rattle.std.specs.Prelude.{◌≡◌, ◌≢◌, ◌↔◌, ◌+◌, ◌≤◌, List as Listed, length, map, [], None, Some, Ok, Err, Result, IfOk, OnErr, IsTrue, All, option_map};
+ghost use Rattle.std.specs.Prelude.{◌≡◌, ◌≢◌, ◌↔◌, ◌+◌, ◌<◌, ◌≤◌, ◌^◌, List as Listed, length, map, [], None, Some, Ok, Err, Result, IfOk, IfSome, OnErr, IsTrue, All, option_map};
+ghost use Rattle.fill_tree.specs.Cost.{program_cost};
 ghost use Rattle.fill_tree.specs.Grammar.{AreSettings};
 ghost use Rattle.fill_tree.specs.Meaning.{program_tree};
 ghost use Rattle.fill_tree.specs.Switch.{switch_tree};
@@ -15,6 +16,7 @@ ghost use Rattle.fill_session.specs.Edits.{AreExamples};
 ghost use Rattle.fill_session.specs.Objector.{ObjectorIs};
 ghost use Rattle.fill_session.specs.Outcome.{Answers, first_reason, term};
 ghost use Rattle.fill_session.specs.State.{AreShown, IsAsBefore, IsBranch};
+ghost use Rattle.fill_session.specs.Suggested.{SuggestionIs, asked_of};
 ghost use Rattle.fill_session.specs.Timeline.{RedoIs, UndoIs, edited_by, forgotten, timeline};
 ghost use Rattle.fill_undo.specs.Moves.{no_moves};
 ghost use Rattle.fill_session.specs.declared.answer.Answer.{Answer as Answered};
@@ -26,6 +28,7 @@ use crate::compaction::{compact, is_due};
 use crate::edit::present_after;
 use crate::present::Present;
 use crate::reasons::first_reason;
+use crate::suggestion::{Suggestion, suggest};
 use crate::{Answer, Branch, EditError};
 use fill_edge::{Ledger, Steps};
 use fill_sheet::Sheet;
@@ -292,9 +295,18 @@ impl Session {
         requires last { row ≤ length self.now.spaces.ground.sheet.rows }
         ensures objector { IfOk result (λ found. ObjectorIs self.now.spaces.ground self.now.examples row (option_map objection_tree found)) }
         ensures doubtful { IfOk result (λ found. (a : Answered) → AnswerIs self.now.spaces.ground self.now.examples row a → (found ≢ None) ↔ (a.state ≡ Doubt)) }
+        ensures few { IfOk result (λ found. IfSome found (λ o. program_cost self.now.spaces.ground.settings.profile.prices (program_tree o.program) < 2 ^ 64)) }
     {
         self.spaces.tables().keeps_keys();
         objector_on(alloc, &self.spaces, &self.present, row)
+    }
+
+    /// Which row to look at next: first the rows in doubt without an answer, then that whose objector comes first by the
+    /// order of programs, of equal ones the upper one. None where no row is in doubt.
+    pub fn suggest(&self) -> Result<Option<Suggestion>, NoMemory>
+        ensures { IfOk result (λ found. SuggestionIs self.now.spaces.ground self.now.examples (option_map asked_of found)) }
+    {
+        suggest(self.alloc, self)
     }
 
     /// The conditional program; none where there is no branch.

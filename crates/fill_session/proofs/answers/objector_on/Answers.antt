@@ -81,8 +81,8 @@ object-requires-clause-stands c =
     let some = some_list s xs shown p.folds c.branches-folds.result.now c.sheet.result.now c.args.row c.in-Some.k (c.requires.held).stand (c.requires.held).rule are c.branches-folds.ensures c.in-Some.ensures in
     (some.0, fold_stands s xs shown p.folds c.branches-folds.result.now c.sheet.result.now c.args.row c.in-Some.k (c.requires.held).stand (c.requires.held).rule are c.branches-folds.ensures c.in-Some.ensures c.index-folds-k.result some.0 some.1)
 
-pub returns-in_ok-text-in-Some : goal.returns-in_ok-text-in-Some
-returns-in_ok-text-in-Some c =
+pub returns-in_ok-text-in-Some-clause-objector : goal.returns-in_ok-text-in-Some-clause-objector
+returns-in_ok-text-in-Some-clause-objector c =
     let p = c.args.present.now in
     let s = c.args.spaces.now in
     let xs = p.examples in
@@ -101,10 +101,10 @@ returns-in_ok-text-in-Some c =
     (subst (λ (sheet : SheetData). IsValue (ProgramIs sheet c.tables.result.now c.args.row program) text) c.sheet-in-Some.ensures c.in_ok-text-in-Some.ensures)) in
     objector_told g shown c.args.row k first text value s xs space are c.object.result
     (λ list at. fold_stands s xs shown p.folds c.branches-folds.result.now c.sheet.result.now c.args.row k (c.requires.held).stand (c.requires.held).rule are c.branches-folds.ensures c.in-Some.ensures c.index-folds-k.result list at)
-    (subst (λ (t : Option (List ℕ)). IfOk c.object.result (λ found. (l : List Example) → SpaceStands s space l → ObjectionIs g l c.args.row t (option_map objection_tree found))) c.as_ref.ensures.value c.object.ensures)
+    (subst (λ (t : Option (List ℕ)). IfOk c.object.result (λ found. (l : List Example) → SpaceStands s space l → ObjectionIs g l c.args.row t (option_map objection_tree found))) c.as_ref.ensures.value c.object.ensures.objection)
 
-pub returns-in-None : goal.returns-in-None
-returns-in-None c =
+pub returns-in-None-clause-objector : goal.returns-in-None-clause-objector
+returns-in-None-clause-objector c =
     let p = c.args.present.now in
     let s = c.args.spaces.now in
     let xs = p.examples in

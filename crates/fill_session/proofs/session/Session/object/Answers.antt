@@ -13,4 +13,4 @@ returns-clause-doubtful c =
     let s = c.self.inside.spaces in
     let keys : KeysDistinguish s.ground.tables = subst KeysDistinguish c.tables.ensures c.keeps_keys.ensures in
     subst (λ (v : SessionData). IfOk c.objector_on.result (λ found. (a : Answer) → AnswerIs v.spaces.ground v.examples c.args.row a → (found ≢ None) ↔ (a.state ≡ Doubt))) c.self.view_is
-    (doubts_too s.ground c.self.inside.present.examples c.args.row c.objector_on.result keys c.objector_on.ensures)
+    (doubts_too s.ground c.self.inside.present.examples c.args.row c.objector_on.result keys c.objector_on.ensures.objector)

@@ -1,0 +1,104 @@
+-- Which row to look at next: of the rows in doubt the one whose objector comes first.
+use Rattle.std.specs.Prelude.{◌≡◌, Bool, ℕ, suc, ◌<◌, ◌≤◌, ◌^◌, List, length, Option, None, Some, false, true, slice_get}
+use Rattle.std.specs.declared.cmp.Ordering.{Ordering}
+use Rattle.std.specs.declared.cmp.Ordering.TheVariants.{Less}
+use Rattle.std.specs.Ordering.{nat_cmp, ordering_then}
+use Rattle.fill_tokens.specs.declared.prices.Prices.{Prices}
+use Rattle.fill_tree.specs.Cost.{program_cost}
+use Rattle.fill_tree.specs.Meaning.{program_tree}
+use Rattle.fill_tree.specs.Order.{Before, program_cmp}
+use Rattle.fill_tree.specs.declared.user.Example.{Example}
+use Rattle.fill_space.specs.declared.ground.Ground.{Ground}
+use Rattle.fill_space.specs.Objector.{ObjectionTree, objection_tree}
+use Rattle.fill_space.specs.Spaces.{GuideStands, SpaceStands}
+use Rattle.fill_session.specs.Answers.{AnswerIs}
+use Rattle.fill_session.specs.Branches.{AreBranches, BranchData}
+use Rattle.fill_session.specs.Objector.{ObjectorIs}
+use Rattle.fill_session.specs.State.{IsBranch, SessionData}
+use Rattle.fill_session.specs.declared.answer.Answer.{Answer}
+use Rattle.fill_session.specs.declared.leads.Lead.{Lead}
+use Rattle.fill_session.specs.declared.suggestion.Suggestion.{Suggestion}
+
+-- a row, what is answered there, and who objects
+pub record Asked : Type 0 where
+  pub row : ℕ
+  pub said : Option (List ℕ)
+  pub objector : ObjectionTree
+
+-- the row is one of the sheet in doubt: this is answered there, and so is objected
+pub record IsAsked (g : Ground) (examples : List Example) (q : Asked) : Type 0 where
+  pub first : 1 ≤ q.row
+  pub last : q.row ≤ length g.sheet.rows
+  pub said : (a : Answer) × AnswerIs g examples q.row a × (a.text ≡ q.said)
+  pub objector : ObjectorIs g examples q.row (Some q.objector)
+
+abbrev pub is_silent : Option (List ℕ) → Bool
+is_silent None = true
+is_silent (Some text) = false
+
+-- a row without an answer comes first
+abbrev pub rank_of : Option (List ℕ) → ℕ
+rank_of None = 0
+rank_of (Some text) = 1
+
+-- of two rows in doubt the one without an answer comes first, then that with the earlier objector, then the upper one
+abbrev pub asked_cmp : Prices → Asked → Asked → Ordering
+asked_cmp prices p q = ordering_then (nat_cmp (rank_of p.said) (rank_of q.said)) (ordering_then (program_cmp prices p.objector.program q.objector.program) (nat_cmp p.row q.row))
+
+-- the row to look at next; none where no row is in doubt
+abbrev pub SuggestionIs : Ground → List Example → Option Asked → Type 0
+SuggestionIs g examples None = (q : Asked) → ¬ (IsAsked g examples q)
+SuggestionIs g examples (Some q) = IsAsked g examples q × ((p : Asked) → IsAsked g examples p → ¬ (asked_cmp g.settings.profile.prices p q ≡ Less))
+
+-- what the code's suggestion stands for
+abbrev pub asked_of : Suggestion → Asked
+asked_of s = record { row = s.row; said = s.answer; objector = objection_tree s.objection }
+
+-- How it is found.
+
+-- for each branch its space, and what leads the search for objections there
+pub record LeadsStand (s : SessionData) (leads : List Lead) : Type 0 where
+  pub many : (branches : List BranchData) → AreBranches s.spaces.ground s.examples branches → length leads ≡ length branches
+  pub spaces : (k : ℕ) (lead : Lead) → slice_get leads k ≡ Some lead → (list : List Example) → IsBranch s.spaces.ground s.examples (suc k) list → SpaceStands s.spaces lead.space list
+  pub guides : (k : ℕ) (lead : Lead) → slice_get leads k ≡ Some lead → GuideStands s.spaces lead.space lead.guide
+
+-- the objector of a row in doubt, if it costs no more than the limit, if there is one
+abbrev pub ObjectorWithin : Ground → List Example → ℕ → Option ℕ → Option ObjectionTree → Type 0
+ObjectorWithin g examples row limit (Some o) = ObjectorIs g examples row (Some o)
+ObjectorWithin g examples row None None = ⊥
+ObjectorWithin g examples row (Some most) None = (o : ObjectionTree) → ObjectorIs g examples row (Some o) → most < program_cost g.settings.profile.prices o.program
+
+-- the objector costs more than the limit
+abbrev pub IsOver : Prices → Option ℕ → Asked → Type 0
+IsOver prices None q = ⊥
+IsOver prices (Some most) q = most < program_cost prices q.objector.program
+
+-- no row in doubt is this one, with an answer or without one, but those whose objector costs more than the limit, if there is one
+abbrev pub NoneAsked : Ground → List Example → Bool → ℕ → Option ℕ → Type 0
+NoneAsked g examples silent row limit = (q : Asked) → IsAsked g examples q → is_silent q.said ≡ silent → q.row ≡ row → IsOver g.settings.profile.prices limit q
+
+-- the row in doubt, with an answer or without one
+pub record IsAskedAt (g : Ground) (examples : List Example) (silent : Bool) (row : ℕ) (s : Suggestion) : Type 0 where
+  pub asked : IsAsked g examples (asked_of s)
+  pub kind : is_silent s.answer ≡ silent
+  pub here : s.row ≡ row
+
+-- of the first rows those in doubt, with an answer or without one: that to look at first
+abbrev pub FirstAsked : Ground → List Example → Bool → ℕ → Option Suggestion → Type 0
+FirstAsked g examples silent rows None = (q : Asked) → IsAsked g examples q → is_silent q.said ≡ silent → q.row ≤ rows → ⊥
+FirstAsked g examples silent rows (Some s) = IsAsked g examples (asked_of s) × (is_silent s.answer ≡ silent) × (s.row ≤ rows)
+    × ((p : Asked) → IsAsked g examples p → is_silent p.said ≡ silent → p.row ≤ rows → ¬ (asked_cmp g.settings.profile.prices p (asked_of s) ≡ Less))
+
+-- the objector's cost is a number of 64 bits
+abbrev pub IsFew : Prices → Suggestion → Type 0
+IsFew prices s = program_cost prices (program_tree s.objection.program) < 2 ^ 64
+
+-- the next one comes first
+abbrev pub ComesFirst : Prices → Option Suggestion → Suggestion → Type 0
+ComesFirst prices None next = Unit {0}
+ComesFirst prices (Some held) next = Before prices (program_tree next.objection.program) (program_tree held.objection.program)
+
+-- what the objector so far costs
+abbrev pub cost_of : Prices → Option Suggestion → Option ℕ
+cost_of prices None = None
+cost_of prices (Some s) = Some (program_cost prices (program_tree s.objection.program))

@@ -1,0 +1,208 @@
+//! Which row to look at next.
+ghost use Rattle.std.specs.Prelude.{◌≡◌, ◌↔◌, ◌<◌, ◌≤◌, ◌^◌, suc, length, IfOk, IfSome, IsTrue, MatchOption, OnOk, option_map};
+ghost use Rattle.fill_tree.specs.Cost.{program_cost};
+ghost use Rattle.fill_tree.specs.Meaning.{program_tree};
+ghost use Rattle.fill_doubt.specs.Shapes.{ShapesStand};
+ghost use Rattle.fill_space.specs.Objector.{objection_tree};
+ghost use Rattle.fill_session.specs.Answers.{AnswerIs};
+ghost use Rattle.fill_session.specs.Suggested.{ComesFirst, FirstAsked, IsAskedAt, IsFew, LeadsStand, NoneAsked, ObjectorWithin, SuggestionIs, asked_of, cost_of, is_silent};
+ghost use Rattle.fill_session.specs.declared.answer.State.TheVariants.{Doubt};
+
+use crate::leads::{Lead, leads_of};
+use crate::session::Session;
+use crate::{Answer, State};
+use fill_space::{Objection, Shapes};
+use fill_text::{NoMemory, Text};
+use fill_tree::Prices;
+use std::alloc::Global;
+
+/// A row in doubt that is worth a look.
+#[derive(Debug, Drop)]
+pub struct Suggestion {
+    /// The row, which counts from 1.
+    pub row: u32,
+    /// What is answered there; none where the branch's program has no value.
+    pub answer: Option<Text>,
+    /// The least program that explains the branch's examples and answers otherwise, with its value.
+    pub objection: Objection,
+}
+
+/// Rows that are asked: those with an answer, or those without one.
+#[derive(Clone, Copy)]
+struct Asking<'a> {
+    alloc: Global,
+    session: &'a Session,
+    /// What leads the search for objectors, for each branch.
+    leads: &'a [Lead],
+    silent: bool,
+}
+
+/// Which row to look at next: first those in doubt without an answer, then that whose objector comes first; none where no
+/// row is in doubt.
+pub(crate) fn suggest(alloc: Global, session: &Session) -> Result<Option<Suggestion>, NoMemory>
+    ensures { IfOk result (λ found. SuggestionIs session.now.spaces.ground session.now.examples (option_map asked_of found)) }
+{
+    let leads = leads_of(alloc, session)?;
+    let asking = Asking {
+        alloc,
+        session,
+        leads: leads.as_slice(),
+        silent: true,
+    };
+    let silent = first_asked(&asking)?;
+    if silent.is_some() {
+        return Ok(silent);
+    }
+    first_asked(&Asking {
+        silent: false,
+        ..asking
+    })
+}
+
+/// The row in doubt to look at first.
+fn first_asked(asking: &Asking<'_>) -> Result<Option<Suggestion>, NoMemory>
+    requires { LeadsStand asking.now.session.now asking.now.leads.now }
+    ensures { let s = asking.now.session.now in IfOk result (FirstAsked s.spaces.ground s.examples asking.now.silent (length s.spaces.ground.sheet.rows)) }
+{
+    let mut shapes = Shapes::new(asking.alloc);
+    let mut best: Option<Suggestion> = None;
+    for above in 0..asking.session.sheet().rows() {
+        ask(asking, &mut shapes, above, &mut best)?;
+    }
+    Ok(best)
+}
+
+/// Asks the row below so many, and keeps it if it is to be looked at before the best so far.
+fn ask(
+    asking: &Asking<'_>,
+    shapes: &mut Shapes,
+    above: u32,
+    best: &mut Option<Suggestion>,
+) -> Result<(), NoMemory>
+    requires leads { LeadsStand asking.now.session.now asking.now.leads.now }
+    requires row { above < length asking.now.session.now.spaces.ground.sheet.rows }
+    requires small { above < 4294967295 }
+    requires shapes { ShapesStand asking.now.session.now.spaces.arena shapes.old }
+    requires first { FirstAsked asking.now.session.now.spaces.ground asking.now.session.now.examples asking.now.silent above best.old }
+    requires few { IfSome best.old (IsFew asking.now.session.now.spaces.ground.settings.profile.prices) }
+    ensures shapes { ShapesStand asking.now.session.now.spaces.arena shapes.new }
+    ensures first { OnOk result (FirstAsked asking.now.session.now.spaces.ground asking.now.session.now.examples asking.now.silent (suc above) best.new) }
+    ensures few { OnOk result (IfSome best.new (IsFew asking.now.session.now.spaces.ground.settings.profile.prices)) }
+{
+    let prices = &asking.session.spaces().settings().profile.prices;
+    let limit = limit_of(best, prices);
+    if let Some(next) = asked_on(asking, shapes, above + 1, limit)? {
+        if comes_first(best, &next, prices) {
+            *best = Some(next);
+        }
+    }
+    Ok(())
+}
+
+/// What the objector of the best row so far costs.
+fn limit_of(best: &Option<Suggestion>, prices: &Prices) -> Option<u64>
+    requires { IfSome best.now (IsFew prices.now) }
+    ensures { result ≡ cost_of prices.now best.now }
+{
+    match best {
+        Some(best) => best.objection.program.cost(prices),
+        None => None,
+    }
+}
+
+/// Whether the next row is to be looked at before the best one above it.
+fn comes_first(best: &Option<Suggestion>, next: &Suggestion, prices: &Prices) -> bool
+    requires best { IfSome best.now (IsFew prices.now) }
+    requires next { IsFew prices.now next.now }
+    ensures { IsTrue result ↔ ComesFirst prices.now best.now next.now }
+{
+    match best {
+        Some(best) => next
+            .objection
+            .program
+            .before(&best.objection.program, prices),
+        None => true,
+    }
+}
+
+/// The row, if it is in doubt and one of those that are asked, and its objector costs no more than the limit, if there is one.
+fn asked_on(
+    asking: &Asking<'_>,
+    shapes: &mut Shapes,
+    row: u32,
+    limit: Option<u64>,
+) -> Result<Option<Suggestion>, NoMemory>
+    requires leads { LeadsStand asking.now.session.now asking.now.leads.now }
+    requires first { 1 ≤ row }
+    requires last { row ≤ length asking.now.session.now.spaces.ground.sheet.rows }
+    requires shapes { ShapesStand asking.now.session.now.spaces.arena shapes.old }
+    ensures shapes { ShapesStand asking.now.session.now.spaces.arena shapes.new }
+    ensures asked { let s = asking.now.session.now in IfOk result (λ found. MatchOption found
+        (NoneAsked s.spaces.ground s.examples asking.now.silent row limit)
+        (IsAskedAt s.spaces.ground s.examples asking.now.silent row)) }
+    ensures few { IfOk result (λ found. IfSome found (IsFew asking.now.session.now.spaces.ground.settings.profile.prices)) }
+{
+    asking.session.spaces().tables().keeps_keys();
+    let answer = asking.session.answer_with(asking.alloc, shapes, row)?;
+    if !is_asked(&answer, asking.silent) {
+        return Ok(None);
+    }
+    match objector_within(asking, row, &answer, limit)? {
+        Some(objection) => Ok(Some(Suggestion {
+            row,
+            answer: answer.text,
+            objection,
+        })),
+        None => Ok(None),
+    }
+}
+
+/// Whether an answer is in doubt and one of those that are asked.
+fn is_asked(answer: &Answer, silent: bool) -> bool
+    ensures { IsTrue result ↔ ((answer.now.state ≡ Doubt) × (is_silent answer.now.text ≡ silent)) }
+{
+    match answer.state {
+        State::Doubt => is_silent(answer) == silent,
+        State::Given => false,
+        State::Sure => false,
+    }
+}
+
+/// Whether there is no text.
+fn is_silent(answer: &Answer) -> bool
+    ensures { result ≡ is_silent answer.now.text }
+{
+    match answer.text {
+        Some(_) => false,
+        None => true,
+    }
+}
+
+/// The objector of a row in doubt, if it costs no more than the limit, if there is one.
+fn objector_within(
+    asking: &Asking<'_>,
+    row: u32,
+    answer: &Answer,
+    limit: Option<u64>,
+) -> Result<Option<Objection>, NoMemory>
+    requires leads { LeadsStand asking.now.session.now asking.now.leads.now }
+    requires first { 1 ≤ row }
+    requires last { row ≤ length asking.now.session.now.spaces.ground.sheet.rows }
+    requires answer { AnswerIs asking.now.session.now.spaces.ground asking.now.session.now.examples row answer.now }
+    requires doubt { answer.now.state ≡ Doubt }
+    ensures within { let s = asking.now.session.now in IfOk result (λ found. ObjectorWithin s.spaces.ground s.examples row limit (option_map objection_tree found)) }
+    ensures few { IfOk result (λ found. IfSome found (λ o. program_cost asking.now.session.now.spaces.ground.settings.profile.prices (program_tree o.program) < 2 ^ 64)) }
+{
+    let Some(limit) = limit else {
+        return asking.session.object(asking.alloc, row);
+    };
+    let lead = &asking.leads[answer.branch as usize - 1];
+    asking.session.spaces().object_within(
+        asking.alloc,
+        &lead.guide,
+        lead.space,
+        row,
+        answer.text.as_ref(),
+        limit,
+    )
+}
