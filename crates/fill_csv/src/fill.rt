@@ -219,6 +219,15 @@ fn doubts_of(alloc: Global, page: &Page<'_>, session: &Session, rows: &[u32]) ->
     doubts
 }
 
+/// The row to look at next, if that is told and memory allows it, and 0 where there is none.
+fn next_of(page: &Page<'_>, session: &Session) -> u32 {
+    match page.doubts {
+        Doubts::Rules => session.suggest().unwrap_or(None).map_or(0, |next| next.row),
+        Doubts::Answers => 0,
+        Doubts::Untold => 0,
+    }
+}
+
 /// Learns from the sheet's column, and writes the sheet with it filled. The text of the rule is made too, where it is to be
 /// saved.
 fn write_page<O: Sink, L: Ledger>(
@@ -265,6 +274,7 @@ fn write_page<O: Sink, L: Ledger>(
                 .rule_of(alloc, session)
                 .unwrap_or(Vec::new(alloc)),
             doubts: doubts_of(alloc, page, session, &summary.counts.doubtful),
+            next: next_of(page, session),
         }),
         Err(halt) => Err(halt),
     }

@@ -24,6 +24,8 @@ pub(crate) struct Told {
     pub rule: Vec<String>,
     /// Both answers for the cells of the first rows in doubt.
     pub doubts: Vec<String>,
+    /// The row to look at next, and 0 where that is not told.
+    pub next: u32,
     /// The text of the rule, where it is to be saved and there is one.
     pub text: Option<List<u8>>,
 }
@@ -83,6 +85,9 @@ impl Told {
                 doubt_text(alloc, row.saturating_add(above), doubt.as_str()),
             );
         }
+        if self.next > 0 {
+            say_line(err, next_text(alloc, self.next.saturating_add(above)));
+        }
     }
 }
 
@@ -108,6 +113,11 @@ fn rule_text(alloc: Global, line: &str) -> Result<String, AllocError> {
 /// Both answers for the cell of a row.
 fn doubt_text(alloc: Global, row: u32, doubt: &str) -> Result<String, AllocError> {
     format!(in alloc; "fillcsv: row {row}: {doubt}\n")
+}
+
+/// The row to look at next.
+fn next_text(alloc: Global, row: u32) -> Result<String, AllocError> {
+    format!(in alloc; "fillcsv: look at row {row} next\n")
 }
 
 /// How many cells have each state.

@@ -10,6 +10,8 @@ mod moves;
 #[cfg(test)]
 mod session;
 #[cfg(test)]
+mod suggest;
+#[cfg(test)]
 mod undo;
 #[cfg(test)]
 mod want;

@@ -165,7 +165,11 @@ fn expected(row: u32, branch: u32, text: Option<&str>, state: State) -> Wanted<'
 }
 
 /// Whether the text is this one, or there is none as there is to be.
-fn is_text(alloc: Global, text: &Option<Text>, wanted: Option<&str>) -> Result<bool, NoMemory> {
+pub(crate) fn is_text(
+    alloc: Global,
+    text: &Option<Text>,
+    wanted: Option<&str>,
+) -> Result<bool, NoMemory> {
     match (text, wanted) {
         (None, None) => Ok(true),
         (Some(text), Some(wanted)) => Ok(text.same(&text_of(alloc, wanted)?)),
