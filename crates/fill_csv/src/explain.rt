@@ -4,6 +4,7 @@ ghost use Rattle.std.specs.Prelude.{◌≤◌, length};
 use crate::opening::{SheetRead, header_of};
 use fill_prose::{Named, Names, program_text, put_quoted, rule_lines};
 use fill_session::Session;
+use fill_sheet::Sheet;
 use fill_text::{NoMemory, Text};
 use fill_words::{Asked, Lookup};
 use std::alloc::Global;
@@ -81,6 +82,21 @@ impl Spoken {
         }
         Ok(line)
     }
+}
+
+/// With more characters to read a row is long: in texts of one pattern the search then takes seconds a row.
+const MOST_READ: usize = 200;
+
+/// Whether a row has many characters to read.
+pub(crate) fn is_long(sheet: &Sheet, row: u32) -> bool
+    requires first { 1 ≤ row }
+    requires last { row ≤ length sheet.now.rows }
+{
+    let mut length: usize = 0;
+    for column in sheet.inputs() {
+        length = length.saturating_add(sheet.cell(row, *column).len());
+    }
+    length > MOST_READ
 }
 
 /// Puts an answer at the end: a text in quotes, or the word `none`.

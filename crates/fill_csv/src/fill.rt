@@ -18,7 +18,7 @@ ghost use Rattle.fill_csv.specs.Said.{Says};
 ghost use Rattle.fill_csv.specs.Read.{AreParts, frame_data, read_data};
 
 use crate::clash::clashes_of;
-use crate::explain::Spoken;
+use crate::explain::{Spoken, is_long};
 use crate::head;
 use crate::opening::{SheetRead, open_sheet};
 use crate::saving::{RuleFrame, saved_text, saving_of};
@@ -195,7 +195,8 @@ fn rows_after(header: bool, records: &[Record]) -> &[Record]
     &records[start..]
 }
 
-/// What is told of the cells of the first rows in doubt, as far as memory goes. Rows count from 1, and 0 ends them.
+/// What is told of the cells of the first rows in doubt, as far as memory goes. Rows count from 1, and 0 ends them. Without
+/// being asked nothing is told where one of these rows is long, since the search could take minutes there.
 fn doubts_of(alloc: Global, page: &Page<'_>, session: &Session, rows: &[u32]) -> Vec<String>
     requires { let p = page.now in length p.rows.now ≡ length session.now.spaces.ground.sheet.rows }
 {
@@ -208,6 +209,9 @@ fn doubts_of(alloc: Global, page: &Page<'_>, session: &Session, rows: &[u32]) ->
     for row in rows {
         if *row == 0 || *row as usize > page.rows.len() {
             break;
+        }
+        if !with_rule && is_long(session.sheet(), *row) {
+            return Vec::new(alloc);
         }
         let Ok(doubt) = page.spoken.doubt_of(alloc, session, *row, with_rule) else {
             break;
