@@ -25,7 +25,7 @@ use crate::saving::{RuleFrame, saved_text, saving_of};
 use crate::stop::{MEMORY_LINE, OUTPUT_LINE, say, tell};
 use crate::told::Told;
 use fill_edge::{Cabinet, Ledger, Sink, Steps};
-use fill_filled::{Filling, Form, Refused, Summary, learn, write_filled};
+use fill_filled::{Counts, Filling, Form, Refused, Summary, learn, write_filled};
 use fill_records::Record;
 use fill_report::Halt;
 use fill_session::Session;
@@ -223,8 +223,14 @@ fn doubts_of(alloc: Global, page: &Page<'_>, session: &Session, rows: &[u32]) ->
     doubts
 }
 
+/// With more rows in doubt it is not told which one to look at next: to find it takes a second for each thousand.
+const MOST_ASKED: u32 = 1000;
+
 /// The row to look at next, if that is told and memory allows it, and 0 where there is none.
-fn next_of(page: &Page<'_>, session: &Session) -> u32 {
+fn next_of(page: &Page<'_>, session: &Session, counts: &Counts) -> u32 {
+    if counts.doubt.saturating_add(counts.nothing_in_doubt) > MOST_ASKED {
+        return 0;
+    }
     match page.doubts {
         Doubts::Rules => session.suggest().unwrap_or(None).map_or(0, |next| next.row),
         Doubts::Answers => 0,
@@ -278,7 +284,7 @@ fn write_page<O: Sink, L: Ledger>(
                 .rule_of(alloc, session)
                 .unwrap_or(Vec::new(alloc)),
             doubts: doubts_of(alloc, page, session, &summary.counts.doubtful),
-            next: next_of(page, session),
+            next: next_of(page, session, &summary.counts),
         }),
         Err(halt) => Err(halt),
     }
