@@ -4,11 +4,10 @@ use Rattle.std.specs.Prelude.{Contains}
 use Rattle.std.specs.Cmp.{IsTotalOrder}
 use Rattle.std.specs.declared.cmp.Ordering.{Ordering}
 use Rattle.std.specs.Ordering.{ordering_then}
-use Rattle.std.proofs.lemmas.Bool.{cases_lt}
 use Rattle.std.proofs.lemmas.Map.Lookups.{CmpEqualImpliesEq}
-use Rattle.std.proofs.lemmas.Option.{slice_get_within}
 use Rattle.fill_arena.specs.Contents.{SomeIn}
 use Rattle.fill_rank.specs.Sets.{SomeBelow}
+use Rattle.fill_rank.proofs.Scan.{none_below, below_split, below_left, below_here, some_below, some_in}
 use Rattle.fill_best.specs.Cheapest.{Priced, AreCheapest, TakesIn}
 use Rattle.fill_best.specs.Costs.{by_cost, linked}
 use Rattle.fill_best.specs.First.{Rises, AreFirst, IsMade}
@@ -95,27 +94,15 @@ module _ {A : Type 0} (cost : A → ℕ) (cmp : A → A → Ordering) (total : I
     Below i a = SomeBelow i items (λ y. F y a)
 
     pub scan_none : (old : List (Costed A)) → Rises (by_cost cmp) old → length old ≤ k → TakesIn cost cmp (Below 0) k old old
-    scan_none old = takes_none (Below 0) old (λ a h. let lt = h.2 in omega arith)
-
-    split_below : (i : ℕ) (x : X) → slice_get items i ≡ Some x → (a : A) → Below (i + 1) a → Below i a ⊎ F x a
-    split_below i x at a h = elim (cases_lt h.0 i) [
-      | inl less ↦ inl (h.0, h.1, less, h.3, h.4)
-      | inr past ↦
-          let lt = h.2 in
-          let e : h.0 ≡ i = omega arith in
-          let there : slice_get items i ≡ Some h.1 = subst (λ n. slice_get items n ≡ Some h.1) e h.3 in
-          let one : h.1 ≡ x = cc in
-          inr (subst (λ y. F y a) one h.4)
-    ]
+    scan_none old = takes_none (Below 0) old (none_below F items)
 
     pub scan_more : (i : ℕ) (x : X) (old mid new : List (Costed A)) → slice_get items i ≡ Some x → TakesIn cost cmp (Below i) k old mid → TakesIn cost cmp (F x) k mid new →
         TakesIn cost cmp (Below (i + 1)) k old new
-    scan_more i x old mid new at = takes_more (Below i) (F x) (Below (i + 1)) old mid new (λ a h. let lt = h.2 in (h.0, h.1, omega arith, h.3, h.4)) (λ a h. (i, x, omega arith, at, h)) (split_below i x at)
+    scan_more i x old mid new at = takes_more (Below i) (F x) (Below (i + 1)) old mid new (below_left F items i) (below_here F items i x at) (below_split F items i x at)
 
     pub scan_done : (S : A → Type 0) (i : ℕ) (old new : List (Costed A)) → ((a : A) → S a → SomeIn (λ y. F y a) items) → ((a : A) → SomeIn (λ y. F y a) items → S a) →
         length items ≤ i → TakesIn cost cmp (Below i) k old new → TakesIn cost cmp S k old new
-    scan_done S i old new to from past = takes_same (Below i) S old new (λ a h. from a (h.1, (h.0, h.3), h.4))
-        (λ a s. let h = to a s in let within = slice_get_within items h.1.0 h.0 h.1.1 in (h.1.0, h.0, omega arith, h.1.1, h.2))
+    scan_done S i old new to from past = takes_same (Below i) S old new (λ a h. from a (some_in F items i a h)) (λ a s. some_below F items i past a (to a s))
 
 -- what two parts make, each of a property
 module _ {A B D : Type 0} (R : A → A → Ordering) (S : B → B → Ordering) (T : D → D → Ordering) (totals : IsTotalOrder R × IsTotalOrder S × IsTotalOrder T) (exact : CmpEqualImpliesEq T)

@@ -1,15 +1,16 @@
 -- Lists that serve for what has a property, as more is put to them.
-use Rattle.std.proofs.Common.{◌≡◌, ◌⊎◌, ℕ, ◌+◌, ◌≤◌, List, [], ◌∷◌, ◌++◌, length, Option, Some, slice_get, inl, inr, refl, sym, subst, ◌∙◌, arith}
+use Rattle.std.proofs.Common.{◌≡◌, ◌⊎◌, ℕ, ◌+◌, ◌≤◌, List, [], ◌∷◌, ◌++◌, length, Option, Some, slice_get, inl, inr, refl, sym, subst, ◌∙◌}
 use Rattle.std.specs.declared.cmp.Ordering.{Ordering}
 use Rattle.std.specs.Cmp.{IsTotalOrder}
 use Rattle.std.proofs.Math.ListN.{set}
-use Rattle.std.proofs.lemmas.Bool.{cases_lt, cases_eq}
+use Rattle.std.proofs.lemmas.Bool.{cases_eq}
 use Rattle.std.proofs.lemmas.Option.{slice_get_within}
 use Rattle.std.proofs.lemmas.Map.Lookups.{CmpEqualImpliesEq}
 use Rattle.fill_tree.specs.Value.{IsValue}
 use Rattle.fill_arena.specs.Contents.{SomeIn}
 use Rattle.fill_arena.proofs.Lists.{get_left, get_last, get_pushed}
 use Rattle.fill_rank.specs.Sets.{SomeBelow}
+use Rattle.fill_rank.proofs.Scan.{none_below, below_split, below_left, below_here, some_below, some_in}
 use Rattle.fill_rank.proofs.Best.{at_most-itself, at_most-trans}
 use Rattle.fill_rank.proofs.Pieces.{set_here, set_apart}
 use Rattle.fill_object.specs.Leasts.{IsOrServes, Takes, Kind, valued, Gains, AreLeasts}
@@ -151,35 +152,17 @@ module _ {E A : Type 0} (k : Kind E A) (law : Laws k) where
     abbrev Below : ℕ → A → Type 0
     Below i a = SomeBelow i xs (λ x. F x a)
 
-    none_below : (a : A) → ¬ (Below 0 a)
-    none_below a h = let lt = h.2 in absurd (omega arith)
-
     pub scan_none : (old : List E) → Gains k (λ a. SomeBelow 0 xs (λ x. F x a)) old old
-    scan_none old = gains_none (Below 0) none_below old
-
-    split_below : (i : ℕ) (x : X) → slice_get xs i ≡ Some x → (a : A) → Below (i + 1) a → Below i a ⊎ F x a
-    split_below i x at a h = elim (cases_lt h.0 i) [
-      | inl less ↦ inl (h.0, h.1, less, h.3, h.4)
-      | inr past ↦
-          let lt = h.2 in
-          let same : h.0 ≡ i = omega arith in
-          let moved : slice_get xs i ≡ Some h.1 = subst (λ j. slice_get xs j ≡ Some h.1) same h.3 in
-          let one : h.1 ≡ x = cc in
-          inr (subst (λ y. F y a) one h.4)
-    ]
-
-    below_left : (i : ℕ) (a : A) → Below i a → Below (i + 1) a
-    below_left i a h = let lt = h.2 in (h.0, h.1, omega arith, h.3, h.4)
+    scan_none old = gains_none (Below 0) (none_below F xs) old
 
     pub scan_more : (i : ℕ) (x : X) → slice_get xs i ≡ Some x → (old mid new : List E) → Gains k (λ a. SomeBelow i xs (λ y. F y a)) old mid → Gains k (F x) mid new →
         Gains k (λ a. SomeBelow (i + 1) xs (λ y. F y a)) old new
     scan_more i x at old mid new first second =
-        gains_then (Below i) (F x) (Below (i + 1)) (split_below i x at) (below_left i) (λ a f. (i, x, omega arith, at, f)) old mid new first second
+        gains_then (Below i) (F x) (Below (i + 1)) (below_split F xs i x at) (below_left F xs i) (below_here F xs i x at) old mid new first second
 
     pub scan_done : (i : ℕ) → length xs ≤ i → (old new : List E) → Gains k (λ a. SomeBelow i xs (λ x. F x a)) old new → Gains k (λ a. SomeIn (λ x. F x a) xs) old new
     scan_done i past old new gains =
-        gains_same (Below i) (λ a. SomeIn (λ x. F x a) xs) (λ a h. (h.1, (h.0, h.3), h.4))
-        (λ a h. let within = slice_get_within xs h.1.0 h.0 h.1.1 in (h.1.0, h.0, omega arith, h.1.1, h.2)) old new gains
+        gains_same (Below i) (λ a. SomeIn (λ x. F x a) xs) (some_in F xs i) (some_below F xs i past) old new gains
 
 pub leasts_same : {E A : Type 0} (k : Kind E A) (P S : A → Type 0) → ((a : A) → P a → S a) → ((a : A) → S a → P a) → (xs : List E) → AreLeasts k P xs → AreLeasts k S xs
 leasts_same k P S from to xs are = record {

@@ -3,7 +3,6 @@ use Rattle.std.proofs.Common.{◌≡◌, ◌⊎◌, ◌↔◌, ℕ, ◌+◌, ◌
 use Rattle.std.specs.declared.cmp.Ordering.{Ordering}
 use Rattle.std.specs.declared.cmp.Ordering.TheVariants.{Less}
 use Rattle.std.specs.Ordering.{nat_cmp, ordering_then}
-use Rattle.std.proofs.lemmas.Option.{slice_get_within}
 use Rattle.std.proofs.lemmas.Bool.{cases_lt}
 use Rattle.fill_text.specs.Orders.{AtMost}
 use Rattle.fill_tokens.specs.declared.prices.Prices.{Prices}
@@ -15,6 +14,7 @@ use Rattle.fill_tree.proofs.Ranked.{ranked-less, ranked-less_is, ranked-equal_is
 use Rattle.fill_arena.specs.Contents.{SomeIn}
 use Rattle.fill_rank.specs.Rank.{IsBest}
 use Rattle.fill_rank.specs.Sets.{SomeBelow}
+use Rattle.fill_rank.proofs.Scan.{none_below, below_split, below_left, below_here, some_below, some_in}
 use Rattle.fill_rank.proofs.Best.{at_most-itself, at_most-trans, at_most-not_less, best_first, best_second}
 use Rattle.fill_object.specs.Chains.{AreDearer, IsCopy, IsFound, IsLeastWithin, IsLed, IsLesser, IsNoDearer, chain_rank, limit_of}
 use Rattle.fill_object.specs.Rests.{IsThen}
@@ -141,31 +141,16 @@ module _ (prices : Prices) (limit : ℕ) {X : Type 0} (F : X → Atoms → Type 
   abbrev pub Upto : ℕ → Atoms → Type 0
   Upto i p = SomeBelow i xs (λ x. F x p)
 
-  split_upto : (i : ℕ) (x : X) → slice_get xs i ≡ Some x → (p : Atoms) → Upto (i + 1) p → Upto i p ⊎ F x p
-  split_upto i x at p h = elim (cases_lt h.0 i) [
-    | inl less ↦ inl (h.0, h.1, less, h.3, h.4)
-    | inr past ↦
-        let lt = h.2 in
-        let same : h.0 ≡ i = omega arith in
-        let moved : slice_get xs i ≡ Some h.1 = subst (λ j. slice_get xs j ≡ Some h.1) same h.3 in
-        let one : h.1 ≡ x = cc in
-        inr (subst (λ y. F y p) one h.4)
-  ]
-
-  more_upto : (i : ℕ) (p : Atoms) → Upto i p → Upto (i + 1) p
-  more_upto i p h = let lt = h.2 in (h.0, h.1, omega arith, h.3, h.4)
-
   pub upto_none : IsLeastWithin prices limit (λ p. SomeBelow 0 xs (λ x. F x p)) A Absent
-  upto_none p h few = let lt = h.2 in absurd (omega arith)
+  upto_none p h few = absurd (none_below F xs p h)
 
   pub upto_more : (i : ℕ) (x : X) → slice_get xs i ≡ Some x → (a b r : Least) → IsLesser a b r →
       IsLeastWithin prices limit (λ p. SomeBelow i xs (λ y. F y p)) A a → IsLeastWithin prices (limit_of a limit) (F x) A b → IsLeastWithin prices limit (λ p. SomeBelow (i + 1) xs (λ y. F y p)) A r
   upto_more i x at a b r is h k =
-      within_lesser prices limit (Upto i) (F x) (Upto (i + 1)) A (split_upto i x at) (more_upto i) (λ p f. (i, x, omega arith, at, f)) a b r is h k
+      within_lesser prices limit (Upto i) (F x) (Upto (i + 1)) A (below_split F xs i x at) (below_left F xs i) (below_here F xs i x at) a b r is h k
 
   pub upto_done : (i : ℕ) → length xs ≤ i → (o : Least) → IsLeastWithin prices limit (λ p. SomeBelow i xs (λ x. F x p)) A o → IsLeastWithin prices limit (λ p. SomeIn (λ x. F x p) xs) A o
-  upto_done i past o h = within_same prices limit (Upto i) (λ p. SomeIn (λ x. F x p) xs) A (λ p s. (s.1, (s.0, s.3), s.4))
-      (λ p s. let within = slice_get_within xs s.1.0 s.0 s.1.1 in (s.1.0, s.0, omega arith, s.1.1, s.2)) o h
+  upto_done i past o h = within_same prices limit (Upto i) (λ p. SomeIn (λ x. F x p) xs) A (some_in F xs i) (some_below F xs i past) o h
 
 -- what was found within one limit, within another one
 pub no_dearer : (prices : Prices) (most limit : ℕ) (W A : Atoms → Type 0) (o r : Least) → IsNoDearer o limit r → (limit ≤ most) ⊎ IsFound o → IsLeastWithin prices most W A o → IsLeastWithin prices limit W A r

@@ -68,16 +68,16 @@ module _ {X A : Type 0} (F : X → A → Type 0) (xs : List X) where
   pub none_below : (a : A) → ¬ (SomeBelow 0 xs (λ x. F x a))
   none_below a h = absurd (omega (arith, h.2))
 
-  below_split : (i : ℕ) (x : X) → slice_get xs i ≡ Some x → (a : A) → SomeBelow (i + 1) xs (λ y. F y a) → SomeBelow i xs (λ y. F y a) ⊎ F x a
+  pub below_split : (i : ℕ) (x : X) → slice_get xs i ≡ Some x → (a : A) → SomeBelow (i + 1) xs (λ y. F y a) → SomeBelow i xs (λ y. F y a) ⊎ F x a
   below_split i x at a h = elim (cases_lt h.0 i) [
     | inl less ↦ inl (h.0, h.1, less, h.3, h.4)
     | inr past ↦ let lt = h.2 in inr (subst (λ y. F y a) (sym (same_item xs i h.0 x h.1 at h.3 (omega arith))) h.4)
   ]
 
-  below_left : (i : ℕ) (a : A) → SomeBelow i xs (λ y. F y a) → SomeBelow (i + 1) xs (λ y. F y a)
+  pub below_left : (i : ℕ) (a : A) → SomeBelow i xs (λ y. F y a) → SomeBelow (i + 1) xs (λ y. F y a)
   below_left i a h = let lt = h.2 in (h.0, h.1, omega arith, h.3, h.4)
 
-  below_here : (i : ℕ) (x : X) → slice_get xs i ≡ Some x → (a : A) → F x a → SomeBelow (i + 1) xs (λ y. F y a)
+  pub below_here : (i : ℕ) (x : X) → slice_get xs i ≡ Some x → (a : A) → F x a → SomeBelow (i + 1) xs (λ y. F y a)
   below_here i x at a h = (i, x, omega arith, at, h)
 
   pub some_below : (i : ℕ) → length xs ≤ i → (a : A) → SomeIn (λ y. F y a) xs → SomeBelow i xs (λ y. F y a)
