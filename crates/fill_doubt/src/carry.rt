@@ -68,7 +68,7 @@ fn put_bound(found: &mut Positions, bounds: &[usize], i: usize) -> Result<(), No
 }
 
 /// Puts the values of the places in the text.
-fn put_asked(
+pub(crate) fn put_asked(
     found: &mut Positions,
     places: &[Place],
     text: &Text,

@@ -9,7 +9,7 @@ ghost use Rattle.fill_doubt.specs.Read.{IsReadIn};
 ghost use Rattle.fill_doubt.specs.Shapes.{IsShapeOf, ShapesStand};
 
 use crate::answers::{Pieces, Positions};
-use crate::carry::carry;
+use crate::carry::{carry, put_asked};
 use crate::known::Known;
 use crate::read::Read;
 use crate::row::OnRow;
@@ -22,8 +22,12 @@ use fill_shapes::laws::values_are_stretched;
 use fill_text::{NoMemory, Text};
 use std::alloc::Global;
 
+/// How many characters a text has at most whose shape is looked at. A longer one has few twins, and lists of all that its
+/// tokens span would take more memory than the text.
+const LONG: usize = 8_192;
+
 /// Positions of the set's places in the text: two answers where few will do, and else all of them. What they take is found
-/// once for all texts of a shape.
+/// once for all texts of a shape; of a long text each place is asked, and nothing is kept.
 pub(crate) fn positions_of<'a>(
     on: &OnRow<'a>,
     known: &mut Known<'a>,
@@ -37,6 +41,9 @@ pub(crate) fn positions_of<'a>(
     ensures sound { IfOk result (λ found. (o : Option ℕ) → PositionsHave found o → PlaceGives on.now.arena.now s text.now o) }
     ensures all { IfOk result (λ found. few ≡ false → (o : Option ℕ) → PlaceGives on.now.arena.now s text.now o → PositionsHave found o) }
 {
+    if text.len() > LONG {
+        return long_positions(on, s, text, few);
+    }
     let n = known.number_of(on.alloc, text)?;
     shape_positions(
         on.alloc,
@@ -46,6 +53,22 @@ pub(crate) fn positions_of<'a>(
         &known.texts[n],
         &mut known.shapes,
     )
+}
+
+/// The same of a long text, by asking one place after the other.
+fn long_positions(
+    on: &OnRow<'_>,
+    s: PlaceSet,
+    text: &Text,
+    few: bool,
+) -> Result<Positions, NoMemory>
+    requires set { IsPlaceSet on.now.arena.now s }
+    ensures sound { IfOk result (λ found. (o : Option ℕ) → PositionsHave found o → PlaceGives on.now.arena.now s text.now o) }
+    ensures all { IfOk result (λ found. few ≡ false → (o : Option ℕ) → PlaceGives on.now.arena.now s text.now o → PositionsHave found o) }
+{
+    let mut found = Positions::new(on.alloc);
+    put_asked(&mut found, on.arena.places(s), text, few)?;
+    Ok(found)
 }
 
 fn shape_positions(

@@ -114,6 +114,9 @@ fn meet_walks(
         ys: ys.as_slice(),
     };
     let edges = pair_edges(alloc, arena, graphs, nodes)?;
+    // Their room is for what comes now.
+    drop(xs);
+    drop(ys);
     trim(alloc, nodes, edges.as_slice())
 }
 

@@ -1,14 +1,14 @@
 //! Conditions on rows, and rules for all rows.
 use crate::names::{Names, put_number};
-use crate::places::put_seq;
+use crate::places::{put_seq, put_tokens};
 use crate::programs::put_program;
+use fill_tokens::Token;
 use fill_tree::{Case, Guard, Literal, Switch};
 use std::alloc::{AllocError, Global};
 
 /// A rule in plain English, a line for each of its cases, without line ends.
 ///
-/// `from the last capital to the end of Name, " (", City, ")"` takes a piece of one cell, a text, another cell and a
-/// text. A line that is not for all rows says first for which: `where Name has "@": ..` or `else: ..`.
+/// `Name from the last capital on, " (", City, ")"` takes a piece of one cell, a text, another cell and a text. A line that is not for all rows says first for which: `where Name has "@": ..` or `else: ..`.
 pub fn rule_lines(
     alloc: Global,
     switch: &Switch,
@@ -51,6 +51,25 @@ fn put_guard(to: &mut String, guard: &Guard, names: Names<'_>) -> Result<(), All
 /// Puts a test of a cell at the end.
 fn put_literal(to: &mut String, literal: &Literal, names: Names<'_>) -> Result<(), AllocError> {
     names.put_column(to, literal.column)?;
+    let seq = &literal.seq;
+    if literal.least == 1 && seq.len() > 1 {
+        if matches!(seq.token(0), Token::Start) {
+            to.push_str(if literal.negated {
+                " does not begin with "
+            } else {
+                " begins with "
+            })?;
+            return put_tokens(to, seq, 1, seq.len());
+        }
+        if matches!(seq.token(seq.len() - 1), Token::End) {
+            to.push_str(if literal.negated {
+                " does not end with "
+            } else {
+                " ends with "
+            })?;
+            return put_tokens(to, seq, 0, seq.len() - 1);
+        }
+    }
     to.push_str(match (literal.least, literal.negated) {
         (1, false) => " has ",
         (1, true) => " has no ",
@@ -61,5 +80,5 @@ fn put_literal(to: &mut String, literal: &Literal, names: Names<'_>) -> Result<(
         put_number(to, u32::from(literal.least))?;
         to.push_str(" of ")?;
     }
-    put_seq(to, &literal.seq)
+    put_seq(to, seq)
 }

@@ -3,6 +3,7 @@
 
 mod guards;
 mod names;
+mod pieces;
 mod places;
 mod programs;
 mod quotes;

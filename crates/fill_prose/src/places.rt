@@ -63,7 +63,7 @@ fn put_counted(to: &mut String, count: i32) -> Result<(), AllocError> {
 }
 
 /// Puts which match of a sequence is meant at the end.
-fn put_nth(to: &mut String, count: i32, seq: &Seq) -> Result<(), AllocError> {
+pub(crate) fn put_nth(to: &mut String, count: i32, seq: &Seq) -> Result<(), AllocError> {
     to.push_str("the ")?;
     put_ordinal(to, count)?;
     to.push_str(" ")?;
@@ -71,7 +71,7 @@ fn put_nth(to: &mut String, count: i32, seq: &Seq) -> Result<(), AllocError> {
 }
 
 /// Puts an ordinal at the end, from the back where it is negative.
-fn put_ordinal(to: &mut String, count: i32) -> Result<(), AllocError> {
+pub(crate) fn put_ordinal(to: &mut String, count: i32) -> Result<(), AllocError> {
     match count {
         1 => to.push_str("first"),
         2 => to.push_str("second"),
@@ -88,9 +88,19 @@ fn put_ordinal(to: &mut String, count: i32) -> Result<(), AllocError> {
 
 /// Puts a sequence of tokens at the end.
 pub(crate) fn put_seq(to: &mut String, seq: &Seq) -> Result<(), AllocError> {
-    for i in 0..seq.len() {
-        if i > 0 {
-            to.push_str(" and ")?;
+    put_tokens(to, seq, 0, seq.len())
+}
+
+/// Puts some tokens of a sequence at the end, those from one place to before another.
+pub(crate) fn put_tokens(
+    to: &mut String,
+    seq: &Seq,
+    start: usize,
+    end: usize,
+) -> Result<(), AllocError> {
+    for i in start..end.min(seq.len()) {
+        if i > start {
+            to.push_str(" then ")?;
         }
         to.push_str(noun(seq.token(i)))?;
     }
@@ -108,9 +118,9 @@ fn noun(token: Token) -> &'static str {
         Token::Alpha => "run of letters",
         Token::Word => "word",
         Token::Space => "space",
-        Token::NonSpace => "run without space",
-        Token::NonDigit => "run without digit",
-        Token::NonAlpha => "run without letter",
+        Token::NonSpace => "block without spaces",
+        Token::NonDigit => "block without digits",
+        Token::NonAlpha => "block without letters",
         Token::Newline => "line end",
         _ => sign(token),
     }

@@ -1,11 +1,11 @@
 //! Programs.
 use crate::names::{Names, put_number};
-use crate::places::{put_end, put_start};
+use crate::pieces::Piece;
 use crate::quotes::put_quoted;
 use fill_tree::{Atom, Program, Select, Source};
 use std::alloc::{AllocError, Global};
 
-/// A program in plain English, as `from the last capital to the end of Name, " (", City, ")"`.
+/// A program in plain English, as `Name from the last capital on, " (", City, ")"`.
 pub fn program_text(
     alloc: Global,
     program: &Program,
@@ -64,13 +64,24 @@ fn put_atom(to: &mut String, atom: &Atom, names: Names<'_>) -> Result<(), AllocE
     match atom {
         Atom::Const(text) => put_quoted(to, text.as_slice()),
         Atom::Whole(source) => put_source(to, source, names),
-        Atom::Sub(source, start, end) => {
-            to.push_str("from ")?;
-            put_start(to, start)?;
-            to.push_str(" to ")?;
-            put_end(to, end)?;
+        Atom::Sub(source, start, end) => put_piece(to, source, Piece::of(start, end), names),
+    }
+}
+
+/// Puts a piece of a source's text at the end.
+#[cycle(put)]
+fn put_piece(
+    to: &mut String,
+    source: &Source,
+    piece: Piece<'_>,
+    names: Names<'_>,
+) -> Result<(), AllocError> {
+    match source {
+        Source::Col(column) => piece.put_of_column(to, *column, names),
+        Source::Select(select) => {
+            piece.put(to)?;
             to.push_str(" of ")?;
-            put_source(to, source, names)
+            put_select(to, select, names)
         }
     }
 }

@@ -43,17 +43,20 @@ fn renumber(alloc: Global, kept: &[bool], edges: &[Edge]) -> Result<Trimmed, NoM
     let ranks = ranks(alloc, kept)?;
     let edges = kept_edges(alloc, kept, ranks.as_slice(), edges)?;
     Ok(Trimmed {
-        nodes: ranks[kept.len()],
+        nodes: ranks[kept.len()] as usize,
         edges,
     })
 }
 
-/// How many nodes before each one are kept, and how many of all.
-fn ranks(alloc: Global, kept: &[bool]) -> Result<Vec<usize>, NoMemory>
+/// How many nodes before each one are kept, and how many of all: in 32 bits, since a product has many nodes.
+fn ranks(alloc: Global, kept: &[bool]) -> Result<Vec<u32>, NoMemory>
     ensures { IfOk result (λ ranks. AreRanks kept.now ranks.items) }
 {
+    let Ok(_most) = u32::try_from(kept.len()) else {
+        return Err(NoMemory);
+    };
     let mut ranks = Vec::with_capacity(alloc, kept.len().saturating_add(1))?;
-    let mut count = 0;
+    let mut count: u32 = 0;
     for stays in kept {
         ranks.push(count)?;
         if *stays {
@@ -68,7 +71,7 @@ fn ranks(alloc: Global, kept: &[bool]) -> Result<Vec<usize>, NoMemory>
 fn kept_edges(
     alloc: Global,
     kept: &[bool],
-    ranks: &[usize],
+    ranks: &[u32],
     edges: &[Edge],
 ) -> Result<List<Edge>, NoMemory>
     requires ranks { AreRanks kept.now ranks.now }
@@ -86,7 +89,7 @@ fn kept_edges(
 fn push_kept(
     made: &mut List<Edge>,
     kept: &[bool],
-    ranks: &[usize],
+    ranks: &[u32],
     edge: Edge,
 ) -> Result<(), NoMemory>
     requires ranks { AreRanks kept.now ranks.now }
@@ -101,8 +104,8 @@ fn push_kept(
         return Ok(());
     }
     made.push(Edge {
-        from: ranks[edge.from],
-        to: ranks[edge.to],
+        from: ranks[edge.from] as usize,
+        to: ranks[edge.to] as usize,
         atoms: edge.atoms,
     })
 }

@@ -10,13 +10,33 @@ fn constant(alloc: Global, text: &str) -> Result<Atom, Fail> {
     Ok(Atom::Const(Text::from_utf8(alloc, text.as_bytes())?))
 }
 
-/// `from the last capital to the end of Name, " (", City, ")"`.
+/// `Name from the last capital on, " (", City, ")"`.
 fn label(alloc: Global) -> Result<Program, Fail> {
     let mut atoms = List::new(alloc);
     let last_capital = Place::Pos(Seq::empty(), Seq::one(Token::Upper), -1);
     atoms.push(Atom::Sub(Source::Col(1), last_capital, Place::CPos(-1)))?;
     atoms.push(constant(alloc, " (\"\n")?)?;
     atoms.push(Atom::Whole(Source::Col(2)))?;
+    Ok(Program { atoms })
+}
+
+/// Pieces of a cell, each told in another way.
+fn pieces(alloc: Global) -> Result<Program, Fail> {
+    let none = Seq::empty();
+    let digits = Seq::one(Token::Digits);
+    let space = Seq::one(Token::Space);
+    let block = Seq::two(Token::Space, Token::NonSpace);
+    let mut atoms = List::new(alloc);
+    for (start, end) in [
+        (Place::Pos(none, digits, 1), Place::Pos(digits, none, 1)),
+        (Place::Pos(space, none, -2), Place::Pos(block, none, -2)),
+        (Place::CPos(0), Place::CPos(1)),
+        (Place::CPos(-4), Place::CPos(-1)),
+        (Place::CPos(0), Place::Pos(none, Seq::one(Token::Hyphen), 1)),
+        (Place::Pos(Seq::one(Token::At), none, 1), Place::CPos(-1)),
+    ] {
+        atoms.push(Atom::Sub(Source::Col(1), start, end))?;
+    }
     Ok(Program { atoms })
 }
 
@@ -82,7 +102,15 @@ fn rules_are_read_as_english(rt: HostRuntime) -> Result<(), Fail> {
     };
     assert_eq!(rt;
         lines_of(alloc, &one)?.as_str(),
-        "from the last capital to the end of Name, \" (\\\"\\n\", City\n"
+        "Name from the last capital on, \" (\\\"\\n\", City\n"
+    );
+    let pieces = Switch {
+        cases: List::new(alloc),
+        last: pieces(alloc)?,
+    };
+    assert_eq!(rt;
+        lines_of(alloc, &pieces)?.as_str(),
+        "the first number of Name, the block without spaces right after the second to last space of Name, the first character of Name, the last 3 characters of Name, Name before the first \"-\", Name after the first \"@\"\n"
     );
     let mut cases = List::new(alloc);
     cases.push(Case {
@@ -100,7 +128,7 @@ fn rules_are_read_as_english(rt: HostRuntime) -> Result<(), Fail> {
     };
     assert_eq!(rt;
         lines_of(alloc, &two)?.as_str(),
-        "where City has start and \"@\" and City has fewer than 2 of start and \"@\": column 2 of months where key 1 is (from after the first \"-\" to before the 4th to last \"-\" and word right after number of column 3)\nelse: nothing\n"
+        "where City begins with \"@\" and City has fewer than 2 of start then \"@\": column 2 of months where key 1 is (from after the first \"-\" to before the 4th to last \"-\" then word right after number of column 3)\nelse: nothing\n"
     );
     Ok(())
 }
