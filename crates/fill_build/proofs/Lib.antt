@@ -6,4 +6,5 @@ pub mod Items
 pub mod Lists
 pub mod Readers
 pub mod Together
+pub mod Twins
 pub mod Walks

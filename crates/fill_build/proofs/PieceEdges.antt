@@ -1,5 +1,5 @@
 -- The edges of pieces, put one after the other.
-use Rattle.std.proofs.Common.{◌≡◌, ℕ, ◌+◌, ◌<◌, ◌≤◌, ◌⊎◌, inl, inr, List, [], ◌∷◌, ◌++◌, length, take, drop, Some, slice_get, slice_range, sym, ap, ◌∙◌, subst, arith}
+use Rattle.std.proofs.Common.{◌≡◌, ℕ, ◌+◌, ◌<◌, ◌≤◌, ◌⊎◌, inl, inr, List, [], ◌∷◌, ◌++◌, length, Option, Some, None, slice_get, slice_range, refl, sym, ap, ◌∙◌, subst, arith}
 use Rattle.std.proofs.lemmas.Bool.{cases_lt}
 use Rattle.fill_tree.specs.Tree.{AtomTree}
 use Rattle.fill_arena.specs.Contents.{SomeIn, Extends}
@@ -10,10 +10,9 @@ use Rattle.fill_arena.specs.declared.entry.Entry.{Entry}
 use Rattle.fill_arena.specs.declared.entry.Entry.TheVariants as kind
 use Rattle.fill_arena.proofs.Lists.{extends_on, extends_same, get_pushed}
 use Rattle.fill_sources.specs.declared.row.OnRow.{OnRow}
-use Rattle.fill_build.specs.Pieces.{AreItemsOf, PieceAtom, piece_text}
-use Rattle.fill_build.specs.Edges.{AreAtomsOf, EdgesSoFar, IsCovered, IsPieceEdge, IsPut}
-use Rattle.fill_build.specs.declared.piece.Piece.{Piece}
-use Rattle.fill_build.proofs.Lists.{each_empty, each_pushed, is_empty, piece_range, some_empty, some_last, some_more}
+use Rattle.fill_build.specs.Pieces.{AreItemsOf, PieceAtom}
+use Rattle.fill_build.specs.Edges.{AreAtomsOf, EdgesSoFar, IsBetween, IsCovered, IsPieceEdge, IsPut, IsSetOf}
+use Rattle.fill_build.proofs.Lists.{each_empty, each_pushed, is_empty, some_empty, some_last, some_more}
 
 one_atoms : (xs ys : List AtomItem) → Some (kind.Atoms xs) ≡ Some (kind.Atoms ys) → xs ≡ ys
 one_atoms xs ys e = cc
@@ -74,14 +73,9 @@ module _ (on : OnRow) (out : List ℕ) where
           };
         }
 
-    module _ (i width : ℕ) (p : Piece) (text : p.text.now ≡ out) (from : p.from ≡ i) (wide : p.width ≡ width + 1) (low : i + (width + 1) ≤ length out) where
-      piece_is : slice_range out i (i + (width + 1)) ≡ piece_text p
-      piece_is =
-          let here : piece_text p ≡ take p.width (drop i out) = subst (λ t. piece_text p ≡ take p.width (drop i t)) text (ap (λ n. take p.width (drop n p.text.now)) from) in
-          piece_range out i (width + 1) ∙ sym (here ∙ ap (λ n. take n (drop i out)) wide)
-
+    module _ (i width : ℕ) (low : i + (width + 1) ≤ length out) where
       covered_more : (e : Edge) (edges : List Edge) (f t : ℕ) → IsCovered on out edges f t → IsCovered on out (edges ++ e ∷ []) f t
-      covered_more e edges f t h = elim h [ inl s ↦ inl (some_more (λ (x : Edge). (x.from ≡ f) × (x.to ≡ t)) edges e s) | inr none ↦ inr none ]
+      covered_more e edges f t h = elim h [ inl s ↦ inl (some_more (IsBetween f t) edges e s) | inr none ↦ inr none ]
 
       -- whether the piece is the one at hand
       which_piece : (f t : ℕ) → (f < i) ⊎ ((f ≡ i) × (t ≤ i + (width + 1))) → ((f < i) ⊎ ((f ≡ i) × (t ≤ i + width))) ⊎ ((f ≡ i) × (t ≡ i + (width + 1)))
@@ -90,7 +84,7 @@ module _ (on : OnRow) (out : List ℕ) where
         | inr at ↦ let end = at.1 in elim (cases_lt (i + width) t) [ inl past ↦ inr (at.0, omega arith) | inr le ↦ inl (inr (at.0, le)) ]
       ]
 
-      none_put : (edges : List Edge) → EdgesSoFar on out i width b edges → ((a : AtomTree) → PieceAtom on (piece_text p) a → ⊥) → EdgesSoFar on out i (width + 1) c edges
+      none_put : (edges : List Edge) → EdgesSoFar on out i width b edges → ((a : AtomTree) → PieceAtom on (slice_range out i (i + (width + 1))) a → ⊥) → EdgesSoFar on out i (width + 1) c edges
       none_put edges s none =
           record {
             each = λ k e h. edge_stays e (s.each k e h);
@@ -98,13 +92,14 @@ module _ (on : OnRow) (out : List ℕ) where
             ordered = s.ordered;
             covers = λ f t up le h. elim (which_piece f t h) [
               | inl old ↦ s.covers f t up le old
-              | inr at ↦ inr (λ a g. none a (subst (λ w. PieceAtom on w a) (ap (λ m. slice_range out m t) at.0 ∙ (ap (slice_range out i) at.1 ∙ piece_is)) g))
+              | inr at ↦ inr (λ a g. none a (subst (λ w. PieceAtom on w a) (ap (λ m. slice_range out m t) at.0 ∙ ap (slice_range out i) at.1) g))
             ];
           }
 
-      one_put : (old : List Edge) (e : Edge) → EdgesSoFar on out i width b old → e.from ≡ i → e.to ≡ i + (width + 1) → AreAtomsOf on c (piece_text p) e.atoms → EdgesSoFar on out i (width + 1) c (old ++ e ∷ [])
+      one_put : (old : List Edge) (e : Edge) → EdgesSoFar on out i width b old → e.from ≡ i → e.to ≡ i + (width + 1) → AreAtomsOf on c (slice_range out i (i + (width + 1))) e.atoms
+          → EdgesSoFar on out i (width + 1) c (old ++ e ∷ [])
       one_put old e s start end atoms =
-          let same : piece_text p ≡ slice_range out e.from e.to = sym piece_is ∙ (ap (λ m. slice_range out m (i + (width + 1))) (sym start) ∙ ap (slice_range out e.from) (sym end)) in
+          let same : slice_range out i (i + (width + 1)) ≡ slice_range out e.from e.to = ap (λ m. slice_range out m (i + (width + 1))) (sym start) ∙ ap (slice_range out e.from) (sym end) in
           let is : IsPieceEdge on out c e = record {
             onward = omega arith;
             within = omega arith;
@@ -125,14 +120,14 @@ module _ (on : OnRow) (out : List ℕ) where
             ];
             covers = λ f t up le h. elim (which_piece f t h) [
               | inl o' ↦ covered_more e old f t (s.covers f t up le o')
-              | inr at ↦ inl (some_last (λ (x : Edge). (x.from ≡ f) × (x.to ≡ t)) old e (start ∙ sym at.0, end ∙ sym at.1))
+              | inr at ↦ inl (some_last (IsBetween f t) old e (start ∙ sym at.0, end ∙ sym at.1))
             ];
           }
 
-      pub edges_put : (old new : List Edge) → EdgesSoFar on out i width b old → IsPut on c p old new → EdgesSoFar on out i (width + 1) c new
-      edges_put old new s put = elim put [
-        | inl none ↦ subst (EdgesSoFar on out i (width + 1) c) (sym none.0) (none_put old s none.1)
-        | inr one ↦
-            let to : one.0.to ≡ i + (width + 1) = (let a = one.3 in omega arith) in
-            subst (EdgesSoFar on out i (width + 1) c) (sym one.1) (one_put old one.0 s (one.2 ∙ from) to one.4)
-      ]
+      -- the next edge of a node is put, with the set of its piece
+      pub edges_put : (set : Option ℕ) (old new : List Edge) → EdgesSoFar on out i width b old → IsSetOf on c (slice_range out i (i + (width + 1))) set → IsPut i (i + (width + 1)) set old new
+          → EdgesSoFar on out i (width + 1) c new
+      edges_put None old new s none put = subst (EdgesSoFar on out i (width + 1) c) (sym put) (none_put old s none)
+      edges_put (Some n) old new s atoms put =
+          let e : Edge = record { from = i; to = i + (width + 1); atoms = n } in
+          subst (EdgesSoFar on out i (width + 1) c) (sym put) (one_put old e s refl refl atoms)

@@ -38,30 +38,31 @@ pub(crate) fn piece_atoms<'a>(
     Ok(items)
 }
 
-/// The constant, where the piece may be one, with room for so many atoms that read it. An arena keeps a set's list with the
-/// room that it was given.
+/// The constant, where the piece may be one, in a list with room for the items of so many hits: one for each hit, so the set has
+/// at most so many and the constant, and one more for each hit that is a whole text. An arena keeps a set's list with the room
+/// that it was given.
 fn piece_constants(
     alloc: Global,
     piece: &Piece<'_>,
-    readers: usize,
+    hits: usize,
 ) -> Result<List<AtomItem>, NoMemory>
     requires { IsWithin piece.now }
     ensures { IfOk result (AreConstants piece.now) }
 {
     piece.text.keeps_scalars();
-    let mut items = List::with_capacity(alloc, room_for(piece.constant, readers))?;
+    let mut items = List::with_capacity(alloc, room_for(piece.constant, hits))?;
     if piece.constant {
         items.push(AtomItem::Const(piece.text.piece(piece.from, piece.from + piece.width)?))?;
     }
     Ok(items)
 }
 
-/// How many items a set of so many readers has, and a constant, where that is one.
-fn room_for(constant: bool, readers: usize) -> usize {
+/// An item for each hit, and one for the constant, where there is one.
+fn room_for(constant: bool, hits: usize) -> usize {
     if constant {
-        readers.saturating_add(1)
+        hits.saturating_add(1)
     } else {
-        readers
+        hits
     }
 }
 

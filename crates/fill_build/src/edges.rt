@@ -1,17 +1,21 @@
 //! The edges of the pieces of the example's text.
-ghost use Rattle.std.specs.Prelude.{◌≡◌, ◌+◌, ◌<◌, ◌≤◌, length, IfOk, OnOk};
+//!
+//! The set of a piece hangs on the piece's text alone, so the set of each text is made once.
+ghost use Rattle.std.specs.Prelude.{◌≡◌, ◌+◌, ◌≤◌, length, IfOk, OnOk};
 ghost use Rattle.fill_arena.specs.Contents.{Extends};
 ghost use Rattle.fill_sources.specs.Gives.{IsOnRow};
 ghost use Rattle.fill_sources.specs.Sets.{AreKnown, texts_of};
-ghost use Rattle.fill_build.specs.Edges.{EdgesSoFar, IsPut};
+ghost use Rattle.fill_build.specs.Edges.{EdgesSoFar, IsPut, IsSetBetween, IsSetOf, TakesEdges};
 ghost use Rattle.fill_build.specs.Hits.{AreHits};
-ghost use Rattle.fill_build.specs.Pieces.{IsPiece, piece_rest};
+ghost use Rattle.fill_build.specs.Nodes.{IsNode};
+ghost use Rattle.fill_build.specs.Pieces.{IsPiece, piece_rest, piece_text};
 
 use crate::atoms::piece_atoms;
 use crate::constants::constant_width;
 use crate::hits::{Hit, find_hits, narrow};
+use crate::node::{Node, find_twin};
 use crate::piece::Piece;
-use fill_arena::{Arena, Edge};
+use fill_arena::{Arena, AtomSet, Edge};
 use fill_sources::{Known, OnRow};
 use fill_text::{List, NoMemory, Text};
 use std::alloc::Global;
@@ -34,7 +38,9 @@ pub(crate) fn piece_edges<'a>(
 {
     let mut edges = List::new(alloc);
     for from in 0..text.len() {
-        put_edges_from(alloc, on, known, arena, text, from, &mut edges)?;
+        let twin = find_twin(text.as_slice(), from);
+        let node = Node { text, from, twin };
+        put_edges_from(alloc, on, known, arena, &node, &mut edges)?;
     }
     Ok(edges)
 }
@@ -45,64 +51,124 @@ fn put_edges_from<'a>(
     on: &OnRow<'a>,
     known: &mut Known<'a>,
     arena: &mut Arena,
-    text: &Text,
-    from: usize,
+    node: &Node<'_>,
     edges: &mut List<Edge>,
 ) -> Result<(), NoMemory>
     requires on { IsOnRow on.now }
     requires known { AreKnown on.now arena.old known.old }
-    requires short { length text.now ≤ 100 }
-    requires within { from < length text.now }
-    requires state { EdgesSoFar on.now text.now from 0 arena.old edges.old }
-    ensures state { OnOk result (EdgesSoFar on.now text.now (from + 1) 0 arena.new edges.new) }
+    requires node { IsNode node.now }
+    requires state { EdgesSoFar on.now node.now.text.now node.now.from 0 arena.old edges.old }
+    ensures state { OnOk result (EdgesSoFar on.now node.now.text.now (node.now.from + 1) 0 arena.new edges.new) }
     ensures known { OnOk result (AreKnown on.now arena.new known.new) }
     ensures kept { Extends arena.old arena.new }
 {
-    let rest = &text.as_slice()[from..];
-    let constants = constant_width(on.settings.constants, rest);
-    let mut hits = find_hits(alloc, known, rest)?;
-    for done in 0..rest.len() {
+    take_edges(node, edges)?;
+    make_edges(alloc, on, known, arena, node, edges)
+}
+
+/// Puts the edges of the pieces that begin at the node's twin too: each with the set that the twin's piece has.
+fn take_edges(node: &Node<'_>, edges: &mut List<Edge>) -> Result<(), NoMemory>
+    requires { IsNode node.now }
+    ensures { OnOk result (TakesEdges node.now node.now.twin.run edges.old edges.new) }
+{
+    let twin = node.twin;
+    for done in 0..twin.run {
         let width = done + 1;
-        narrow(&mut hits, width);
-        let constant = width <= constants;
-        let piece = Piece {
-            text,
-            from,
-            width,
-            constant,
-        };
-        put_edge(alloc, on, known, arena, &piece, hits.as_slice(), edges)?;
+        let atoms = set_between(edges.as_slice(), twin.from, twin.from + width);
+        put_edge(edges, node.from, node.from + width, atoms)?;
     }
     Ok(())
 }
 
-/// Puts the piece's edge, where some atom gives the piece.
-fn put_edge<'a>(
+/// Puts the edges of the pieces that are longer than the run of the node's twin.
+fn make_edges<'a>(
+    alloc: Global,
+    on: &OnRow<'a>,
+    known: &mut Known<'a>,
+    arena: &mut Arena,
+    node: &Node<'_>,
+    edges: &mut List<Edge>,
+) -> Result<(), NoMemory>
+    requires on { IsOnRow on.now }
+    requires known { AreKnown on.now arena.old known.old }
+    requires node { IsNode node.now }
+    requires state { EdgesSoFar on.now node.now.text.now node.now.from node.now.twin.run arena.old edges.old }
+    ensures state { OnOk result (EdgesSoFar on.now node.now.text.now (node.now.from + 1) 0 arena.new edges.new) }
+    ensures known { OnOk result (AreKnown on.now arena.new known.new) }
+    ensures kept { Extends arena.old arena.new }
+{
+    let run = node.twin.run;
+    let rest = &node.text.as_slice()[node.from..];
+    if rest.len() <= run {
+        return Ok(());
+    }
+    let constants = constant_width(on.settings.constants, rest);
+    let mut hits = find_hits(alloc, known, rest)?;
+    for done in run..rest.len() {
+        let width = done + 1;
+        narrow(&mut hits, width);
+        let piece = Piece {
+            text: node.text,
+            from: node.from,
+            width,
+            constant: width <= constants,
+        };
+        let atoms = piece_set(alloc, on, known, arena, &piece, hits.as_slice())?;
+        put_edge(edges, node.from, node.from + width, atoms)?;
+    }
+    Ok(())
+}
+
+/// The set on the edge between the nodes, if there is one.
+fn set_between(edges: &[Edge], from: usize, to: usize) -> Option<AtomSet>
+    ensures { IsSetBetween from to edges.now result }
+{
+    for i in 0..edges.len() {
+        let edge = edges[i];
+        if edge.from == from && edge.to == to {
+            return Some(edge.atoms);
+        }
+    }
+    None
+}
+
+/// Makes the set of the atoms that give the piece on the row, where some do.
+fn piece_set<'a>(
     alloc: Global,
     on: &OnRow<'a>,
     known: &mut Known<'a>,
     arena: &mut Arena,
     piece: &Piece<'_>,
     hits: &[Hit],
-    edges: &mut List<Edge>,
-) -> Result<(), NoMemory>
+) -> Result<Option<AtomSet>, NoMemory>
     requires on { IsOnRow on.now }
     requires known { AreKnown on.now arena.old known.old }
     requires piece { IsPiece on.now.settings.constants piece.now }
     requires hits { AreHits (texts_of known.old) (piece_rest piece.now) piece.now.width hits.now }
-    ensures put { OnOk result (IsPut on.now arena.new piece.now edges.old edges.new) }
+    ensures set { IfOk result (IsSetOf on.now arena.new (piece_text piece.now)) }
     ensures known { OnOk result (AreKnown on.now arena.new known.new) }
     ensures texts { texts_of known.new ≡ texts_of known.old }
     ensures kept { Extends arena.old arena.new }
 {
     let items = piece_atoms(alloc, on, known, arena, piece, hits)?;
     if items.len() == 0 {
-        return Ok(());
+        return Ok(None);
     }
     let atoms = arena.intern_atoms(items)?;
-    edges.push(Edge {
-        from: piece.from,
-        to: piece.from + piece.width,
-        atoms,
-    })
+    Ok(Some(atoms))
+}
+
+/// Puts an edge with the set between the nodes, where there is a set.
+fn put_edge(
+    edges: &mut List<Edge>,
+    from: usize,
+    to: usize,
+    atoms: Option<AtomSet>,
+) -> Result<(), NoMemory>
+    ensures { OnOk result (IsPut from to atoms edges.old edges.new) }
+{
+    match atoms {
+        Some(atoms) => edges.push(Edge { from, to, atoms }),
+        None => Ok(()),
+    }
 }

@@ -46,7 +46,7 @@ fn put_hits(hits: &mut Vec<Hit>, k: usize, text: &[char], rest: &[char]) -> Resu
 }
 
 /// How many of the first characters are the same.
-fn common(xs: &[char], ys: &[char]) -> usize
+pub(crate) fn common(xs: &[char], ys: &[char]) -> usize
     ensures { GoTogether xs.now ys.now result }
 {
     let most = xs.len().min(ys.len());

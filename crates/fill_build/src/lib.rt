@@ -11,6 +11,7 @@ mod constants;
 mod edges;
 mod graph;
 mod hits;
+mod node;
 mod piece;
 mod uncut;
 

@@ -3,13 +3,13 @@ use Rattle.fill_arena.specs.Contents.{Extends}
 use Rattle.fill_sources.specs.Sets.{AreKnown, texts_of}
 use Rattle.fill_build.specs.Edges.{EdgesSoFar}
 use Rattle.fill_build.specs.Hits.{AreHits}
-use Rattle.fill_build.proofs.edges.put_edges_from.Given as goal
+use Rattle.fill_build.proofs.edges.make_edges.Given as goal
 
 abbrev pub invariant-loop-done : goal.invariant-loop-done
 invariant-loop-done l =
     record {
       kept : Extends l.initial.arena l.arena;
       known : AreKnown l.on l.arena l.known;
-      hits : (m : ℕ) × (m ≤ l.done + 1) × AreHits (texts_of l.known) (drop l.from l.text) m l.hits.items;
-      state : EdgesSoFar l.on l.text l.from l.done l.arena l.edges;
+      hits : (m : ℕ) × (m ≤ l.done + 1) × AreHits (texts_of l.known) (drop l.node.from l.node.text.now) m l.hits.items;
+      state : EdgesSoFar l.on l.node.text.now l.node.from l.done l.arena l.edges;
     }
