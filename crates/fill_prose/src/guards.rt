@@ -8,7 +8,8 @@ use std::alloc::{AllocError, Global};
 
 /// A rule in plain English, a line for each of its cases, without line ends.
 ///
-/// `Name from the last capital on, " (", City, ")"` takes a piece of one cell, a text, another cell and a text. A line that is not for all rows says first for which: `where Name has "@": ..` or `else: ..`.
+/// `Name from the last capital on, " (", City, ")"` takes a piece of one cell, a text, another cell and a text. A line
+/// that is not for all rows says first for which: `where Name has "@": ..` or `else: ..`.
 pub fn rule_lines(
     alloc: Global,
     switch: &Switch,
