@@ -20,5 +20,5 @@ loop-done-preserved c =
           (let now = c.loop-done.invariant.taken on a s in
           let set = set_of_twin out n.from n.twin twin width some le on a c.loop-done.done c.loop-done.edges now c.set_between-atoms.result found in
           edges_put on out a a (extends_same a) n.from c.loop-done.done (node_within out n.from n.twin twin width some le) c.set_between-atoms.result c.loop-done.edges c.put_edge.new.edges now set
-              c.in_ok-put_edge.ensures);
+          c.in_ok-put_edge.ensures);
     }
