@@ -1,4 +1,4 @@
-use Rattle.std.proofs.Common.{◌+◌, ℕ, List, drop, slice_range, sym, subst, ◌∙◌, arith}
+use Rattle.std.proofs.Common.{◌+◌, ℕ, List, drop, sym, subst, ◌∙◌, arith}
 use Rattle.fill_arena.proofs.Lists.{extends_on}
 use Rattle.fill_sources.specs.Sets.{texts_of}
 use Rattle.fill_build.specs.Edges.{IsSetOf}
