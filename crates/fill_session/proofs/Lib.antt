@@ -2,6 +2,7 @@ pub mod Accepting
 pub mod AllMade
 pub mod Answering
 pub mod Applied
+pub mod Asking
 pub mod BestOfBranch
 pub mod CellCounts
 pub mod Compacting
@@ -11,6 +12,7 @@ pub mod Folding
 pub mod GoingBack
 pub mod Held
 pub mod Lasting
+pub mod Leading
 pub mod Listed
 pub mod Making
 pub mod Moving

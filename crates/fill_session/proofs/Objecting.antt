@@ -46,7 +46,7 @@ objector_is_one g (e ∷ es) row a b h k =
     (subst (λ (t : Option (List ℕ)). ObjectionIs g k.2.examples row t a) text (subst (λ (x : BranchData). ObjectionIs g x.examples row h.3 a) one.1 h.7)) k.7
 
 -- the program of one of the branches is the chosen one of its examples
-guarded_chosen : (g : Ground) (before : List BranchData) (b : BranchData) (after : List BranchData) → AreGuarded g (before ++ b ∷ after) → ChosenOn g b.examples b.program
+pub guarded_chosen : (g : Ground) (before : List BranchData) (b : BranchData) (after : List BranchData) → AreGuarded g (before ++ b ∷ after) → ChosenOn g b.examples b.program
 guarded_chosen g [] b after h = h.1
 guarded_chosen g (x ∷ before) b after h = guarded_chosen g before b after h.2
 
@@ -65,7 +65,7 @@ module _ (g : Ground) (xs : List Example) (bs : List BranchData) (n : ℕ) (b : 
       let second : d.1 ≡ said = value_is_one (ProgramIs g.sheet g.tables row d.3.0) d.1 said d.3.2 (agree d.3.0 d.3.1) in
       d.4 (first ∙ sym second)
 
-  none_given : (o : ObjectionTree) → ObjectionIs g b.examples row said (Some o) → HasExample xs row → ⊥
+  pub none_given : (o : ObjectionTree) → ObjectionIs g b.examples row said (Some o) → HasExample xs row → ⊥
   none_given o h has =
       let place = contains_at (rows_of xs) row has in
       let found = example_at xs place.0 row place.1 in
@@ -82,7 +82,7 @@ module _ (g : Ground) (xs : List Example) (bs : List BranchData) (n : ℕ) (b : 
       ) in
       h.least.has.otherwise (subst (λ (t : Option (List ℕ)). Answers g.sheet g.tables row t o.program) (sym told) answers)
 
-  some_doubts : (o : ObjectionTree) → ChosenOn g b.examples b.program → ObjectionIs g b.examples row said (Some o) → IsDoubtful g b.examples row
+  pub some_doubts : (o : ObjectionTree) → ChosenOn g b.examples b.program → ObjectionIs g b.examples row said (Some o) → IsDoubtful g b.examples row
   some_doubts o chosen h = (
     said,
     o.text,

@@ -28,8 +28,8 @@ use Rattle.fill_session.proofs.Picked.{here}
 use Rattle.fill_session.proofs.Reproduced.{branch_is_one}
 
 -- a row in doubt is answered so
-pub asked_answer : (g : Ground) (examples : List Example) (q : Asked) (a : Answer) → KeysDistinguish g.tables → IsAsked g examples q → AnswerIs g examples q.row a → (a.state ≡ Doubt) × (a.text ≡ q.said)
-asked_answer g examples q a keys h is =
+pub asked_answer : (g : Ground) (examples : List Example) (passed : List ℕ) (q : Asked) (a : Answer) → KeysDistinguish g.tables → IsAsked g examples passed q → AnswerIs g examples q.row a → (a.state ≡ Doubt) × (a.text ≡ q.said)
+asked_answer g examples passed q a keys h is =
     let one : h.said.0 ≡ a = answer_is_one g examples q.row h.said.0 a h.said.1 is in (
       (objector_doubts g examples q.row (Some q.objector) a keys h.objector is).0 (λ none. let e = none in cc),
       ap (λ (x : Answer). x.text) (sym one) ∙ h.said.2,

@@ -33,7 +33,7 @@ less_nat x y h = elim (cases_lt x y) [
 same_nat : (x : ℕ) → nat_cmp x x ≡ Equal
 same_nat x = sym (nat_cmp_is x x Equal refl)
 
-less_cases : (a b : Ordering) → ordering_then a b ≡ Less → (a ≡ Less) ⊎ ((a ≡ Equal) × (b ≡ Less))
+pub less_cases : (a b : Ordering) → ordering_then a b ≡ Less → (a ≡ Less) ⊎ ((a ≡ Equal) × (b ≡ Less))
 less_cases Less b h = inl refl
 less_cases Equal b h = inr (refl, h)
 less_cases Greater b h = absurd (let e = h in cc)
@@ -56,14 +56,14 @@ asked_less prices p q alike h =
       | inr tie ↦ inr (exact_programs prices p.objector.program q.objector.program tie.0, less_nat p.row q.row tie.1)
     ]
 
-module _ (g : Ground) (examples : List Example) where
+module _ (g : Ground) (examples : List Example) (passed : List ℕ) where
   -- two rows in doubt that are one have one objector
-  one_objector : (p q : Asked) → IsAsked g examples p → IsAsked g examples q → p.row ≡ q.row → p.objector ≡ q.objector
+  one_objector : (p q : Asked) → IsAsked g examples passed p → IsAsked g examples passed q → p.row ≡ q.row → p.objector ≡ q.objector
   one_objector p q h k e =
       same_Some p.objector q.objector (objector_is_one g examples q.row (Some p.objector) (Some q.objector) (subst (λ r. ObjectorIs g examples r (Some p.objector)) e h.objector) k.objector)
 
   -- a row does not come before itself
-  not_itself : (p q : Asked) → IsAsked g examples p → IsAsked g examples q → p.row ≡ q.row → is_silent p.said ≡ is_silent q.said → ¬ (asked_cmp g.settings.profile.prices p q ≡ Less)
+  not_itself : (p q : Asked) → IsAsked g examples passed p → IsAsked g examples passed q → p.row ≡ q.row → is_silent p.said ≡ is_silent q.said → ¬ (asked_cmp g.settings.profile.prices p q ≡ Less)
   not_itself p q h k e alike less =
       let one = one_objector p q h k e in
       elim (asked_less g.settings.profile.prices p q alike less) [
@@ -73,43 +73,30 @@ module _ (g : Ground) (examples : List Example) where
         | inr tie ↦ (let lt = tie.1 in absurd (omega arith))
       ]
 
-  -- a row whose objector costs more does not come first
-  not_dearer : (p q : Asked) → is_silent p.said ≡ is_silent q.said → program_cost g.settings.profile.prices q.objector.program < program_cost g.settings.profile.prices p.objector.program → ¬ (asked_cmp g.settings.profile.prices p q ≡ Less)
-  not_dearer p q alike dear less =
-      elim (asked_less g.settings.profile.prices p q alike less) [
-        | inl before ↦ (let c = nat_cmp_is (program_cost g.settings.profile.prices p.objector.program) (program_cost g.settings.profile.prices q.objector.program) Greater dear in
-            absurd (before_cost c before))
-        | inr tie ↦ (let same : program_cost g.settings.profile.prices p.objector.program ≡ program_cost g.settings.profile.prices q.objector.program = ap (program_cost g.settings.profile.prices) tie.0 in
-            absurd (omega arith))
-      ]
-    where
-      before_cost : Greater ≡ nat_cmp (program_cost g.settings.profile.prices p.objector.program) (program_cost g.settings.profile.prices q.objector.program) → Before g.settings.profile.prices p.objector.program q.objector.program → ⊥
-      before_cost c before = elim (less_cases _ _ before) [
-        | inl less ↦ (let d = c ∙ less in cc)
-        | inr tie ↦ (let d = c ∙ tie.0 in cc)
-      ]
-
   -- one more row
   module _ (silent : Bool) (above : ℕ) where
     below_or_here : (n : ℕ) → n ≤ suc above → (n ≤ above) ⊎ (n ≡ suc above)
     below_or_here n le = elim (cases_lt n (suc above)) [ inl lt ↦ inl (omega arith) | inr ge ↦ inr (omega arith) ]
 
-    -- it is not asked
-    pub none_more : (best : Option Suggestion) → FirstAsked g examples silent above best → NoneAsked g examples silent (suc above) (cost_of g.settings.profile.prices best) → FirstAsked g examples silent (suc above) best
-    none_more None h none = λ q asked alike le. elim (below_or_here q.row le) [ inl less ↦ h q asked alike less | inr here ↦ none q asked alike here ]
+    -- it is not asked, or its objector comes no earlier
+    pub none_more : (best : Option Suggestion) → FirstAsked g examples passed silent above best → NoneAsked g examples passed silent (suc above) best → FirstAsked g examples passed silent (suc above) best
+    none_more None h none = λ q asked alike le. elim (below_or_here q.row le) [ inl less ↦ h q asked alike less | inr here ↦ none q asked alike here tt ]
     none_more (Some s) h none = (
       h.0,
       h.1,
       (let le = h.2 in omega arith),
       λ p asked alike le. elim (below_or_here p.row le) [
         | inl less ↦ h.3 p asked alike less
-        | inr here ↦ not_dearer p (asked_of s) (alike ∙ sym h.1) (none p asked alike here)
+        | inr here ↦ λ before. elim (asked_less g.settings.profile.prices p (asked_of s) (alike ∙ sym h.1) before) [
+          | inl earlier ↦ none p asked alike here earlier
+          | inr tie ↦ (let lt = tie.1 in let under = h.2 in absurd (omega arith))
+        ]
       ],
     )
 
     -- it comes first
-    pub next_first : (best : Option Suggestion) (next : Suggestion) → FirstAsked g examples silent above best → IsAskedAt g examples silent (suc above) next → ComesFirst g.settings.profile.prices best next → FirstAsked g examples silent (suc above) (Some next)
-    next_first None next h at first = (
+    pub next_first : (best : Option Suggestion) (next : Suggestion) → FirstAsked g examples passed silent above best → IsAskedAt g examples passed silent (suc above) best next → FirstAsked g examples passed silent (suc above) (Some next)
+    next_first None next h at = (
       at.asked,
       at.kind,
       (let e = at.here in omega arith),
@@ -118,7 +105,7 @@ module _ (g : Ground) (examples : List Example) where
         | inr here ↦ not_itself p (asked_of next) asked at.asked (here ∙ sym at.here) (alike ∙ sym at.kind)
       ],
     )
-    next_first (Some s) next h at first = (
+    next_first (Some s) next h at = (
       at.asked,
       at.kind,
       (let e = at.here in omega arith),
@@ -137,51 +124,33 @@ module _ (g : Ground) (examples : List Example) where
         earlier : (p : Asked) → is_silent p.said ≡ silent → p.row ≤ above → asked_cmp g.settings.profile.prices p (asked_of next) ≡ Less → asked_cmp g.settings.profile.prices p (asked_of s) ≡ Less
         earlier p alike less before =
             elim (asked_less g.settings.profile.prices p (asked_of next) (alike ∙ sym at.kind) before) [
-              | inl b ↦ then_less Less p (alike ∙ sym h.1) (before_trans g.settings.profile.prices p.objector.program (program_tree next.objection.program) (program_tree s.objection.program) b first)
-              | inr tie ↦ then_less Less p (alike ∙ sym h.1) (subst (λ t. Before g.settings.profile.prices t (program_tree s.objection.program)) (sym tie.0) first)
+              | inl b ↦ then_less Less p (alike ∙ sym h.1) (before_trans g.settings.profile.prices p.objector.program (program_tree next.objection.program) (program_tree s.objection.program) b at.earlier)
+              | inr tie ↦ then_less Less p (alike ∙ sym h.1) (subst (λ t. Before g.settings.profile.prices t (program_tree s.objection.program)) (sym tie.0) at.earlier)
             ]
-
-    -- it does not
-    pub best_first : (best : Option Suggestion) (next : Suggestion) → FirstAsked g examples silent above best → IsAskedAt g examples silent (suc above) next → (ComesFirst g.settings.profile.prices best next → ⊥) → FirstAsked g examples silent (suc above) best
-    best_first None next h at later = absurd (later tt)
-    best_first (Some s) next h at later = (
-      h.0,
-      h.1,
-      (let le = h.2 in omega arith),
-      λ p asked alike le. elim (below_or_here p.row le) [
-        | inl less ↦ h.3 p asked alike less
-        | inr here ↦ λ before. (
-            let one = one_objector p (asked_of next) asked at.asked (here ∙ sym at.here) in
-            elim (asked_less g.settings.profile.prices p (asked_of s) (alike ∙ sym h.1) before) [
-              | inl b ↦ later (subst (λ (o : ObjectionTree). Before g.settings.profile.prices o.program (program_tree s.objection.program)) one b)
-              | inr tie ↦ (let lt = tie.1 in let under = h.2 in absurd (omega arith))
-            ])
-      ],
-    )
 
   -- the row to look at next: a silent one, or else one with an answer
   module _ (rows : ℕ) (all : rows ≡ length g.sheet.rows) where
-    within : (p : Asked) → IsAsked g examples p → p.row ≤ rows
+    within : (p : Asked) → IsAsked g examples passed p → p.row ≤ rows
     within p asked = let le = asked.last in omega arith
 
-    pub silent_suggested : (s : Suggestion) → FirstAsked g examples true rows (Some s) → SuggestionIs g examples (Some (asked_of s))
+    pub silent_suggested : (s : Suggestion) → FirstAsked g examples passed true rows (Some s) → SuggestionIs g examples passed (Some (asked_of s))
     silent_suggested s h = (h.0, λ p asked. by p.said p refl asked)
       where
-        by : (said : Option (List ℕ)) (p : Asked) → p.said ≡ said → IsAsked g examples p → ¬ (asked_cmp g.settings.profile.prices p (asked_of s) ≡ Less)
+        by : (said : Option (List ℕ)) (p : Asked) → p.said ≡ said → IsAsked g examples passed p → ¬ (asked_cmp g.settings.profile.prices p (asked_of s) ≡ Less)
         by None p e asked = h.3 p asked (ap is_silent e) (within p asked)
         by (Some text) p e asked = λ less. (
             let rank : rank_of s.answer ≡ 0 = rank_same s.answer None h.1 in
             let more : nat_cmp (rank_of p.said) (rank_of s.answer) ≡ Greater = ap (λ n. nat_cmp n (rank_of s.answer)) (ap rank_of e) ∙ ap (λ n. nat_cmp 1 n) rank ∙ sym (nat_cmp_is 1 0 Greater (omega arith)) in
             elim (less_cases _ _ less) [ inl l ↦ (let d = sym more ∙ l in cc) | inr t ↦ (let d = sym more ∙ t.0 in cc) ])
 
-    pub other_suggested : (found : Option Suggestion) → FirstAsked g examples true rows None → FirstAsked g examples false rows found → SuggestionIs g examples (option_map asked_of found)
+    pub other_suggested : (found : Option Suggestion) → FirstAsked g examples passed true rows None → FirstAsked g examples passed false rows found → SuggestionIs g examples passed (option_map asked_of found)
     other_suggested None none h = λ q asked. by q.said q refl asked
       where
-        by : (said : Option (List ℕ)) (p : Asked) → p.said ≡ said → IsAsked g examples p → ⊥
+        by : (said : Option (List ℕ)) (p : Asked) → p.said ≡ said → IsAsked g examples passed p → ⊥
         by None p e asked = none p asked (ap is_silent e) (within p asked)
         by (Some text) p e asked = h p asked (ap is_silent e) (within p asked)
     other_suggested (Some s) none h = (h.0, λ p asked. by p.said p refl asked)
       where
-        by : (said : Option (List ℕ)) (p : Asked) → p.said ≡ said → IsAsked g examples p → ¬ (asked_cmp g.settings.profile.prices p (asked_of s) ≡ Less)
+        by : (said : Option (List ℕ)) (p : Asked) → p.said ≡ said → IsAsked g examples passed p → ¬ (asked_cmp g.settings.profile.prices p (asked_of s) ≡ Less)
         by None p e asked = absurd (none p asked (ap is_silent e) (within p asked))
         by (Some text) p e asked = h.3 p asked (ap is_silent e) (within p asked)

@@ -93,7 +93,7 @@ pub(crate) fn objector_on(
 }
 
 /// The place of the first branch that takes the row.
-fn first_taker(sheet: &Sheet, shown: &[Branch], row: u32) -> Option<usize>
+pub(crate) fn first_taker(sheet: &Sheet, shown: &[Branch], row: u32) -> Option<usize>
     requires first { 1 ≤ row }
     requires last { row ≤ length sheet.now.rows }
     requires inputs { ReadInputs sheet.now shown.now }

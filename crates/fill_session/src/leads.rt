@@ -1,17 +1,27 @@
 //! What leads the search for the objectors of many rows.
-ghost use Rattle.std.specs.Prelude.{IfOk};
-ghost use Rattle.fill_session.specs.Suggested.{LeadsStand};
+ghost use Rattle.std.specs.Prelude.{◌≡◌, IfOk, List as Listed};
+ghost use Rattle.fill_tree.specs.declared.user.Example.{Example};
+ghost use Rattle.fill_space.specs.Spaces.{SpaceStands};
+ghost use Rattle.fill_session.specs.Suggested.{LeadStands, LeadsStand};
 
 use crate::session::Session;
-use fill_space::{Guide, Space};
-use fill_text::NoMemory;
+use fill_arena::laws::costs_are_present;
+use fill_space::{Guide, Space, Spaces};
+use fill_text::{List, NoMemory};
+use fill_tree::Program;
 use std::alloc::Global;
+
+/// How many programs of a branch are asked one by one before its graph is: as many as [`Spaces::best`] gives. They take about
+/// as long as learning two examples, also where these are noise, and a row by them a tenth of a search in the graph.
+pub(crate) const CANDIDATES: u32 = 20;
 
 /// The space of a branch, and what leads the search for objections there.
 #[derive(Drop)]
 pub(crate) struct Lead {
     pub space: Space,
     pub guide: Guide,
+    /// The first programs of the branch, in order; all of them where they are fewer.
+    pub candidates: List<Program>,
 }
 
 /// A lead for each branch.
@@ -22,8 +32,26 @@ pub(crate) fn leads_of(alloc: Global, session: &Session) -> Result<Vec<Lead>, No
     let count = session.branches().len() as u32;
     for k in 0..count {
         let space = session.space(k + 1);
-        let guide = session.spaces().guide(alloc, space)?;
-        leads.push(Lead { space, guide })?;
+        let lead = lead_of(alloc, session.spaces(), space)?;
+        leads.push(lead)?;
     }
     Ok(leads)
+}
+
+/// The lead of a space.
+fn lead_of(alloc: Global, spaces: &Spaces, space: Space) -> Result<Lead, NoMemory>
+    requires { (l : Listed Example) × SpaceStands spaces.now space l }
+    ensures space { IfOk result (λ lead. lead.space ≡ space) }
+    ensures stands { IfOk result (LeadStands spaces.now) }
+{
+    spaces.arena().keeps_made();
+    spaces.settings().profile.prices.keep_small();
+    costs_are_present();
+    let guide = spaces.guide(alloc, space)?;
+    let candidates = spaces.best(alloc, space, CANDIDATES)?;
+    Ok(Lead {
+        space,
+        guide,
+        candidates,
+    })
 }

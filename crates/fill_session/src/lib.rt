@@ -6,6 +6,7 @@ mod answers;
 mod before;
 mod branch;
 mod branches;
+mod candidates;
 mod compaction;
 mod edit;
 mod error;

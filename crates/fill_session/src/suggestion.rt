@@ -1,16 +1,19 @@
 //! Which row to look at next.
-ghost use Rattle.std.specs.Prelude.{◌≡◌, ◌↔◌, ◌<◌, ◌≤◌, ◌^◌, suc, length, IfOk, IfSome, IsTrue, MatchOption, OnOk, option_map};
+ghost use Rattle.std.specs.Prelude.{◌≡◌, ◌↔◌, ◌<◌, ◌≤◌, ◌^◌, suc, length, IfOk, IfSome, Contains, IsTrue, MatchOption, OnOk, option_map};
 ghost use Rattle.fill_tree.specs.Cost.{program_cost};
 ghost use Rattle.fill_tree.specs.Meaning.{program_tree};
 ghost use Rattle.fill_doubt.specs.Shapes.{ShapesStand};
 ghost use Rattle.fill_space.specs.Objector.{objection_tree};
 ghost use Rattle.fill_session.specs.Answers.{AnswerIs};
-ghost use Rattle.fill_session.specs.Suggested.{ComesFirst, FirstAsked, IsAskedAt, IsFew, LeadsStand, NoneAsked, ObjectorWithin, SuggestionIs, asked_of, cost_of, is_silent};
+ghost use Rattle.fill_session.specs.Suggested.{FirstAsked, IsAskedAt, IsFew, LeadsStand, NoneAsked, ObjectorWithin, SuggestionIs, asked_of, cost_of, is_silent};
 ghost use Rattle.fill_session.specs.declared.answer.State.TheVariants.{Doubt};
 
+use crate::answers::first_taker;
+use crate::candidates::{Told, comes_first, told_of};
 use crate::leads::{Lead, leads_of};
 use crate::session::Session;
 use crate::{Answer, State};
+use fill_eval::program_value;
 use fill_space::{Objection, Shapes};
 use fill_text::{NoMemory, Text};
 use fill_tree::Prices;
@@ -34,19 +37,26 @@ struct Asking<'a> {
     session: &'a Session,
     /// What leads the search for objectors, for each branch.
     leads: &'a [Lead],
+    /// Rows that are passed over.
+    passed: &'a [u32],
     silent: bool,
 }
 
-/// Which row to look at next: first those in doubt without an answer, then that whose objector comes first; none where no
-/// row is in doubt.
-pub(crate) fn suggest(alloc: Global, session: &Session) -> Result<Option<Suggestion>, NoMemory>
-    ensures { IfOk result (λ found. SuggestionIs session.now.spaces.ground session.now.examples (option_map asked_of found)) }
+/// Which row to look at next, beside those passed over: first those in doubt without an answer, then that whose objector
+/// comes first; none where no other row is in doubt.
+pub(crate) fn suggest_beside(
+    alloc: Global,
+    session: &Session,
+    passed: &[u32],
+) -> Result<Option<Suggestion>, NoMemory>
+    ensures { IfOk result (λ found. SuggestionIs session.now.spaces.ground session.now.examples passed.now (option_map asked_of found)) }
 {
     let leads = leads_of(alloc, session)?;
     let asking = Asking {
         alloc,
         session,
         leads: leads.as_slice(),
+        passed,
         silent: true,
     };
     let silent = first_asked(&asking)?;
@@ -59,10 +69,10 @@ pub(crate) fn suggest(alloc: Global, session: &Session) -> Result<Option<Suggest
     })
 }
 
-/// The row in doubt to look at first.
+/// The row to look at first of those that are asked.
 fn first_asked(asking: &Asking<'_>) -> Result<Option<Suggestion>, NoMemory>
     requires { LeadsStand asking.now.session.now asking.now.leads.now }
-    ensures { let s = asking.now.session.now in IfOk result (FirstAsked s.spaces.ground s.examples asking.now.silent (length s.spaces.ground.sheet.rows)) }
+    ensures { let s = asking.now.session.now in IfOk result (FirstAsked s.spaces.ground s.examples asking.now.passed.now asking.now.silent (length s.spaces.ground.sheet.rows)) }
 {
     let mut shapes = Shapes::new(asking.alloc);
     let mut best: Option<Suggestion> = None;
@@ -83,20 +93,98 @@ fn ask(
     requires row { above < length asking.now.session.now.spaces.ground.sheet.rows }
     requires small { above < 4294967295 }
     requires shapes { ShapesStand asking.now.session.now.spaces.arena shapes.old }
-    requires first { FirstAsked asking.now.session.now.spaces.ground asking.now.session.now.examples asking.now.silent above best.old }
+    requires first { FirstAsked asking.now.session.now.spaces.ground asking.now.session.now.examples asking.now.passed.now asking.now.silent above best.old }
     requires few { IfSome best.old (IsFew asking.now.session.now.spaces.ground.settings.profile.prices) }
     ensures shapes { ShapesStand asking.now.session.now.spaces.arena shapes.new }
-    ensures first { OnOk result (FirstAsked asking.now.session.now.spaces.ground asking.now.session.now.examples asking.now.silent (suc above) best.new) }
+    ensures first { OnOk result (FirstAsked asking.now.session.now.spaces.ground asking.now.session.now.examples asking.now.passed.now asking.now.silent (suc above) best.new) }
     ensures few { OnOk result (IfSome best.new (IsFew asking.now.session.now.spaces.ground.settings.profile.prices)) }
 {
-    let prices = &asking.session.spaces().settings().profile.prices;
-    let limit = limit_of(best, prices);
-    if let Some(next) = asked_on(asking, shapes, above + 1, limit)? {
-        if comes_first(best, &next, prices) {
-            *best = Some(next);
-        }
+    if let Some(next) = asked_on(asking, shapes, above + 1, best)? {
+        *best = Some(next);
     }
     Ok(())
+}
+
+/// The row, if it is one of those that are asked, and its objector comes before that of the best row so far, if there is one.
+fn asked_on(
+    asking: &Asking<'_>,
+    shapes: &mut Shapes,
+    row: u32,
+    best: &Option<Suggestion>,
+) -> Result<Option<Suggestion>, NoMemory>
+    requires leads { LeadsStand asking.now.session.now asking.now.leads.now }
+    requires first { 1 ≤ row }
+    requires last { row ≤ length asking.now.session.now.spaces.ground.sheet.rows }
+    requires shapes { ShapesStand asking.now.session.now.spaces.arena shapes.old }
+    requires best { IfSome best.now (IsFew asking.now.session.now.spaces.ground.settings.profile.prices) }
+    ensures shapes { ShapesStand asking.now.session.now.spaces.arena shapes.new }
+    ensures asked { let s = asking.now.session.now in IfOk result (λ found. MatchOption found
+        (NoneAsked s.spaces.ground s.examples asking.now.passed.now asking.now.silent row best.now)
+        (IsAskedAt s.spaces.ground s.examples asking.now.passed.now asking.now.silent row best.now)) }
+    ensures few { IfOk result (λ found. IfSome found (IsFew asking.now.session.now.spaces.ground.settings.profile.prices)) }
+{
+    if is_among(row, asking.passed) {
+        return Ok(None);
+    }
+    let spaces = asking.session.spaces();
+    spaces.tables().keeps_keys();
+    let shown = asking.session.branches();
+    let Some(k) = first_taker(spaces.sheet(), shown, row) else {
+        return Ok(None);
+    };
+    let program = &shown[k].program;
+    let text = program_value(asking.alloc, program, row, spaces.sheet(), spaces.tables())?;
+    if !is_alike(&text, asking.silent) {
+        return Ok(None);
+    }
+    match told_of(asking.alloc, spaces, &asking.leads[k], row, &text, best)? {
+        Told::Found(objection) => Ok(Some(Suggestion {
+            row,
+            answer: text,
+            objection,
+        })),
+        Told::Nothing => Ok(None),
+        Told::Unknown => searched_on(asking, shapes, row, best),
+    }
+}
+
+/// As [`asked_on`], for a row that is not passed over, by the graph of its branch.
+fn searched_on(
+    asking: &Asking<'_>,
+    shapes: &mut Shapes,
+    row: u32,
+    best: &Option<Suggestion>,
+) -> Result<Option<Suggestion>, NoMemory>
+    requires leads { LeadsStand asking.now.session.now asking.now.leads.now }
+    requires first { 1 ≤ row }
+    requires last { row ≤ length asking.now.session.now.spaces.ground.sheet.rows }
+    requires left { ¬ (Contains asking.now.passed.now row) }
+    requires shapes { ShapesStand asking.now.session.now.spaces.arena shapes.old }
+    requires best { IfSome best.now (IsFew asking.now.session.now.spaces.ground.settings.profile.prices) }
+    ensures shapes { ShapesStand asking.now.session.now.spaces.arena shapes.new }
+    ensures asked { let s = asking.now.session.now in IfOk result (λ found. MatchOption found
+        (NoneAsked s.spaces.ground s.examples asking.now.passed.now asking.now.silent row best.now)
+        (IsAskedAt s.spaces.ground s.examples asking.now.passed.now asking.now.silent row best.now)) }
+    ensures few { IfOk result (λ found. IfSome found (IsFew asking.now.session.now.spaces.ground.settings.profile.prices)) }
+{
+    asking.session.spaces().tables().keeps_keys();
+    let answer = asking.session.answer_with(asking.alloc, shapes, row)?;
+    if !is_asked(&answer, asking.silent) {
+        return Ok(None);
+    }
+    let prices = &asking.session.spaces().settings().profile.prices;
+    let limit = limit_of(best, prices);
+    let Some(objection) = objector_within(asking, row, &answer, limit)? else {
+        return Ok(None);
+    };
+    if !comes_first(best, &objection.program, prices) {
+        return Ok(None);
+    }
+    Ok(Some(Suggestion {
+        row,
+        answer: answer.text,
+        objection,
+    }))
 }
 
 /// What the objector of the best row so far costs.
@@ -110,51 +198,11 @@ fn limit_of(best: &Option<Suggestion>, prices: &Prices) -> Option<u64>
     }
 }
 
-/// Whether the next row is to be looked at before the best one above it.
-fn comes_first(best: &Option<Suggestion>, next: &Suggestion, prices: &Prices) -> bool
-    requires best { IfSome best.now (IsFew prices.now) }
-    requires next { IsFew prices.now next.now }
-    ensures { IsTrue result ↔ ComesFirst prices.now best.now next.now }
+/// Whether the row is one of these.
+fn is_among(row: u32, rows: &[u32]) -> bool
+    ensures { IsTrue result ↔ Contains rows.now row }
 {
-    match best {
-        Some(best) => next
-            .objection
-            .program
-            .before(&best.objection.program, prices),
-        None => true,
-    }
-}
-
-/// The row, if it is in doubt and one of those that are asked, and its objector costs no more than the limit, if there is one.
-fn asked_on(
-    asking: &Asking<'_>,
-    shapes: &mut Shapes,
-    row: u32,
-    limit: Option<u64>,
-) -> Result<Option<Suggestion>, NoMemory>
-    requires leads { LeadsStand asking.now.session.now asking.now.leads.now }
-    requires first { 1 ≤ row }
-    requires last { row ≤ length asking.now.session.now.spaces.ground.sheet.rows }
-    requires shapes { ShapesStand asking.now.session.now.spaces.arena shapes.old }
-    ensures shapes { ShapesStand asking.now.session.now.spaces.arena shapes.new }
-    ensures asked { let s = asking.now.session.now in IfOk result (λ found. MatchOption found
-        (NoneAsked s.spaces.ground s.examples asking.now.silent row limit)
-        (IsAskedAt s.spaces.ground s.examples asking.now.silent row)) }
-    ensures few { IfOk result (λ found. IfSome found (IsFew asking.now.session.now.spaces.ground.settings.profile.prices)) }
-{
-    asking.session.spaces().tables().keeps_keys();
-    let answer = asking.session.answer_with(asking.alloc, shapes, row)?;
-    if !is_asked(&answer, asking.silent) {
-        return Ok(None);
-    }
-    match objector_within(asking, row, &answer, limit)? {
-        Some(objection) => Ok(Some(Suggestion {
-            row,
-            answer: answer.text,
-            objection,
-        })),
-        None => Ok(None),
-    }
+    rows.contains(&row)
 }
 
 /// Whether an answer is in doubt and one of those that are asked.
@@ -162,17 +210,24 @@ fn is_asked(answer: &Answer, silent: bool) -> bool
     ensures { IsTrue result ↔ ((answer.now.state ≡ Doubt) × (is_silent answer.now.text ≡ silent)) }
 {
     match answer.state {
-        State::Doubt => is_silent(answer) == silent,
+        State::Doubt => is_alike(&answer.text, silent),
         State::Given => false,
         State::Sure => false,
     }
 }
 
-/// Whether there is no text.
-fn is_silent(answer: &Answer) -> bool
-    ensures { result ≡ is_silent answer.now.text }
+/// Whether there is no text, if that is asked, or some text.
+fn is_alike(text: &Option<Text>, silent: bool) -> bool
+    ensures { IsTrue result ↔ (is_silent text.now ≡ silent) }
 {
-    match answer.text {
+    is_silent(text) == silent
+}
+
+/// Whether there is no text.
+fn is_silent(text: &Option<Text>) -> bool
+    ensures { result ≡ is_silent text.now }
+{
+    match text {
         Some(_) => false,
         None => true,
     }

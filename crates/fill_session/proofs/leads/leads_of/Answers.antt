@@ -1,7 +1,8 @@
 use Rattle.std.proofs.Common.{◌≡◌, ◌++◌, ◌∷◌, [], ℕ, suc, ◌+◌, ◌<◌, List, length, rules, refl, sym, ap, subst, ◌∙◌, length-append, arith}
 use Rattle.fill_tree.specs.declared.user.Example.{Example}
-use Rattle.fill_space.specs.Spaces.{GuideStands, SpacesData, SpaceStands}
+use Rattle.fill_space.specs.Spaces.{SpacesData, SpaceStands}
 use Rattle.fill_session.specs.State.{IsBranch}
+use Rattle.fill_session.specs.Suggested.{LeadStands}
 use Rattle.fill_session.specs.declared.leads.Lead.{Lead}
 use Rattle.fill_session.proofs.Held.{few_shown}
 use Rattle.fill_session.proofs.Searching.{each_pushed, shown_many, some_branch}
@@ -13,8 +14,8 @@ overflow_cast-count c =
     let few = few_shown s.spaces.ground s.examples c.branches.result.now c.branches.ensures.shown in
     search rules
 
-pub guide-requires : goal.guide-requires
-guide-requires c =
+pub lead_of-requires : goal.lead_of-requires
+lead_of-requires c =
     let s = c.args.session.now in
     let some = some_branch s.spaces.ground s.examples c.branches.result.now c.branches.ensures.shown c.loop-k.k c.loop-k-test.true in
     let number : suc c.loop-k.k ≡ c.loop-k.k + 1 = omega arith in (
@@ -28,14 +29,13 @@ loop-k-preserved c =
     let s = c.args.session.now in
     let xs = c.loop-k.leads.items in
     let ys = c.push.new.self.items in
-    let y : Lead = record { space = c.space-space.result; guide = c.in_ok-guide.guide } in
+    let y : Lead = c.in_ok-lead.lead in
     let number : c.loop-k.k + 1 ≡ suc c.loop-k.k = omega arith in
     record {
       many = (let size : length ys ≡ length xs + 1 = ap length c.in_ok-push.ensures.items ∙ length-append xs (y ∷ []) in let long = c.loop-k.invariant.many in omega arith);
       spaces = each_pushed (λ i (lead : Lead). (list : List Example) → IsBranch s.spaces.ground s.examples (suc i) list → SpaceStands s.spaces lead.space list) xs ys y c.loop-k.k c.in_ok-push.ensures.items c.loop-k.invariant.many c.loop-k.invariant.spaces
-          (λ list is. c.space-space.ensures list (subst (λ n. IsBranch s.spaces.ground s.examples n list) (sym number) is));
-      guides = each_pushed (λ i (lead : Lead). GuideStands s.spaces lead.space lead.guide) xs ys y c.loop-k.k c.in_ok-push.ensures.items c.loop-k.invariant.many c.loop-k.invariant.guides
-          (subst (λ (v : SpacesData). GuideStands v c.space-space.result c.in_ok-guide.guide) c.spaces.ensures c.in_ok-guide.ensures);
+          (λ list is. subst (λ (n : ℕ). SpaceStands s.spaces n list) (sym c.in_ok-lead.ensures.space) (c.space-space.ensures list (subst (λ n. IsBranch s.spaces.ground s.examples n list) (sym number) is)));
+      each = each_pushed (λ i (lead : Lead). LeadStands s.spaces lead) xs ys y c.loop-k.k c.in_ok-push.ensures.items c.loop-k.invariant.many c.loop-k.invariant.each (subst (λ (v : SpacesData). LeadStands v y) c.spaces.ensures c.in_ok-lead.ensures.stands);
     }
 
 pub returns : goal.returns
@@ -47,5 +47,5 @@ returns c =
     record {
       many = shown_many s.spaces.ground s.examples c.branches.result.now c.branches.ensures.shown (length c.loop-k.leads.items) size;
       spaces = c.loop-k.invariant.spaces;
-      guides = c.loop-k.invariant.guides;
+      each = c.loop-k.invariant.each;
     }

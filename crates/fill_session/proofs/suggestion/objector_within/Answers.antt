@@ -45,7 +45,7 @@ object_within-requires-clause-guide c =
     let lt = within g s.examples c.args.row c.args.answer.now t in
     let at = here leads k c.index-asking-answer.result (omega arith) in
     let lead = get_or leads k c.index-asking-answer.result in
-    subst (λ (v : SpacesData). GuideStands v lead.space lead.guide) (sym c.spaces.ensures) (c.requires.leads.guides k lead at)
+    subst (λ (v : SpacesData). GuideStands v lead.space lead.guide) (sym c.spaces.ensures) (c.requires.leads.each k lead at).guide
 
 pub returns-clause-within : goal.returns-clause-within
 returns-clause-within c =
