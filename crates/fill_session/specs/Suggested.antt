@@ -1,5 +1,5 @@
--- Which row to look at next: of the rows in doubt the one whose objector comes first.
-use Rattle.std.specs.Prelude.{◌≡◌, Bool, ℕ, suc, ◌<◌, ◌≤◌, ◌^◌, List, length, Option, None, Some, false, true, slice_get}
+-- Which row to look at next: of the rows in doubt that are not passed over the one whose objector comes first.
+use Rattle.std.specs.Prelude.{◌≡◌, Bool, ℕ, suc, ◌<◌, ◌≤◌, ◌^◌, List, length, Option, None, Some, false, true, slice_get, Contains}
 use Rattle.std.specs.declared.cmp.Ordering.{Ordering}
 use Rattle.std.specs.declared.cmp.Ordering.TheVariants.{Less}
 use Rattle.std.specs.Ordering.{nat_cmp, ordering_then}
@@ -25,10 +25,11 @@ pub record Asked : Type 0 where
   pub said : Option (List ℕ)
   pub objector : ObjectionTree
 
--- the row is one of the sheet in doubt: this is answered there, and so is objected
-pub record IsAsked (g : Ground) (examples : List Example) (q : Asked) : Type 0 where
+-- the row is one of the sheet in doubt, and none of those passed over: this is answered there, and so is objected
+pub record IsAsked (g : Ground) (examples : List Example) (passed : List ℕ) (q : Asked) : Type 0 where
   pub first : 1 ≤ q.row
   pub last : q.row ≤ length g.sheet.rows
+  pub left : ¬ (Contains passed q.row)
   pub said : (a : Answer) × AnswerIs g examples q.row a × (a.text ≡ q.said)
   pub objector : ObjectorIs g examples q.row (Some q.objector)
 
@@ -45,10 +46,10 @@ rank_of (Some text) = 1
 abbrev pub asked_cmp : Prices → Asked → Asked → Ordering
 asked_cmp prices p q = ordering_then (nat_cmp (rank_of p.said) (rank_of q.said)) (ordering_then (program_cmp prices p.objector.program q.objector.program) (nat_cmp p.row q.row))
 
--- the row to look at next; none where no row is in doubt
-abbrev pub SuggestionIs : Ground → List Example → Option Asked → Type 0
-SuggestionIs g examples None = (q : Asked) → ¬ (IsAsked g examples q)
-SuggestionIs g examples (Some q) = IsAsked g examples q × ((p : Asked) → IsAsked g examples p → ¬ (asked_cmp g.settings.profile.prices p q ≡ Less))
+-- the row to look at next, beside those passed over; none where no other row is in doubt
+abbrev pub SuggestionIs : Ground → List Example → List ℕ → Option Asked → Type 0
+SuggestionIs g examples passed None = (q : Asked) → ¬ (IsAsked g examples passed q)
+SuggestionIs g examples passed (Some q) = IsAsked g examples passed q × ((p : Asked) → IsAsked g examples passed p → ¬ (asked_cmp g.settings.profile.prices p q ≡ Less))
 
 -- what the code's suggestion stands for
 abbrev pub asked_of : Suggestion → Asked
@@ -74,20 +75,20 @@ IsOver prices None q = ⊥
 IsOver prices (Some most) q = most < program_cost prices q.objector.program
 
 -- no row in doubt is this one, with an answer or without one, but those whose objector costs more than the limit, if there is one
-abbrev pub NoneAsked : Ground → List Example → Bool → ℕ → Option ℕ → Type 0
-NoneAsked g examples silent row limit = (q : Asked) → IsAsked g examples q → is_silent q.said ≡ silent → q.row ≡ row → IsOver g.settings.profile.prices limit q
+abbrev pub NoneAsked : Ground → List Example → List ℕ → Bool → ℕ → Option ℕ → Type 0
+NoneAsked g examples passed silent row limit = (q : Asked) → IsAsked g examples passed q → is_silent q.said ≡ silent → q.row ≡ row → IsOver g.settings.profile.prices limit q
 
 -- the row in doubt, with an answer or without one
-pub record IsAskedAt (g : Ground) (examples : List Example) (silent : Bool) (row : ℕ) (s : Suggestion) : Type 0 where
-  pub asked : IsAsked g examples (asked_of s)
+pub record IsAskedAt (g : Ground) (examples : List Example) (passed : List ℕ) (silent : Bool) (row : ℕ) (s : Suggestion) : Type 0 where
+  pub asked : IsAsked g examples passed (asked_of s)
   pub kind : is_silent s.answer ≡ silent
   pub here : s.row ≡ row
 
 -- of the first rows those in doubt, with an answer or without one: that to look at first
-abbrev pub FirstAsked : Ground → List Example → Bool → ℕ → Option Suggestion → Type 0
-FirstAsked g examples silent rows None = (q : Asked) → IsAsked g examples q → is_silent q.said ≡ silent → q.row ≤ rows → ⊥
-FirstAsked g examples silent rows (Some s) = IsAsked g examples (asked_of s) × (is_silent s.answer ≡ silent) × (s.row ≤ rows)
-    × ((p : Asked) → IsAsked g examples p → is_silent p.said ≡ silent → p.row ≤ rows → ¬ (asked_cmp g.settings.profile.prices p (asked_of s) ≡ Less))
+abbrev pub FirstAsked : Ground → List Example → List ℕ → Bool → ℕ → Option Suggestion → Type 0
+FirstAsked g examples passed silent rows None = (q : Asked) → IsAsked g examples passed q → is_silent q.said ≡ silent → q.row ≤ rows → ⊥
+FirstAsked g examples passed silent rows (Some s) = IsAsked g examples passed (asked_of s) × (is_silent s.answer ≡ silent) × (s.row ≤ rows)
+    × ((p : Asked) → IsAsked g examples passed p → is_silent p.said ≡ silent → p.row ≤ rows → ¬ (asked_cmp g.settings.profile.prices p (asked_of s) ≡ Less))
 
 -- the objector's cost is a number of 64 bits
 abbrev pub IsFew : Prices → Suggestion → Type 0

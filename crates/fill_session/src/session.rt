@@ -28,7 +28,7 @@ use crate::compaction::{compact, is_due};
 use crate::edit::present_after;
 use crate::present::Present;
 use crate::reasons::first_reason;
-use crate::suggestion::{Suggestion, suggest};
+use crate::suggestion::{Suggestion, suggest_beside};
 use crate::{Answer, Branch, EditError};
 use fill_edge::{Ledger, Steps};
 use fill_sheet::Sheet;
@@ -304,9 +304,16 @@ impl Session {
     /// Which row to look at next: first the rows in doubt without an answer, then that whose objector comes first by the
     /// order of programs, of equal ones the upper one. None where no row is in doubt.
     pub fn suggest(&self) -> Result<Option<Suggestion>, NoMemory>
-        ensures { IfOk result (λ found. SuggestionIs self.now.spaces.ground self.now.examples (option_map asked_of found)) }
+        ensures { IfOk result (λ found. SuggestionIs self.now.spaces.ground self.now.examples [] (option_map asked_of found)) }
     {
-        suggest(self.alloc, self)
+        self.suggest_beside(&[])
+    }
+
+    /// As [`Session::suggest`], beside rows that are passed over. Rows count from 1.
+    pub fn suggest_beside(&self, passed: &[u32]) -> Result<Option<Suggestion>, NoMemory>
+        ensures { IfOk result (λ found. SuggestionIs self.now.spaces.ground self.now.examples passed.now (option_map asked_of found)) }
+    {
+        suggest_beside(self.alloc, self, passed)
     }
 
     /// The conditional program; none where there is no branch.

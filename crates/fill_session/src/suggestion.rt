@@ -1,5 +1,5 @@
 //! Which row to look at next.
-ghost use Rattle.std.specs.Prelude.{◌≡◌, ◌↔◌, ◌<◌, ◌≤◌, ◌^◌, suc, length, IfOk, IfSome, IsTrue, MatchOption, OnOk, option_map};
+ghost use Rattle.std.specs.Prelude.{◌≡◌, ◌↔◌, ◌<◌, ◌≤◌, ◌^◌, suc, length, IfOk, IfSome, Contains, IsTrue, MatchOption, OnOk, option_map};
 ghost use Rattle.fill_tree.specs.Cost.{program_cost};
 ghost use Rattle.fill_tree.specs.Meaning.{program_tree};
 ghost use Rattle.fill_doubt.specs.Shapes.{ShapesStand};
@@ -34,19 +34,26 @@ struct Asking<'a> {
     session: &'a Session,
     /// What leads the search for objectors, for each branch.
     leads: &'a [Lead],
+    /// Rows that are passed over.
+    passed: &'a [u32],
     silent: bool,
 }
 
-/// Which row to look at next: first those in doubt without an answer, then that whose objector comes first; none where no
-/// row is in doubt.
-pub(crate) fn suggest(alloc: Global, session: &Session) -> Result<Option<Suggestion>, NoMemory>
-    ensures { IfOk result (λ found. SuggestionIs session.now.spaces.ground session.now.examples (option_map asked_of found)) }
+/// Which row to look at next, beside those passed over: first those in doubt without an answer, then that whose objector
+/// comes first; none where no other row is in doubt.
+pub(crate) fn suggest_beside(
+    alloc: Global,
+    session: &Session,
+    passed: &[u32],
+) -> Result<Option<Suggestion>, NoMemory>
+    ensures { IfOk result (λ found. SuggestionIs session.now.spaces.ground session.now.examples passed.now (option_map asked_of found)) }
 {
     let leads = leads_of(alloc, session)?;
     let asking = Asking {
         alloc,
         session,
         leads: leads.as_slice(),
+        passed,
         silent: true,
     };
     let silent = first_asked(&asking)?;
@@ -62,7 +69,7 @@ pub(crate) fn suggest(alloc: Global, session: &Session) -> Result<Option<Suggest
 /// The row in doubt to look at first.
 fn first_asked(asking: &Asking<'_>) -> Result<Option<Suggestion>, NoMemory>
     requires { LeadsStand asking.now.session.now asking.now.leads.now }
-    ensures { let s = asking.now.session.now in IfOk result (FirstAsked s.spaces.ground s.examples asking.now.silent (length s.spaces.ground.sheet.rows)) }
+    ensures { let s = asking.now.session.now in IfOk result (FirstAsked s.spaces.ground s.examples asking.now.passed.now asking.now.silent (length s.spaces.ground.sheet.rows)) }
 {
     let mut shapes = Shapes::new(asking.alloc);
     let mut best: Option<Suggestion> = None;
@@ -83,10 +90,10 @@ fn ask(
     requires row { above < length asking.now.session.now.spaces.ground.sheet.rows }
     requires small { above < 4294967295 }
     requires shapes { ShapesStand asking.now.session.now.spaces.arena shapes.old }
-    requires first { FirstAsked asking.now.session.now.spaces.ground asking.now.session.now.examples asking.now.silent above best.old }
+    requires first { FirstAsked asking.now.session.now.spaces.ground asking.now.session.now.examples asking.now.passed.now asking.now.silent above best.old }
     requires few { IfSome best.old (IsFew asking.now.session.now.spaces.ground.settings.profile.prices) }
     ensures shapes { ShapesStand asking.now.session.now.spaces.arena shapes.new }
-    ensures first { OnOk result (FirstAsked asking.now.session.now.spaces.ground asking.now.session.now.examples asking.now.silent (suc above) best.new) }
+    ensures first { OnOk result (FirstAsked asking.now.session.now.spaces.ground asking.now.session.now.examples asking.now.passed.now asking.now.silent (suc above) best.new) }
     ensures few { OnOk result (IfSome best.new (IsFew asking.now.session.now.spaces.ground.settings.profile.prices)) }
 {
     let prices = &asking.session.spaces().settings().profile.prices;
@@ -138,10 +145,13 @@ fn asked_on(
     requires shapes { ShapesStand asking.now.session.now.spaces.arena shapes.old }
     ensures shapes { ShapesStand asking.now.session.now.spaces.arena shapes.new }
     ensures asked { let s = asking.now.session.now in IfOk result (λ found. MatchOption found
-        (NoneAsked s.spaces.ground s.examples asking.now.silent row limit)
-        (IsAskedAt s.spaces.ground s.examples asking.now.silent row)) }
+        (NoneAsked s.spaces.ground s.examples asking.now.passed.now asking.now.silent row limit)
+        (IsAskedAt s.spaces.ground s.examples asking.now.passed.now asking.now.silent row)) }
     ensures few { IfOk result (λ found. IfSome found (IsFew asking.now.session.now.spaces.ground.settings.profile.prices)) }
 {
+    if is_among(row, asking.passed) {
+        return Ok(None);
+    }
     asking.session.spaces().tables().keeps_keys();
     let answer = asking.session.answer_with(asking.alloc, shapes, row)?;
     if !is_asked(&answer, asking.silent) {
@@ -155,6 +165,12 @@ fn asked_on(
         })),
         None => Ok(None),
     }
+}
+
+fn is_among(row: u32, rows: &[u32]) -> bool
+    ensures { IsTrue result ↔ Contains rows.now row }
+{
+    rows.contains(&row)
 }
 
 /// Whether an answer is in doubt and one of those that are asked.
