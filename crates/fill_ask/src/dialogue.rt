@@ -48,8 +48,10 @@ pub fn ask<S: Source, E: Sink, L: Ledger>(
 {
     let mut dialogue = Dialogue::new(alloc);
     for _ in 0..u64::MAX {
-        if !dialogue.turn(topic, session, input, err, steps)? {
-            return typed_with(alloc, topic.words, &dialogue.kept);
+        match dialogue.turn(topic, session, input, err, steps) {
+            Ok(true) => {}
+            Ok(false) => return typed_with(alloc, topic.words, &dialogue.kept),
+            Err(NoMemory) => return Err(NoMemory),
         }
     }
     Err(NoMemory)

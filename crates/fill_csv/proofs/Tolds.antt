@@ -14,6 +14,7 @@ use Rattle.fill_csv.specs.Pages.{FillsPage, IsDone, page_of, with_typed}
 use Rattle.fill_tree.specs.declared.user.Example.{Example}
 use Rattle.fill_lookups.specs.Lines.{memory_line}
 use Rattle.fill_csv.specs.Lines.{unsaved_line}
+use Rattle.fill_csv.specs.Ground.{ground_of}
 use Rattle.fill_csv.specs.Opening.{SheetRead}
 use Rattle.fill_csv.specs.Saved.{IsSavedText, StoreAt, lacks_rule, saving_of}
 use Rattle.fill_csv.specs.declared.told.Told.{Told}
