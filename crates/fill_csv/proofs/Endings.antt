@@ -10,6 +10,7 @@ use Rattle.fill_open.specs.declared.stop.Stop.TheVariants as stop
 use Rattle.fill_open.proofs.Binds.{told_one}
 use Rattle.fill_words.specs.Words.{AskedData}
 use Rattle.fill_lookups.specs.Lines.{memory_line}
+use Rattle.fill_csv.specs.Asking.{Heard}
 use Rattle.fill_csv.specs.Ends.{EndsFilled, FailsToSave, Opens, WritesFilled, WritesFilledPart, WritesFilledRows}
 use Rattle.fill_csv.specs.Lines.{output_line, unread_line}
 use Rattle.fill_csv.specs.Opening.{SheetRead, sheet_opens}
@@ -47,9 +48,9 @@ module _ (asked : AskedData) (files : Files) (r : ℕ) where
     passed_no_refused : Told files NotRefused
     passed_no_refused = told_one files (λ held. (sheet_opens asked held).outcome ≡ Passed read) NotRefused (λ held h line k. absurd (passed_refused read line (sym h ∙ k))) opens
 
-module _ (asked : AskedData) (files : Files) (before now : Counts) (old new : Option (List ℕ)) (held kept : StoreAt) (Said : List ℕ → Type 0) (r : ℕ) where
+module _ (asked : AskedData) (files : Files) (input : Heard) (before now : Counts) (old new : Option (List ℕ)) (held kept : StoreAt) (Said : List ℕ → Type 0) (r : ℕ) where
   abbrev Ending : Type 0
-  Ending = EndsFilled asked files r before now old new held kept Said
+  Ending = EndsFilled asked files input r before now old new held kept Said
 
   -- the file is not there, or could not be read
   unread_ends : r ≡ 3 → kept.files ≡ held.files → Keeps old new → (name : List ℕ) → IsUnread (sheet_opens asked) files name ⊎ ReadFails (sheet_opens asked) files before now name → Said (unread_line name) → Ending
@@ -86,7 +87,7 @@ module _ (asked : AskedData) (files : Files) (before now : Counts) (old new : Op
   }
 
   -- memory ran out
-  pub memory_ends : r ≡ 6 → kept.files ≡ held.files → Keeps old new ⊎ WritesFilledRows asked files old new → Said memory_line → Ending
+  pub memory_ends : r ≡ 6 → kept.files ≡ held.files → Keeps old new ⊎ WritesFilledRows asked files input old new → Said memory_line → Ending
   memory_ends is same wrote said = record {
     done = λ e. absurd (omega arith);
     refusing = λ e. absurd (omega arith);
@@ -111,7 +112,7 @@ module _ (asked : AskedData) (files : Files) (before now : Counts) (old new : Op
   stopped_ends stop.NoMemory stops same keeps said out (inl six) = memory_ends six same (inl keeps) (out six)
 
   -- all was written, and nothing is left to do
-  pub done_ends : r ≡ 0 → WritesFilled false asked files old new held.files kept.files → Ending
+  pub done_ends : r ≡ 0 → WritesFilled false asked files input old new held.files kept.files → Ending
   done_ends is wrote = record {
     done = λ e. wrote;
     refusing = λ e. absurd (omega arith);
@@ -122,13 +123,13 @@ module _ (asked : AskedData) (files : Files) (before now : Counts) (old new : Op
     memory = λ e. absurd (omega arith);
     quiet = λ e. elim e [ inl three ↦ absurd (omega arith) | inr five ↦ absurd (omega arith) ];
     unsaved = λ e. absurd (omega arith);
-    always_unread = passed_no_unread asked files r wrote.0 wrote.4;
-    always_refused = passed_no_refused asked files r wrote.0 wrote.4;
+    always_unread = passed_no_unread asked files r wrote.0 wrote.5;
+    always_refused = passed_no_refused asked files r wrote.0 wrote.5;
     always_ready = told_all files (AlwaysReady asked files r) (λ held h. inl (omega arith));
   }
 
   -- all was written, and something is left to do
-  pub refusing_ends : r ≡ 1 → WritesFilled true asked files old new held.files kept.files → Ending
+  pub refusing_ends : r ≡ 1 → WritesFilled true asked files input old new held.files kept.files → Ending
   refusing_ends is wrote = record {
     done = λ e. absurd (omega arith);
     refusing = λ e. wrote;
@@ -139,14 +140,14 @@ module _ (asked : AskedData) (files : Files) (before now : Counts) (old new : Op
     memory = λ e. absurd (omega arith);
     quiet = λ e. elim e [ inl three ↦ absurd (omega arith) | inr five ↦ absurd (omega arith) ];
     unsaved = λ e. absurd (omega arith);
-    always_unread = passed_no_unread asked files r wrote.0 wrote.4;
-    always_refused = passed_no_refused asked files r wrote.0 wrote.4;
+    always_unread = passed_no_unread asked files r wrote.0 wrote.5;
+    always_refused = passed_no_refused asked files r wrote.0 wrote.5;
     always_ready = told_all files (AlwaysReady asked files r) (λ held h. inl (omega arith));
   }
 
   -- a write failed, after the steps passed
   write_ends : r ≡ 4 → kept.files ≡ held.files → (read : SheetRead) → Opens asked files read
-      → (WritesFilledPart asked files old new × Said output_line) ⊎ FailsToSave asked files old new held kept Said → Ending
+      → (WritesFilledPart asked files input old new × Said output_line) ⊎ FailsToSave asked files input old new held kept Said → Ending
   write_ends is same read opens wrote = record {
     done = λ e. absurd (omega arith);
     refusing = λ e. absurd (omega arith);
@@ -163,9 +164,9 @@ module _ (asked : AskedData) (files : Files) (before now : Counts) (old new : Op
   }
 
   -- a part of the sheet was written
-  pub part_ends : r ≡ 4 → kept.files ≡ held.files → WritesFilledPart asked files old new → Said output_line → Ending
-  part_ends is same wrote said = write_ends is same wrote.0 wrote.4 (inl (wrote, said))
+  pub part_ends : r ≡ 4 → kept.files ≡ held.files → WritesFilledPart asked files input old new → Said output_line → Ending
+  part_ends is same wrote said = write_ends is same wrote.0 wrote.5 (inl (wrote, said))
 
   -- the rule could not be saved
-  pub unsaved_ends : r ≡ 4 → kept.files ≡ held.files → FailsToSave asked files old new held kept Said → Ending
-  unsaved_ends is same wrote = write_ends is same wrote.0 wrote.5 (inr wrote)
+  pub unsaved_ends : r ≡ 4 → kept.files ≡ held.files → FailsToSave asked files input old new held kept Said → Ending
+  unsaved_ends is same wrote = write_ends is same wrote.0 wrote.6 (inr wrote)

@@ -19,6 +19,7 @@ use Rattle.fill_filled.specs.declared.learning.Refused.{Refused as RefusedText}
 use Rattle.fill_words.specs.Words.{AskedData, New, TargetData, There}
 use Rattle.fill_lookups.specs.Lines.{memory_line}
 use Rattle.fill_csv.specs.Lines.{output_line, unread_line, unsaved_line}
+use Rattle.fill_csv.specs.Asking.{AreTyped, Heard}
 use Rattle.fill_csv.specs.Ground.{ground_of}
 use Rattle.fill_csv.specs.Opening.{SheetRead, header_of, mark_of, records_in, sheet_opens}
 use Rattle.fill_csv.specs.Saved.{IsSavedText, StoreAt, lacks_rule, saving_of, stored}
@@ -72,45 +73,49 @@ is_wanting strict refused states = list_any counts refused || (strict && list_an
 
 -- the words opened a sheet, all of it was written with its column filled, and the rule was saved where that is asked for;
 -- the flag tells whether something is left to do
-abbrev pub WritesFilled : Bool → AskedData → Files → Option (List ℕ) → Option (List ℕ) → SavedFiles → SavedFiles → Type 0
-WritesFilled flag asked files old new held kept = (read : SheetRead) × (examples : List Example) × (refused : List RefusedText) × (states : List RowState)
-    × Opens asked files read × AreLearned read.typed (ground_of asked read) examples refused
-    × AreCellStates read.typed (ground_of asked read) examples (length (rows_of asked read)) states
-    × WritesRows (form_of asked read) read.typed (ground_of asked read) examples (rows_of asked read) (head_of asked read) (length (rows_of asked read)) old new
+abbrev pub WritesFilled : Bool → AskedData → Files → Heard → Option (List ℕ) → Option (List ℕ) → SavedFiles → SavedFiles → Type 0
+WritesFilled flag asked files input old new held kept = (read : SheetRead) × (typed : List Example) × (examples : List Example) × (refused : List RefusedText) × (states : List RowState)
+    × Opens asked files read × AreTyped asked.ask (ground_of asked read) read.typed input typed
+    × AreLearned typed (ground_of asked read) examples refused
+    × AreCellStates typed (ground_of asked read) examples (length (rows_of asked read)) states
+    × WritesRows (form_of asked read) typed (ground_of asked read) examples (rows_of asked read) (head_of asked read) (length (rows_of asked read)) old new
     × (text : Option (List ℕ)) × IsSavedText (saving_of asked read) (ground_of asked read) examples text × (kept ≡ stored asked.save text held)
     × (flag ≡ (is_wanting asked.strict refused states || lacks_rule asked.save text))
 
 -- the words opened a sheet, and a part of what is to be written was written: a proper prefix of the head and the first rows
-abbrev pub WritesFilledPart : AskedData → Files → Option (List ℕ) → Option (List ℕ) → Type 0
-WritesFilledPart asked files old new = (read : SheetRead) × (examples : List Example) × (refused : List RefusedText) × (n : ℕ)
-    × Opens asked files read × AreLearned read.typed (ground_of asked read) examples refused × (n ≤ length (rows_of asked read))
-    × WritesPart (form_of asked read) read.typed (ground_of asked read) examples (rows_of asked read) (head_of asked read) n old new
+abbrev pub WritesFilledPart : AskedData → Files → Heard → Option (List ℕ) → Option (List ℕ) → Type 0
+WritesFilledPart asked files input old new = (read : SheetRead) × (typed : List Example) × (examples : List Example) × (refused : List RefusedText) × (n : ℕ)
+    × Opens asked files read × AreTyped asked.ask (ground_of asked read) read.typed input typed
+    × AreLearned typed (ground_of asked read) examples refused × (n ≤ length (rows_of asked read))
+    × WritesPart (form_of asked read) typed (ground_of asked read) examples (rows_of asked read) (head_of asked read) n old new
 
 -- the words opened a sheet, and the head and the first rows were written whole
-abbrev pub WritesFilledRows : AskedData → Files → Option (List ℕ) → Option (List ℕ) → Type 0
-WritesFilledRows asked files old new = (read : SheetRead) × (examples : List Example) × (refused : List RefusedText) × (n : ℕ)
-    × Opens asked files read × AreLearned read.typed (ground_of asked read) examples refused × (n ≤ length (rows_of asked read))
-    × WritesRows (form_of asked read) read.typed (ground_of asked read) examples (rows_of asked read) (head_of asked read) n old new
+abbrev pub WritesFilledRows : AskedData → Files → Heard → Option (List ℕ) → Option (List ℕ) → Type 0
+WritesFilledRows asked files input old new = (read : SheetRead) × (typed : List Example) × (examples : List Example) × (refused : List RefusedText) × (n : ℕ)
+    × Opens asked files read × AreTyped asked.ask (ground_of asked read) read.typed input typed
+    × AreLearned typed (ground_of asked read) examples refused × (n ≤ length (rows_of asked read))
+    × WritesRows (form_of asked read) typed (ground_of asked read) examples (rows_of asked read) (head_of asked read) n old new
 
 -- the words opened a sheet, all of it was written, and its rule could not be saved
-abbrev pub FailsToSave : AskedData → Files → Option (List ℕ) → Option (List ℕ) → StoreAt → StoreAt → (List ℕ → Type 0) → Type 0
-FailsToSave asked files old new held kept Said = (read : SheetRead) × (examples : List Example) × (refused : List RefusedText) × (path text : List ℕ)
-    × Opens asked files read × AreLearned read.typed (ground_of asked read) examples refused
-    × WritesRows (form_of asked read) read.typed (ground_of asked read) examples (rows_of asked read) (head_of asked read) (length (rows_of asked read)) old new
+abbrev pub FailsToSave : AskedData → Files → Heard → Option (List ℕ) → Option (List ℕ) → StoreAt → StoreAt → (List ℕ → Type 0) → Type 0
+FailsToSave asked files input old new held kept Said = (read : SheetRead) × (typed : List Example) × (examples : List Example) × (refused : List RefusedText) × (path text : List ℕ)
+    × Opens asked files read × AreTyped asked.ask (ground_of asked read) read.typed input typed
+    × AreLearned typed (ground_of asked read) examples refused
+    × WritesRows (form_of asked read) typed (ground_of asked read) examples (rows_of asked read) (head_of asked read) (length (rows_of asked read)) old new
     × (asked.save ≡ Some path) × IsSavedText (saving_of asked read) (ground_of asked read) examples (Some text)
     × Rose held.faults kept.faults × Said (unsaved_line path)
 
 -- how the filling of a sheet ends, by its status: what its output got, what its store holds, what it said, and why
-pub record EndsFilled (asked : AskedData) (files : Files) (status : ℕ) (before now : Counts) (old new : Option (List ℕ)) (held kept : StoreAt) (Said : List ℕ → Type 0) : Type 0 where
+pub record EndsFilled (asked : AskedData) (files : Files) (input : Heard) (status : ℕ) (before now : Counts) (old new : Option (List ℕ)) (held kept : StoreAt) (Said : List ℕ → Type 0) : Type 0 where
   -- 0 and 1 only where every step of the opening passed, and the whole sheet was written; 1 where something is left to do
-  pub done : status ≡ 0 → WritesFilled false asked files old new held.files kept.files
-  pub refusing : status ≡ 1 → WritesFilled true asked files old new held.files kept.files
+  pub done : status ≡ 0 → WritesFilled false asked files input old new held.files kept.files
+  pub refusing : status ≡ 1 → WritesFilled true asked files input old new held.files kept.files
   -- 2 is for wrong words alone
   pub worded : status ≢ 2
   pub unread : status ≡ 3 → (name : List ℕ) × (IsUnread (sheet_opens asked) files name ⊎ ReadFails (sheet_opens asked) files before now name) × Said (unread_line name)
-  pub part : status ≡ 4 → (WritesFilledPart asked files old new × Said output_line) ⊎ FailsToSave asked files old new held kept Said
+  pub part : status ≡ 4 → (WritesFilledPart asked files input old new × Said output_line) ⊎ FailsToSave asked files input old new held kept Said
   pub refused : status ≡ 5 → (line : List ℕ) × Told files (λ held. (sheet_opens asked held).outcome ≡ Refused line) × Said line
-  pub memory : status ≡ 6 → (Keeps old new ⊎ WritesFilledRows asked files old new) × Said memory_line
+  pub memory : status ≡ 6 → (Keeps old new ⊎ WritesFilledRows asked files input old new) × Said memory_line
   pub quiet : (status ≡ 3) ⊎ (status ≡ 5) → Keeps old new
   -- nothing is saved but by a run that ends with 0 or 1
   pub unsaved : 2 ≤ status → kept.files ≡ held.files

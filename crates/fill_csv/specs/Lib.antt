@@ -1,9 +1,11 @@
+pub mod Asking
 pub mod Ends
 pub mod Fills
 pub mod Ground
 pub mod Lines
 pub mod Near
 pub mod Opening
+pub mod Pages
 pub mod Read
 pub mod Said
 pub mod Saved

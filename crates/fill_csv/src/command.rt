@@ -1,21 +1,27 @@
 //! The run of `fillcsv`, over any cabinet of files, any store, any input and any sinks.
-ghost use Rattle.std.specs.Prelude.{◌≡◌, ◌⊎◌, ◌≤◌, [], All, map, option_map, string_bytes, true, unwrap_or};
+ghost use Rattle.std.specs.Prelude.{◌≡◌, ◌≢◌, ◌⊎◌, ◌≤◌, ℕ, List as Listed, [], All, IfErr, IfOk, IsOk, false, map, option_map, string_bytes, true, unwrap_or};
 ghost use Rattle.fill_edge.specs.Outside.{Rose};
 ghost use Rattle.fill_filter.specs.RuleFile.{RanFile};
 ghost use Rattle.fill_words.specs.Words.{AskedData, Asks, IsLookup, Runs, SavedData, Shows, Wrong, asked_in, data_of, lookup_data};
+ghost use Rattle.fill_csv.specs.Asking.{Heard, SaysAfter, heard};
 ghost use Rattle.fill_csv.specs.Ends.{EndsFilled, EndsShown, EndsWrong, OutBefore};
 ghost use Rattle.fill_csv.specs.Fills.{EndsTold};
+ghost use Rattle.fill_csv.specs.Read.{IsReady, OpensDesk};
 ghost use Rattle.fill_csv.specs.Said.{IsUnsaved, Says};
+ghost use Rattle.fill_csv.specs.Saved.{StoreAt};
 
+use crate::desk::Desk;
 use crate::fill::fill;
 use crate::lines::unsaved_line;
+use crate::opening::open_sheet;
 use crate::saving::{lacks_rule, store_text};
-use crate::stop::{MEMORY_LINE, OUTPUT_LINE, say};
+use crate::stop::{MEMORY_LINE, OUTPUT_LINE, say, tell};
 use crate::told::Told;
 use fill_edge::{Cabinet, Failed, Sink, write_all};
 use fill_files::Store;
 use fill_filter::{RuleFile, run_rule_file};
 use fill_stream::Source;
+use fill_text::NoMemory;
 use fill_words::{Asked, Order, Refusal, read_words};
 use std::alloc::{AllocError, Global};
 use std::marker::Brand;
@@ -50,15 +56,15 @@ pub fn run<C: Cabinet, T: Store, S: Source + Drop, O: Sink, E: Sink>(
     alloc: Global,
     words: &[String],
     folder: &mut Folder<C, T>,
-    input: S,
+    mut input: S,
     out: &mut O,
     err: &mut E,
 ) -> u8
-    // Where the words ask for a sheet, the run ends as its filling does.
+    // Where the words ask for a sheet, the run ends as its filling does, with the input at some place where it is asked.
     ensures filled { (asked : AskedData) → asked_in (map string_bytes words.now) ≡ Asks asked →
-        EndsFilled asked (C.files folder.old.cabinet) result (C.faults folder.old.cabinet) (C.faults folder.new.cabinet) (O.written out.old) (O.written out.new)
+        (after : S) × EndsFilled asked (C.files folder.old.cabinet) (heard (S.left input) (S.faults input) (S.faults after)) result (C.faults folder.old.cabinet) (C.faults folder.new.cabinet) (O.written out.old) (O.written out.new)
         (record { files = T.saved folder.old.store; faults = T.faults folder.old.store }) (record { files = T.saved folder.new.store; faults = T.faults folder.new.store })
-        (Says (E.written err.old) (E.written err.new) (E.faults err.old) (E.faults err.new)) }
+        (SaysAfter asked.ask (E.written err.old) (E.written err.new) (E.faults err.old) (E.faults err.new)) }
 
     // Where they name a saved rule, it ends as the run of that rule does, with the input at some place, or memory runs out before.
     ensures ran { (saved : SavedData) → asked_in (map string_bytes words.now) ≡ Runs saved → OutBefore result (O.written out.old) (O.written out.new) (Says (E.written err.old) (E.written err.new) (E.faults err.old) (E.faults err.new)) ⊎ ((after : S)
@@ -80,7 +86,7 @@ pub fn run<C: Cabinet, T: Store, S: Source + Drop, O: Sink, E: Sink>(
     ensures files { C.files folder.new.cabinet ≡ C.files folder.old.cabinet }
 {
     match read_words(alloc, words) {
-        Ok(Order::Fill(asked)) => fill_sheet(alloc, &asked, folder, out, err),
+        Ok(Order::Fill(asked)) => fill_sheet(alloc, &asked, folder, &mut input, out, err),
         Ok(Order::Run(saved)) => {
             let file = RuleFile {
                 name: saved.rule.as_str(),
@@ -101,26 +107,60 @@ pub fn run<C: Cabinet, T: Store, S: Source + Drop, O: Sink, E: Sink>(
 }
 
 /// Fills the column that the words ask for, saves the rule where they ask for it, and answers the status.
-fn fill_sheet<C: Cabinet, T: Store, O: Sink, E: Sink>(
+fn fill_sheet<C: Cabinet, T: Store, S: Source, O: Sink, E: Sink>(
     alloc: Global,
     asked: &Asked,
     folder: &mut Folder<C, T>,
+    input: &mut S,
     out: &mut O,
     err: &mut E,
 ) -> u8
-    requires { All IsLookup (map lookup_data asked.now.lookups.items) }
-    ensures ends { EndsFilled (data_of asked.now) (C.files folder.old.cabinet) result (C.faults folder.old.cabinet) (C.faults folder.new.cabinet) (O.written out.old) (O.written out.new)
+    requires lookups { All IsLookup (map lookup_data asked.now.lookups.items) }
+    requires loud { asked.now.quiet ≡ true → asked.now.ask ≡ false }
+    ensures ends { EndsFilled (data_of asked.now) (C.files folder.old.cabinet) (heard (S.left input.old) (S.faults input.old) (S.faults input.new)) result (C.faults folder.old.cabinet) (C.faults folder.new.cabinet) (O.written out.old) (O.written out.new)
         (record { files = T.saved folder.old.store; faults = T.faults folder.old.store }) (record { files = T.saved folder.new.store; faults = T.faults folder.new.store })
-        (Says (E.written err.old) (E.written err.new) (E.faults err.old) (E.faults err.new)) }
+        (SaysAfter asked.now.ask (E.written err.old) (E.written err.new) (E.faults err.old) (E.faults err.new)) }
     ensures silent { asked.now.quiet ≡ true → result ≤ 1 → err.new ≡ err.old }
     ensures fault { result ≡ 4 → Rose (O.faults out.old) (O.faults out.new) ⊎ Rose (T.faults folder.old.store) (T.faults folder.new.store) }
     ensures statuses { result ≤ 6 }
     ensures files { C.files folder.new.cabinet ≡ C.files folder.old.cabinet }
 {
-    let filled = fill::<C, O, E, Brand>(alloc, asked, &mut folder.cabinet, out, err, Blank::new(1));
-    match filled {
+    let desk = match open_desk(alloc, asked, &mut folder.cabinet, err) {
+        Ok(desk) => desk,
+        Err(status) => return status,
+    };
+    match fill::<S, O, E, Brand>(alloc, desk, input, out, err, Blank::new(1)) {
         Ok(told) => end(alloc, asked, &told, &mut folder.store, err),
         Err(status) => status,
+    }
+}
+
+/// Opens the sheet that the words name. Where that fails, the line that says why is written, and the answer is the status.
+fn open_desk<C: Cabinet, E: Sink>(
+    alloc: Global,
+    asked: &Asked,
+    cabinet: &mut C,
+    err: &mut E,
+) -> Result<Desk, u8>
+    requires { All IsLookup (map lookup_data asked.now.lookups.items) }
+    ensures ready { IfOk result IsReady }
+    ensures opened { IfOk result (OpensDesk (data_of asked.now) (C.files cabinet.old)) }
+    ensures silent { IsOk result → err.new ≡ err.old }
+    ensures fails { IfErr result (λ status. (input : Heard) (old : Option (Listed ℕ)) (store : StoreAt) → EndsFilled (data_of asked.now) (C.files cabinet.old) input status (C.faults cabinet.old) (C.faults cabinet.new) old old store store
+        (SaysAfter asked.now.ask (E.written err.old) (E.written err.new) (E.faults err.old) (E.faults err.new))) }
+    ensures statuses { IfErr result (λ status. (2 ≤ status) × (status ≤ 6) × (status ≢ 4)) }
+    ensures files { C.files cabinet.new ≡ C.files cabinet.old }
+{
+    let read = match open_sheet(alloc, cabinet, asked) {
+        Ok(read) => read,
+        Err(stop) => return Err(tell(alloc, err, &stop)),
+    };
+    match Desk::of(alloc, asked, read) {
+        Ok(desk) => Ok(desk),
+        Err(NoMemory) => {
+            say(err, MEMORY_LINE);
+            Err(6)
+        }
     }
 }
 

@@ -36,6 +36,11 @@ impl Spoken {
         Ok(Spoken { columns, tables })
     }
 
+    /// The names of the columns.
+    pub(crate) fn columns(&self) -> &[Named] {
+        &self.columns
+    }
+
     fn names(&self) -> Names<'_> {
         Names {
             columns: &self.columns,

@@ -1,46 +1,42 @@
 //! Filling a sheet.
-ghost use Rattle.std.specs.Prelude.{◌≡◌, ◌⊎◌, ◌≤◌, ℕ, List as Listed, [], All, IfErr, IfOk, IfSome, IsErrOf, IsOk, drop, length, map, option_map};
+ghost use Rattle.std.specs.Prelude.{◌≡◌, ◌⊎◌, ◌≤◌, ℕ, List as Listed, [], IfErr, IfOk, IfSome, IsErrOf, IsOk, drop, length, option_map};
 ghost use Rattle.std.specs.List.{list_any};
 ghost use Rattle.std.specs.Io.KnownBytes.{Keeps};
 ghost use Rattle.fill_edge.specs.Outside.{Rose};
 ghost use Rattle.fill_sheet.specs.Sheet.{headers};
-ghost use Rattle.fill_tree.specs.Grammar.{AreSettings};
 ghost use Rattle.fill_tree.specs.declared.user.Example.{Example};
 ghost use Rattle.fill_report.specs.declared.rows.RowState.{RowState};
 ghost use Rattle.fill_filled.specs.Filled.{AreCellStates, WritesPart, WritesRows, is_unsure};
 ghost use Rattle.fill_filled.specs.Learned.{AreLearned};
-ghost use Rattle.fill_words.specs.Words.{IsLookup, data_of, lookup_data};
-ghost use Rattle.fill_csv.specs.Ends.{EndsFilled, form_of, head_of, rows_of};
-ghost use Rattle.fill_csv.specs.Fills.{Fills};
-ghost use Rattle.fill_csv.specs.Saved.{IsSavedText, StoreAt, saving_of};
-ghost use Rattle.fill_csv.specs.Ground.{ground_of, profile_of, settings_of};
-ghost use Rattle.fill_csv.specs.Said.{Says};
-ghost use Rattle.fill_csv.specs.Read.{AreParts, frame_data, read_data};
+ghost use Rattle.fill_ask.specs.Told.{Grew};
+ghost use Rattle.fill_csv.specs.Asking.{SaysAfter, heard};
+ghost use Rattle.fill_csv.specs.Pages.{FailsPage, FillsPage, FillsPart, FillsRows, IsBegun, IsDone, IsPart};
+ghost use Rattle.fill_csv.specs.Saved.{IsSavedText};
+ghost use Rattle.fill_csv.specs.Read.{IsReady, frame_data, page_data};
 
 use crate::clash::clashes_of;
+use crate::desk::{Desk, Doubts};
 use crate::explain::{Spoken, is_long};
-use crate::head;
-use crate::opening::{SheetRead, open_sheet};
-use crate::saving::{RuleFrame, saved_text, saving_of};
-use crate::stop::{MEMORY_LINE, OUTPUT_LINE, say, tell};
+use crate::saving::{RuleFrame, saved_text};
+use crate::stop::{MEMORY_LINE, OUTPUT_LINE, say};
 use crate::told::Told;
-use fill_edge::{Cabinet, Ledger, Sink, Steps};
+use fill_edge::{Ledger, Sink, Steps};
 use fill_filled::{Counts, Filling, Form, Refused, Summary, learn, write_filled};
 use fill_records::Record;
 use fill_report::Halt;
 use fill_session::Session;
+use fill_stream::Source;
 use fill_text::{List, NoMemory};
-use fill_tree::{Constants, Example, Profile, Settings};
-use fill_words::Asked;
+use fill_tree::Example;
 use std::alloc::Global;
 use std::sync::ledger::Blank;
 
-/// Fills the column that the words ask for, and writes the sheet. Where that fails, the line that says why is written too, and
-/// the answer is the status.
-pub(crate) fn fill<C: Cabinet, O: Sink, E: Sink, L: Ledger>(
+/// Fills the column of a sheet, and writes it; where that is wanted, the cells in doubt are asked about first. Where it fails, the
+/// line that says why is written too, and the answer is the status.
+pub(crate) fn fill<S: Source, O: Sink, E: Sink, L: Ledger>(
     alloc: Global,
-    asked: &Asked,
-    cabinet: &mut C,
+    desk: Desk,
+    input: &mut S,
     out: &mut O,
     err: &mut E,
     blank: Blank,
@@ -48,22 +44,17 @@ pub(crate) fn fill<C: Cabinet, O: Sink, E: Sink, L: Ledger>(
     requires name { blank.name ≡ L.name }
     requires parts { blank.parts ≡ L.parts }
     requires one { blank.parts ≡ 1 }
-    requires lookups { All IsLookup (map lookup_data asked.now.lookups.items) }
-    ensures filled { IfOk result (λ told. Fills (data_of asked.now) (C.files cabinet.old) (O.written out.old) (O.written out.new) told) }
-    ensures silent { IsOk result → err.new ≡ err.old }
-    ensures ends { IfErr result (λ status. (store : StoreAt) → EndsFilled (data_of asked.now) (C.files cabinet.old) status (C.faults cabinet.old) (C.faults cabinet.new) (O.written out.old) (O.written out.new) store store
-        (Says (E.written err.old) (E.written err.new) (E.faults err.old) (E.faults err.new))) }
+    requires ready { IsReady desk }
+    ensures filled { IfOk result (λ told. FillsPage desk.ask (page_data desk) (heard (S.left input.old) (S.faults input.old) (S.faults input.new)) (O.written out.old) (O.written out.new) told.refused told.summary.unsure told.text) }
+    ensures silent { IsOk result → desk.ask ≡ false → err.new ≡ err.old }
+    ensures grew { Grew (E.written err.old) (E.written err.new) (E.faults err.old) (E.faults err.new) }
+    ensures fails { IfErr result (λ status. FailsPage status desk.ask (page_data desk) (heard (S.left input.old) (S.faults input.old) (S.faults input.new)) (O.written out.old) (O.written out.new)
+        (SaysAfter desk.ask (E.written err.old) (E.written err.new) (E.faults err.old) (E.faults err.new))) }
     ensures fault { IsErrOf result 4 → Rose (O.faults out.old) (O.faults out.new) }
-    ensures statuses { IfErr result (λ status. (2 ≤ status) × (status ≤ 6)) }
-    ensures files { C.files cabinet.new ≡ C.files cabinet.old }
 {
-    let read = match open_sheet(alloc, cabinet, asked) {
-        Ok(read) => read,
-        Err(stop) => return Err(tell(alloc, err, &stop)),
-    };
     let (book, share) = blank.open::<L>();
     let mut steps = Steps::new(book, share);
-    match write(alloc, asked, read, out, &mut steps) {
+    match fill_desk(alloc, desk, input, out, err, &mut steps) {
         Ok(told) => Ok(told),
         Err(Halt::Fault) => {
             say(err, OUTPUT_LINE);
@@ -76,98 +67,63 @@ pub(crate) fn fill<C: Cabinet, O: Sink, E: Sink, L: Ledger>(
     }
 }
 
-/// The settings that words ask for, by the number of the profile and how many lookups may stand inside each other.
-fn settings_of(profile: u8, depth: u8) -> Settings
-    ensures value { result ≡ settings_of profile depth }
-    ensures bounded { AreSettings result }
+/// Asks about the cells in doubt, where that is wanted, and writes the sheet.
+fn fill_desk<S: Source, O: Sink, E: Sink, L: Ledger>(
+    alloc: Global,
+    mut desk: Desk,
+    input: &mut S,
+    out: &mut O,
+    err: &mut E,
+    steps: &mut Steps<L>,
+) -> Result<Told, Halt>
+    requires { IsReady desk }
+    ensures done { IfOk result (λ told. FillsPage desk.ask (page_data desk) (heard (S.left input.old) (S.faults input.old) (S.faults input.new)) (O.written out.old) (O.written out.new) told.refused told.summary.unsure told.text) }
+    ensures silent { desk.ask ≡ false → err.new ≡ err.old }
+    ensures grew { Grew (E.written err.old) (E.written err.new) (E.faults err.old) (E.faults err.new) }
+    ensures part { IsErrOf result Halt.Fault → FillsPart desk.ask (page_data desk) (heard (S.left input.old) (S.faults input.old) (S.faults input.new)) (O.written out.old) (O.written out.new) }
+    ensures fault { IsErrOf result Halt.Fault → Rose (O.faults out.old) (O.faults out.new) }
+    ensures memory { IsErrOf result Halt.NoMemory → FillsRows desk.ask (page_data desk) (heard (S.left input.old) (S.faults input.old) (S.faults input.new)) (O.written out.old) (O.written out.new) }
 {
-    let profile = profile_of(profile);
-    Settings {
-        depth: depth.min(profile.depth),
-        constants: Constants::Any,
-        profile,
-    }
-}
-
-/// The profile of a number.
-fn profile_of(number: u8) -> Profile
-    ensures value { result ≡ profile_of number }
-    ensures bounded { result.depth ≤ 3 }
-{
-    match number {
-        1 => Profile::FIRST,
-        2 => Profile::SECOND,
-        _ => Profile::THIRD,
+    match desk.ask_about(alloc, input, err, steps) {
+        Ok(()) => write_desk(alloc, desk, out, steps),
+        Err(NoMemory) => Err(Halt::NoMemory),
     }
 }
 
 /// Writes the sheet with its column filled.
-fn write<O: Sink, L: Ledger>(
+fn write_desk<O: Sink, L: Ledger>(
     alloc: Global,
-    asked: &Asked,
-    read: SheetRead,
+    desk: Desk,
     out: &mut O,
     steps: &mut Steps<L>,
 ) -> Result<Told, Halt>
-    requires { AreParts (data_of asked.now) read }
-    ensures done { IfOk result (λ told. (examples : Listed Example) × (states : Listed RowState)
-        × AreLearned read.typed (ground_of (data_of asked.now) (read_data read)) examples told.refused
-        × AreCellStates read.typed (ground_of (data_of asked.now) (read_data read)) examples (length (rows_of (data_of asked.now) (read_data read))) states
-        × (told.summary.unsure ≡ list_any is_unsure states)
-        × (let d = data_of asked.now in let r = read_data read in WritesRows (form_of d r) read.typed (ground_of d r) examples (rows_of d r) (head_of d r) (length (rows_of d r)) (O.written out.old) (O.written out.new))
-        × IsSavedText (saving_of (data_of asked.now) (read_data read)) (ground_of (data_of asked.now) (read_data read)) examples told.text) }
-    ensures part { IsErrOf result Halt.Fault → ((examples : Listed Example) × (refused : Listed Refused) × (n : ℕ) × AreLearned read.typed (ground_of (data_of asked.now) (read_data read)) examples refused
-        × (let d = data_of asked.now in let r = read_data read in (n ≤ length (rows_of d r)) × WritesPart (form_of d r) read.typed (ground_of d r) examples (rows_of d r) (head_of d r) n (O.written out.old) (O.written out.new))) }
+    requires { IsReady desk }
+    ensures done { IfOk result (λ told. IsDone (O.written out.old) (O.written out.new) (page_data desk) told.refused told.summary.unsure told.text) }
+    ensures part { IsErrOf result Halt.Fault → IsPart (O.written out.old) (O.written out.new) (page_data desk) }
     ensures fault { IsErrOf result Halt.Fault → Rose (O.faults out.old) (O.faults out.new) }
-    ensures memory { IsErrOf result Halt.NoMemory → Keeps (O.written out.old) (O.written out.new) ⊎ ((examples : Listed Example) × (refused : Listed Refused) × (n : ℕ) × AreLearned read.typed (ground_of (data_of asked.now) (read_data read)) examples refused
-        × (let d = data_of asked.now in let r = read_data read in (n ≤ length (rows_of d r)) × WritesRows (form_of d r) read.typed (ground_of d r) examples (rows_of d r) (head_of d r) n (O.written out.old) (O.written out.new))) }
+    ensures memory { IsErrOf result Halt.NoMemory → IsBegun (O.written out.old) (O.written out.new) (page_data desk) }
 {
-    let form = head::form_of(asked, &read);
-    let head = head::head_of(alloc, asked, &read, &form)?;
-    let saving = saving_of(alloc, asked, &read)?;
-    let spoken = Spoken::of(alloc, asked, &read)?;
-    let SheetRead {
+    let Desk {
+        mut session,
         records,
-        sheet,
+        header,
         typed,
-        tables,
+        form,
+        head,
+        saving,
+        spoken,
+        doubts,
         ..
-    } = read;
-    let settings = settings_of(asked.profile, asked.depth);
-    let mut session = Session::new(alloc, settings, sheet, tables)?;
+    } = desk;
     let page = Page {
-        rows: rows_after(asked.header, records.as_slice()),
+        rows: rows_after(header, records.as_slice()),
         typed: typed.as_slice(),
         form,
         head: head.as_slice(),
         spoken: &spoken,
-        doubts: Doubts::of(asked),
+        doubts,
     };
     write_page(alloc, &page, saving, &mut session, out, steps)
-}
-
-/// What is told of the first cells in doubt.
-#[derive(Clone, Copy)]
-enum Doubts {
-    /// Nothing.
-    Untold,
-    /// Both answers.
-    Answers,
-    /// Both answers, and the rule behind the other one.
-    Rules,
-}
-
-impl Doubts {
-    /// What the words ask for.
-    fn of(asked: &Asked) -> Doubts {
-        if asked.quiet {
-            Doubts::Untold
-        } else if asked.explain {
-            Doubts::Rules
-        } else {
-            Doubts::Answers
-        }
-    }
 }
 
 /// What is written of a sheet beside its answers.

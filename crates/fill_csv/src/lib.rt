@@ -3,6 +3,7 @@
 
 mod clash;
 mod command;
+mod desk;
 mod explain;
 mod fill;
 mod head;

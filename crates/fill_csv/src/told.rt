@@ -5,9 +5,9 @@ ghost use Rattle.fill_filled.specs.Learned.{counts};
 
 use crate::clash::MOST_REFUSALS;
 use crate::stop::say;
+use fill_ask::refused_text;
 use fill_edge::{Sink, write_all};
 use fill_filled::{Counts, Refused, Summary};
-use fill_session::{EditError, Part};
 use fill_text::List;
 use std::alloc::{AllocError, Global};
 
@@ -163,56 +163,4 @@ fn doubtful_text(alloc: Global, above: u32, counts: &Counts) -> Result<String, A
         text.push_str("\n")?;
     }
     Ok(text)
-}
-
-/// Why a given cell is refused, which clashes with the example of a row, or with none where that is 0.
-fn refused_text(
-    alloc: Global,
-    above: u32,
-    cell: &Refused,
-    clash: u32,
-) -> Result<String, AllocError> {
-    let number = cell.row.saturating_add(above);
-    if clash > 0 {
-        let other = clash.saturating_add(above);
-        return format!(in alloc;
-            "fillcsv: row {number}: not learned from: row {other} reads the same cells and has another text\n"
-        );
-    }
-    match cell.reason {
-        EditError::TooLong {
-            part: Part::Text,
-            length,
-        } => {
-            format!(in alloc;
-                "fillcsv: row {number}: not learned from: {length} characters, and an example has 100 at most\n"
-            )
-        }
-        EditError::TooLong {
-            part: Part::Inputs,
-            length,
-        } => {
-            format!(in alloc;
-                "fillcsv: row {number}: not learned from: {length} characters to read, and an example has 1000 at most\n"
-            )
-        }
-        EditError::NoProgram { .. } => {
-            format!(in alloc; "fillcsv: row {number}: not learned from: no rule gives this text\n")
-        }
-        EditError::TooManyBranches { .. } => {
-            format!(in alloc;
-                "fillcsv: row {number}: not learned from: no rule fits it beside the examples above, and more than 8 rules would be needed\n"
-            )
-        }
-        EditError::NoGuard { .. } => {
-            format!(in alloc;
-                "fillcsv: row {number}: not learned from: no rule fits it beside the examples above, and nothing tells its row from theirs\n"
-            )
-        }
-        EditError::NoSuchRow { .. }
-        | EditError::HasExample
-        | EditError::NoExample
-        | EditError::TooMany
-        | EditError::NoMemory => format!(in alloc; "fillcsv: row {number}: not learned from\n"),
-    }
 }

@@ -11,6 +11,7 @@ use Rattle.fill_command.specs.Applied.{EndsApplied}
 use Rattle.fill_command.specs.Keys.{EndsKeys}
 use Rattle.fill_command.specs.Sessions.{EndsSession}
 use Rattle.fill_filter.specs.RuleFile.{RanFile}
+use Rattle.fill_csv.specs.Asking.{SaysAfter, heard}
 use Rattle.fill_csv.specs.Ends.{EndsFilled, EndsShown, EndsWrong, OutBefore}
 use Rattle.fill_csv.specs.Saved.{StoreAt}
 use Rattle.fill_csv.specs.Said.{Says as SaysFilled}
@@ -62,7 +63,7 @@ flashfill_ends words files a r old new before now quiet said ago lately first la
 
 -- what the run of `fillcsv` promises, likewise, and by its input and its store, of which no read and no save failed
 pub record RanFillcsv (words : List (List ℕ)) (files : List (List ℕ × List ℕ)) (r : ℕ) (old new : List ℕ) (before now : ℕ) (quiet said : List ℕ) (ago lately : ℕ) (first : List ℕ) (held kept : StoreAt) : Type 0 where
-  pub filled : (asked : AskedData) → asked_in words ≡ Asks asked → EndsFilled asked (files_of files) r no_faults no_faults (Some old) (Some new) held kept (SaysFilled (Some quiet) (Some said) ago lately)
+  pub filled : (asked : AskedData) → asked_in words ≡ Asks asked → EndsFilled asked (files_of files) (heard (Some first) 0 0) r no_faults no_faults (Some old) (Some new) held kept (SaysAfter asked.ask (Some quiet) (Some said) ago lately)
   pub ran : (saved : SavedData) → asked_in words ≡ Runs saved → OutBefore r (Some old) (Some new) (SaysFilled (Some quiet) (Some said) ago lately) ⊎ ((left : Option (List ℕ))
       × RanFile saved.rule (files_of files) no_faults no_faults r (Some first) left 0 0 (Some old) (Some new) before now (SaysFilled (Some quiet) (Some said) ago lately))
   pub wrong : asked_in words ≡ Wrong → EndsWrong r (SaysFilled (Some quiet) (Some said) ago lately) × (new ≡ old)

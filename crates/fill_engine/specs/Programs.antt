@@ -15,6 +15,7 @@ use Rattle.fill_command.specs.Answer.{IsOfSession, Says, usage_line}
 use Rattle.fill_command.specs.Applied.{EndsApplied}
 use Rattle.fill_command.specs.Keys.{EndsKeys}
 use Rattle.fill_command.specs.Sessions.{EndsSession}
+use Rattle.fill_csv.specs.Asking.{SaysAfter, heard}
 use Rattle.fill_csv.specs.Ends.{EndsFilled, EndsShown, EndsWrong, OutBefore}
 use Rattle.fill_csv.specs.Said.{Says as SaysFilled}
 use Rattle.fill_engine.specs.declared.request.Program.{Program}
@@ -71,9 +72,9 @@ nothing_stored = record { files = Some []; faults = 0 }
 
 -- what `fillcsv` answers to these words over these files
 pub record EndsFillcsv (words : List (List ℕ)) (files : List (List ℕ × List ℕ)) (a : AnswerData) : Type 0 where
-  -- words that ask for a sheet end as its filling does
+  -- words that ask for a sheet end as its filling does; what it asks is answered by standard input, of which no read fails
   pub filled : (asked : AskedData) → asked_in words ≡ Asks asked → (store : StoreAt) × Stores a.saved store
-      × EndsFilled asked (files_of files) a.status no_faults no_faults (Some []) (Some a.out) nothing_stored store (SaysFilled (Some []) (Some a.err) 0 0)
+      × EndsFilled asked (files_of files) (heard (Some (input_in files)) 0 0) a.status no_faults no_faults (Some []) (Some a.out) nothing_stored store (SaysAfter asked.ask (Some []) (Some a.err) 0 0)
   -- words that name a saved rule end as its run over standard input does, of which no read fails
   pub ran : (saved : SavedData) → asked_in words ≡ Runs saved → OutBefore a.status (Some []) (Some a.out) (SaysFilled (Some []) (Some a.err) 0 0) ⊎ ((left : Option (List ℕ))
       × RanFile saved.rule (files_of files) no_faults no_faults a.status (Some (input_in files)) left 0 0 (Some []) (Some a.out) 0 0 (SaysFilled (Some []) (Some a.err) 0 0))

@@ -1,3 +1,4 @@
+pub mod Loud
 mod OneKind
 pub mod Parts
 mod Proper

@@ -43,23 +43,24 @@ lookups_proper tables keys all is =
     added_all IsLookup key_in key_proper found.0 keys all (added_all IsLookup table_in table_proper [] tables found.0 (All-nil IsLookup) found.1) found.2
 
 -- what was chosen has the tables and keys of the words
-chosen_lookups : (a : Option Bool) (b c : Option ℕ) (d : Option TargetData) (e : Option (List TypedData)) (f : Option (List LookupData)) (all : ChosenData)
-    → chosen a b c d e f ≡ Some all → f ≡ Some all.lookups
-chosen_lookups None b c d e f all is = cc
-chosen_lookups (Some a) None c d e f all is = cc
-chosen_lookups (Some a) (Some b) None d e f all is = cc
-chosen_lookups (Some a) (Some b) (Some c) None e f all is = cc
-chosen_lookups (Some a) (Some b) (Some c) (Some d) None f all is = cc
-chosen_lookups (Some a) (Some b) (Some c) (Some d) (Some e) None all is = cc
-chosen_lookups (Some a) (Some b) (Some c) (Some d) (Some e) (Some f) all is =
-    let same : record { only_sure = a; profile = b; depth = c; to = d; examples = e; lookups = f } ≡ all = cc in
+chosen_lookups : (a : Option Bool) (b c : Option ℕ) (d : Option TargetData) (e : Option (List TypedData)) (f : Option (List LookupData)) (h : Option Bool) (all : ChosenData)
+    → chosen a b c d e f h ≡ Some all → f ≡ Some all.lookups
+chosen_lookups None b c d e f h all is = cc
+chosen_lookups (Some a) None c d e f h all is = cc
+chosen_lookups (Some a) (Some b) None d e f h all is = cc
+chosen_lookups (Some a) (Some b) (Some c) None e f h all is = cc
+chosen_lookups (Some a) (Some b) (Some c) (Some d) None f h all is = cc
+chosen_lookups (Some a) (Some b) (Some c) (Some d) (Some e) None h all is = cc
+chosen_lookups (Some a) (Some b) (Some c) (Some d) (Some e) (Some f) None all is = cc
+chosen_lookups (Some a) (Some b) (Some c) (Some d) (Some e) (Some f) (Some h) all is =
+    let same : record { only_sure = a; profile = b; depth = c; to = d; examples = e; lookups = f; ask = h } ≡ all = cc in
     ap (λ (x : ChosenData). Some x.lookups) same
 
 by_choice : (rows : List Row) (o : Option ChosenData) (a : AskedData) → chosen_in rows ≡ o → meaning_by rows o ≡ Asks a → All IsLookup a.lookups
 by_choice rows None a is means = cc
 by_choice rows (Some c) a is means =
     let same : data_in rows c ≡ a = cc in
-    subst (λ (x : AskedData). All IsLookup x.lookups) same (lookups_proper (texts_of (codes "table") rows) (texts_of (codes "key") rows) c.lookups (chosen_lookups _ _ _ _ _ _ c is))
+    subst (λ (x : AskedData). All IsLookup x.lookups) same (lookups_proper (texts_of (codes "table") rows) (texts_of (codes "key") rows) c.lookups (chosen_lookups _ _ _ _ _ _ _ c is))
 
 -- the tables and keys of words that `clap` takes
 pub rows_proper : (rows : List Row) (result : Result Asked Refusal) → Answers (meaning_of_rows rows) result

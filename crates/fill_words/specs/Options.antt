@@ -37,7 +37,7 @@ rules = several_rule (codes "table") ∷ several_rule (codes "key") ∷ value_ru
 
 -- the words that say what is written
 abbrev pub outputs : List Rule
-outputs = flag_rule (codes "state") ∷ value_rule (codes "only") ∷ flag_rule (codes "strict") ∷ flag_rule (codes "quiet") ∷ flag_rule (codes "explain") ∷ text_rule (codes "save") ∷ []
+outputs = flag_rule (codes "state") ∷ value_rule (codes "only") ∷ flag_rule (codes "strict") ∷ flag_rule (codes "quiet") ∷ flag_rule (codes "explain") ∷ flag_rule (codes "ask") ∷ text_rule (codes "save") ∷ []
 
 -- the words that say which saved rule is run, and how much is told of it
 abbrev pub runs : List Rule

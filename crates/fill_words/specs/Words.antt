@@ -70,6 +70,7 @@ pub record AskedData : Type 0 where
   pub profile : ℕ
   pub quiet : Bool
   pub explain : Bool
+  pub ask : Bool
   pub strict : Bool
   pub save : Option Text
 
@@ -88,6 +89,7 @@ data_of a = record {
   profile = a.profile;
   quiet = a.quiet;
   explain = a.explain;
+  ask = a.ask;
   strict = a.strict;
   save = option_map string_bytes a.save;
 }
@@ -136,6 +138,14 @@ target_in (Some column) None = Some (There column)
 target_in None (Some name) = Some (New name)
 target_in (Some column) (Some name) = None
 target_in None None = None
+
+-- whether cells in doubt are asked about: `--ask` reads the answers from standard input, so this (`-`) is not the sheet, and what
+-- it asks is not quiet
+abbrev pub ask_in : Bool → Bool → Option Text → Option Bool
+ask_in false quiet file = Some false
+ask_in true true file = None
+ask_in true false None = Some true
+ask_in true false (Some file) = if bytes_eq file (codes "-") then None else Some true
 
 -- a row's number: a plain decimal that is not 0
 abbrev pub counted_row : Option ℕ → Option ℕ
@@ -216,6 +226,7 @@ pub record ChosenData : Type 0 where
   pub to : TargetData
   pub examples : List TypedData
   pub lookups : List LookupData
+  pub ask : Bool
 
 abbrev pub data_in : List Row → ChosenData → AskedData
 data_in rows chosen = record {
@@ -232,6 +243,7 @@ data_in rows chosen = record {
   profile = chosen.profile;
   quiet = is_set (codes "quiet") rows;
   explain = is_set (codes "explain") rows;
+  ask = chosen.ask;
   strict = is_set (codes "strict") rows;
   save = first_of (codes "save") rows;
 }
@@ -244,18 +256,20 @@ chosen_data c = record {
   to = target_data c.to;
   examples = map typed_data c.examples.items;
   lookups = map lookup_data c.lookups.items;
+  ask = c.ask;
 }
 
 -- these values, where there are all of them
-abbrev pub chosen : Option Bool → Option ℕ → Option ℕ → Option TargetData → Option (List TypedData) → Option (List LookupData) → Option ChosenData
-chosen (Some only_sure) (Some profile) (Some depth) (Some to) (Some examples) (Some lookups) =
-    Some (record { only_sure = only_sure; profile = profile; depth = depth; to = to; examples = examples; lookups = lookups })
-chosen _ _ _ _ _ _ = None
+abbrev pub chosen : Option Bool → Option ℕ → Option ℕ → Option TargetData → Option (List TypedData) → Option (List LookupData) → Option Bool → Option ChosenData
+chosen (Some only_sure) (Some profile) (Some depth) (Some to) (Some examples) (Some lookups) (Some ask) =
+    Some (record { only_sure = only_sure; profile = profile; depth = depth; to = to; examples = examples; lookups = lookups; ask = ask })
+chosen _ _ _ _ _ _ _ = None
 
 abbrev pub chosen_in : List Row → Option ChosenData
 chosen_in rows = chosen (only_sure_in (first_of (codes "only") rows)) (profile_in (first_of (codes "profile") rows)) (depth_in (first_of (codes "depth") rows))
     (target_in (first_of (codes "to") rows) (first_of (codes "new") rows)) (examples_in (texts_of (codes "example") rows))
     (lookups_in (texts_of (codes "table") rows) (texts_of (codes "key") rows))
+    (ask_in (is_set (codes "ask") rows) (is_set (codes "quiet") rows) (first_of (codes "FILE") rows))
 
 abbrev pub meaning_by : List Row → Option ChosenData → Meaning
 meaning_by rows None = Wrong

@@ -56,6 +56,8 @@ pub struct Asked {
     pub quiet: bool,
     /// Whether both answers are told on the first rows in doubt.
     pub explain: bool,
+    /// Whether cells in doubt are asked about; then the sheet is not the standard input, and there is no quiet.
+    pub ask: bool,
     /// Whether each cell has to be given or sure.
     pub strict: bool,
     /// The path that the rule is saved under, if it is.

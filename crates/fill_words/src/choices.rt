@@ -1,6 +1,6 @@
 //! The options that take one of a few words.
 ghost use Rattle.std.specs.Prelude.{◌≡◌, IfOk, IfErr, Some, option_map, string_bytes};
-ghost use Rattle.fill_words.specs.Words.{RefusesPart, depth_in, only_sure_in, profile_in, target_data, target_in};
+ghost use Rattle.fill_words.specs.Words.{RefusesPart, ask_in, depth_in, only_sure_in, profile_in, target_data, target_in};
 
 use crate::{Refusal, Target};
 use std::alloc::Global;
@@ -95,6 +95,36 @@ pub(crate) fn target_by(
         (None, None) => Err(Refusal::of_usage(alloc, NEITHER)),
     }
 }
+
+/// Whether cells in doubt are asked about, where the sheet is not the standard input and there is no quiet; or the refusal.
+pub(crate) fn ask_of(
+    alloc: Global,
+    ask: bool,
+    quiet: bool,
+    file: Option<&str>,
+) -> Result<bool, Refusal>
+    ensures ok { IfOk result (λ asks. ask_in ask quiet (option_map (λ w. w.now) file.entry) ≡ Some asks) }
+    ensures err { IfErr result (RefusesPart (ask_in ask quiet (option_map (λ w. w.now) file.entry))) }
+{
+    match (ask, quiet, file) {
+        (false, _, _) => Ok(false),
+        (true, true, _) => Err(Refusal::of_usage(alloc, SILENT)),
+        (true, false, Some("-")) => Err(Refusal::of_usage(alloc, TWICE)),
+        (true, false, _) => Ok(true),
+    }
+}
+
+/// What is wrong where questions are wanted and quiet too.
+const SILENT: &str = "error: the argument '--ask' cannot be used with '--quiet'
+
+For more information, try '--help'.
+";
+
+/// What is wrong where the sheet comes from where the answers come from.
+const TWICE: &str = "error: the argument '--ask' cannot be used with the FILE '-': it reads the answers from standard input
+
+For more information, try '--help'.
+";
 
 /// What is wrong where the words name two columns to fill.
 const BOTH: &str = "error: the argument '--to <COLUMN>' cannot be used with '--new <NAME>'

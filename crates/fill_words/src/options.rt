@@ -18,6 +18,7 @@ const EXAMPLES: &str = "Examples:
   fillcsv people.csv --to Label --example '5=Noether (Erlangen)' --example 7=
   fillcsv people.csv --new Initials --example 2=AB
   fillcsv sales.csv --to Month --table months=months.csv --key months:1
+  fillcsv people.csv --to Label --ask > filled.csv
   fillcsv people.csv --to Label --save label.rule
   fillcsv --rule label.rule < more.csv > filled.csv";
 
@@ -225,6 +226,11 @@ fn with_outputs<'a>(alloc: Global, command: Command<'a>) -> Result<Command<'a>, 
         "explain",
         "Tell what else the first ten cells in doubt could be, and by which rule",
     );
+    let ask = flag(
+        alloc,
+        "ask",
+        "Ask about the cells in doubt, one after another, and learn from the answers",
+    );
     let save = text(
         alloc,
         "save",
@@ -237,5 +243,6 @@ fn with_outputs<'a>(alloc: Global, command: Command<'a>) -> Result<Command<'a>, 
         .arg(strict)?
         .arg(quiet)?
         .arg(explain)?
+        .arg(ask)?
         .arg(save)
 }

@@ -5,7 +5,7 @@ ghost use Rattle.clap.specs.Walk.{first_of, rows_of};
 ghost use Rattle.clap.specs.Words.{found_of};
 ghost use Rattle.fill_words.specs.Words.{Answers, AnswersOrder, AnswersRun, Asks, IsLookup, IsProper, RefusesPart, asked_in, chosen_data, chosen_in, data_in, is_rule_word, is_set, lookup_data, meaning_of_rows, run_meaning, run_of_rows, sheet_meaning, text_of, texts_of};
 
-use crate::choices::{depth_of, only_sure_of, profile_of, target_by};
+use crate::choices::{ask_of, depth_of, only_sure_of, profile_of, target_by};
 use crate::columns::columns_of;
 use crate::examples::examples_of;
 use crate::options::{options, run_options};
@@ -70,6 +70,8 @@ pub(crate) struct Chosen {
     pub examples: Vec<Typed>,
     /// The tables, and then their keys.
     pub lookups: Vec<Lookup>,
+    /// Whether cells in doubt are asked about.
+    pub ask: bool,
 }
 
 /// What these options ask for.
@@ -87,6 +89,12 @@ fn chosen_by(alloc: Global, matches: &ArgMatches<'_>) -> Result<Chosen, Refusal>
         values_of(matches, "table"),
         values_of(matches, "key"),
     )?;
+    let ask = ask_of(
+        alloc,
+        is_set(matches, "ask"),
+        is_set(matches, "quiet"),
+        value_of(matches, "FILE"),
+    )?;
     Ok(Chosen {
         only_sure,
         profile,
@@ -94,6 +102,7 @@ fn chosen_by(alloc: Global, matches: &ArgMatches<'_>) -> Result<Chosen, Refusal>
         to,
         examples,
         lookups,
+        ask,
     })
 }
 
@@ -125,6 +134,7 @@ fn asked_with(alloc: Global, matches: &ArgMatches<'_>, chosen: Chosen) -> Result
         profile: chosen.profile,
         quiet: is_set(matches, "quiet"),
         explain: is_set(matches, "explain"),
+        ask: chosen.ask,
         strict: is_set(matches, "strict"),
         save: word_of(alloc, matches, "save")?,
     })

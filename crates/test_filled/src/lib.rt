@@ -2,6 +2,8 @@
 #![tactic(auto)]
 
 #[cfg(test)]
+mod dialogue;
+#[cfg(test)]
 mod filling;
 #[cfg(test)]
 mod rules;

@@ -31,26 +31,30 @@ fn asks(alloc: Global, line: &str, wanted: &str) -> Result<bool, AllocError> {
 
 #[test]
 fn words_that_ask(rt: HostRuntime) -> Result<(), Fail> {
-    let table: [(&str, &str); 8] = [
+    let table: [(&str, &str); 9] = [
         (
             "people.csv --to Label",
-            "Asked { file: \"people.csv\", to: There(\"Label\"), from: [], header: true, examples: [], replace: false, lookups: [], depth: 1, states: false, only_sure: false, profile: 3, quiet: false, explain: false, strict: false, save: None }",
+            "Asked { file: \"people.csv\", to: There(\"Label\"), from: [], header: true, examples: [], replace: false, lookups: [], depth: 1, states: false, only_sure: false, profile: 3, quiet: false, explain: false, ask: false, strict: false, save: None }",
         ),
         (
             "--state --only=sure people.csv --profile 2 --to=Label --from Name,City --no-header --from 5",
-            "Asked { file: \"people.csv\", to: There(\"Label\"), from: [\"Name\", \"City\", \"5\"], header: false, examples: [], replace: false, lookups: [], depth: 1, states: true, only_sure: true, profile: 2, quiet: false, explain: false, strict: false, save: None }",
+            "Asked { file: \"people.csv\", to: There(\"Label\"), from: [\"Name\", \"City\", \"5\"], header: false, examples: [], replace: false, lookups: [], depth: 1, states: true, only_sure: true, profile: 2, quiet: false, explain: false, ask: false, strict: false, save: None }",
         ),
         (
             "people.csv --new Initials --example 2=AB --replace --example=30= --quiet --example 4=a=b --strict",
-            "Asked { file: \"people.csv\", to: New(\"Initials\"), from: [], header: true, examples: [Typed { row: 2, text: \"AB\" }, Typed { row: 30, text: \"\" }, Typed { row: 4, text: \"a=b\" }], replace: true, lookups: [], depth: 1, states: false, only_sure: false, profile: 3, quiet: true, explain: false, strict: true, save: None }",
+            "Asked { file: \"people.csv\", to: New(\"Initials\"), from: [], header: true, examples: [Typed { row: 2, text: \"AB\" }, Typed { row: 30, text: \"\" }, Typed { row: 4, text: \"a=b\" }], replace: true, lookups: [], depth: 1, states: false, only_sure: false, profile: 3, quiet: true, explain: false, ask: false, strict: true, save: None }",
         ),
         (
             "sales.csv --to Month --key months:1 --table months=months.csv --depth 2 --table=a=b=c --key a:2,1,30",
-            "Asked { file: \"sales.csv\", to: There(\"Month\"), from: [], header: true, examples: [], replace: false, lookups: [Table { name: \"months\", file: \"months.csv\" }, Table { name: \"a\", file: \"b=c\" }, Key { table: \"months\", columns: [1] }, Key { table: \"a\", columns: [2, 1, 30] }], depth: 2, states: false, only_sure: false, profile: 3, quiet: false, explain: false, strict: false, save: None }",
+            "Asked { file: \"sales.csv\", to: There(\"Month\"), from: [], header: true, examples: [], replace: false, lookups: [Table { name: \"months\", file: \"months.csv\" }, Table { name: \"a\", file: \"b=c\" }, Key { table: \"months\", columns: [1] }, Key { table: \"a\", columns: [2, 1, 30] }], depth: 2, states: false, only_sure: false, profile: 3, quiet: false, explain: false, ask: false, strict: false, save: None }",
         ),
         (
             "people.csv --to Label --save label.rule",
-            "Asked { file: \"people.csv\", to: There(\"Label\"), from: [], header: true, examples: [], replace: false, lookups: [], depth: 1, states: false, only_sure: false, profile: 3, quiet: false, explain: false, strict: false, save: Some(\"label.rule\") }",
+            "Asked { file: \"people.csv\", to: There(\"Label\"), from: [], header: true, examples: [], replace: false, lookups: [], depth: 1, states: false, only_sure: false, profile: 3, quiet: false, explain: false, ask: false, strict: false, save: Some(\"label.rule\") }",
+        ),
+        (
+            "people.csv --to Label --ask",
+            "Asked { file: \"people.csv\", to: There(\"Label\"), from: [], header: true, examples: [], replace: false, lookups: [], depth: 1, states: false, only_sure: false, profile: 3, quiet: false, explain: false, ask: true, strict: false, save: None }",
         ),
         (
             "--rule=label.rule --quiet",
@@ -62,7 +66,7 @@ fn words_that_ask(rt: HostRuntime) -> Result<(), Fail> {
         ),
         (
             "--to 3 -- --people.csv",
-            "Asked { file: \"--people.csv\", to: There(\"3\"), from: [], header: true, examples: [], replace: false, lookups: [], depth: 1, states: false, only_sure: false, profile: 3, quiet: false, explain: false, strict: false, save: None }",
+            "Asked { file: \"--people.csv\", to: There(\"3\"), from: [], header: true, examples: [], replace: false, lookups: [], depth: 1, states: false, only_sure: false, profile: 3, quiet: false, explain: false, ask: false, strict: false, save: None }",
         ),
     ];
     for (line, wanted) in table {
@@ -73,7 +77,7 @@ fn words_that_ask(rt: HostRuntime) -> Result<(), Fail> {
 
 #[test]
 fn words_that_are_wrong(rt: HostRuntime) -> Result<(), Fail> {
-    let table: [(&str, &str); 23] = [
+    let table: [(&str, &str); 25] = [
         (
             "people.csv",
             "wrong: error: the following required arguments were not provided:\n  <--to <COLUMN>|--new <NAME>>\n\nFor more information, try '--help'.\n",
@@ -85,6 +89,14 @@ fn words_that_are_wrong(rt: HostRuntime) -> Result<(), Fail> {
         (
             "people.csv --to Label --new Name",
             "wrong: error: the argument '--to <COLUMN>' cannot be used with '--new <NAME>'\n\nFor more information, try '--help'.\n",
+        ),
+        (
+            "people.csv --to Label --ask --quiet",
+            "wrong: error: the argument '--ask' cannot be used with '--quiet'\n\nFor more information, try '--help'.\n",
+        ),
+        (
+            "- --to Label --ask",
+            "wrong: error: the argument '--ask' cannot be used with the FILE '-': it reads the answers from standard input\n\nFor more information, try '--help'.\n",
         ),
         (
             "people.csv --to Label --form Name",
@@ -152,7 +164,7 @@ fn words_that_are_wrong(rt: HostRuntime) -> Result<(), Fail> {
         ),
         (
             "people.csv --to Label --save label.rule --table months=months.csv",
-            "Asked { file: \"people.csv\", to: There(\"Label\"), from: [], header: true, examples: [], replace: false, lookups: [Table { name: \"months\", file: \"months.csv\" }], depth: 1, states: false, only_sure: false, profile: 3, quiet: false, explain: false, strict: false, save: Some(\"label.rule\") }",
+            "Asked { file: \"people.csv\", to: There(\"Label\"), from: [], header: true, examples: [], replace: false, lookups: [Table { name: \"months\", file: \"months.csv\" }], depth: 1, states: false, only_sure: false, profile: 3, quiet: false, explain: false, ask: false, strict: false, save: Some(\"label.rule\") }",
         ),
         (
             "--rule label.rule people.csv",

@@ -24,7 +24,7 @@ returns c =
     w.status_is w.out_is w.err_is c.new-out.ensures.bytes c.new-err.ensures.bytes c.new-out.ensures.faults w.out_faults c.new-err.ensures.faults w.err_faults
     first (ap store_at c.folder_of-folder.ensures.store) (subst (λ s. Stores s (store_at c.run-status.new.folder.store)) (sym w.saved_is) c.in_ok-saved.ensures)
     (record {
-      filled = c.run-status.ensures.filled;
+      filled = λ asked is. (c.run-status.ensures.filled asked is).1;
       ran = λ saved is. elim (c.run-status.ensures.ran saved is) [ inl out ↦ inl out | inr r ↦ inr (_, r.1) ];
       wrong = λ is. ((c.run-status.ensures.wrong is).0, ap (λ page. page.bytes.items) (c.run-status.ensures.wrong is).2);
       shown = λ is. (c.run-status.ensures.shown is).0;

@@ -6,4 +6,4 @@ use Rattle.fill_words.proofs.laws.words_mean.Goals as goal
 
 pub returns : goal.returns
 unfolding clap_on_literals asked_in sheet_meaning run_meaning app run_app
-returns c = record { fewest = refl; most = refl; added = refl; saved = refl; run = refl; not_both = refl; help = refl; none = refl; both = refl; neither = refl; unsplit = refl; only = refl }
+returns c = record { fewest = refl; most = refl; added = refl; saved = refl; asked = refl; run = refl; not_both = refl; help = refl; none = refl; both = refl; neither = refl; twice = refl; quiet = refl; unsplit = refl; only = refl }

@@ -14,4 +14,5 @@ returns c =
     let three = c.in_ok-arg-3.ensures.shape c.flag-strict.ensures.local ∙ (ap₂ with_rule two c.flag-strict.ensures.rule ∙ rule_more a (flag_rule (codes "state") ∷ value_rule (codes "only") ∷ []) (flag_rule (codes "strict"))) in
     let four = c.in_ok-arg-4.ensures.shape c.flag-quiet.ensures.local ∙ (ap₂ with_rule three c.flag-quiet.ensures.rule ∙ rule_more a (flag_rule (codes "state") ∷ value_rule (codes "only") ∷ flag_rule (codes "strict") ∷ []) (flag_rule (codes "quiet"))) in
     let five = c.in_ok-arg-5.ensures.shape c.flag-explain.ensures.local ∙ (ap₂ with_rule four c.flag-explain.ensures.rule ∙ rule_more a (flag_rule (codes "state") ∷ value_rule (codes "only") ∷ flag_rule (codes "strict") ∷ flag_rule (codes "quiet") ∷ []) (flag_rule (codes "explain"))) in
-    IfOk-weaker c.arg-6.result _ _ (λ r h. h.shape c.text-save.ensures.local ∙ (ap₂ with_rule five c.text-save.ensures.rule ∙ rule_more a (flag_rule (codes "state") ∷ value_rule (codes "only") ∷ flag_rule (codes "strict") ∷ flag_rule (codes "quiet") ∷ flag_rule (codes "explain") ∷ []) (text_rule (codes "save")))) c.arg-6.ensures
+    let six = c.in_ok-arg-6.ensures.shape c.flag-ask.ensures.local ∙ (ap₂ with_rule five c.flag-ask.ensures.rule ∙ rule_more a (flag_rule (codes "state") ∷ value_rule (codes "only") ∷ flag_rule (codes "strict") ∷ flag_rule (codes "quiet") ∷ flag_rule (codes "explain") ∷ []) (flag_rule (codes "ask"))) in
+    IfOk-weaker c.arg-7.result _ _ (λ r h. h.shape c.text-save.ensures.local ∙ (ap₂ with_rule six c.text-save.ensures.rule ∙ rule_more a (flag_rule (codes "state") ∷ value_rule (codes "only") ∷ flag_rule (codes "strict") ∷ flag_rule (codes "quiet") ∷ flag_rule (codes "explain") ∷ flag_rule (codes "ask") ∷ []) (text_rule (codes "save")))) c.arg-7.ensures

@@ -19,6 +19,7 @@ returns c =
       profile = c.args.chosen.profile;
       quiet = sym c.is_set-4.ensures i;
       explain = sym c.is_set-5.ensures i;
+      ask = c.args.chosen.ask;
       strict = sym c.is_set-6.ensures i;
       save = sym c.in_ok-word_of.ensures i;
     })

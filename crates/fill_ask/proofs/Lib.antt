@@ -1,0 +1,4 @@
+pub mod Cutting
+pub mod Talking
+pub mod Growing
+pub mod Taking

@@ -1,0 +1,100 @@
+-- Turns of a dialogue, and the whole of it.
+use Rattle.std.proofs.Common.{◌≡◌, ◌∙◌, ◌⊎◌, ◌≤◌, ℕ, List, [], ◌∷◌, ◌++◌, Bool, Option, None, Some, true, false, ap, arith, inl, inr, refl, subst, sym}
+use Rattle.std.specs.Prelude.{MatchOption}
+use Rattle.std.specs.Str.Lines.{lines}
+use Rattle.std.proofs.lemmas.List.{append_assoc}
+use Rattle.fill_edge.specs.Outside.{Rose}
+use Rattle.fill_tree.specs.declared.user.Example.{Example}
+use Rattle.fill_space.specs.declared.ground.Ground.{Ground}
+use Rattle.fill_session.specs.Suggested.{Asked}
+use Rattle.fill_ask.specs.declared.replies.Kept.{Kept}
+use Rattle.fill_ask.specs.Dialogue.{AreAnswered, IsDialogue, QuestionIs}
+use Rattle.fill_ask.specs.Lines.{AreLinesOf, IsNextLine}
+use Rattle.fill_ask.specs.Replies.{replied, reply_in, typed_with}
+use Rattle.fill_ask.specs.Turns.{AreHeard, GoesOn, Hears, IsOver, LeadsTo, Turns}
+
+heard_both : (a b c : Option (List ℕ)) (h k : List (List ℕ)) → AreHeard a b h → AreHeard b c k → AreHeard a c (h ++ k)
+heard_both None b c h k first second = tt
+heard_both (Some xs) None c h k first second = absurd first
+heard_both (Some xs) (Some ys) None h k first second = absurd second
+heard_both (Some xs) (Some ys) (Some zs) h k first second = first ∙ (ap (λ (l : List (List ℕ)). h ++ l) second ∙ sym (append_assoc h k (lines zs)))
+
+heard_line : (bytes come : Option (List ℕ)) (before now : ℕ) (line : List ℕ) → IsNextLine bytes come before now (Some line) → AreHeard bytes come (line ∷ [])
+heard_line None come before now line is = tt
+heard_line (Some xs) None before now line is = absurd is
+heard_line (Some xs) (Some ys) before now line is = is
+
+rose_sooner : (first before now : ℕ) → first ≤ before → Rose before now → Rose first now
+rose_sooner first before now le rose = omega (arith, rose)
+
+lines_after : (left come : Option (List ℕ)) (first before now : ℕ) (h k : List (List ℕ)) → AreHeard left come h → first ≤ before → AreLinesOf come before now k → AreLinesOf left first now (h ++ k)
+lines_after None come first before now h k heard le are = tt
+lines_after (Some xs) None first before now h k heard le are = absurd heard
+lines_after (Some xs) (Some ys) first before now h k heard le (inl all) = inl (ap (λ (l : List (List ℕ)). h ++ l) all ∙ sym heard)
+lines_after (Some xs) (Some ys) first before now h k heard le (inr some) =
+    inr (rose_sooner first before now le some.0, (some.1.0, heard ∙ (ap (λ (l : List (List ℕ)). h ++ l) some.1.1 ∙ sym (append_assoc h k some.1.0))))
+
+module _ (g : Ground) (words : List Example) where
+  abbrev From : Option (List Kept) → List Kept → List (List ℕ) → List Kept → Type 0
+  From next kept more after = MatchOption next (after ≡ kept) (λ now. IsDialogue g words now more after)
+
+  pub leads_start : (kept : List Kept) → LeadsTo g words kept [] kept
+  leads_start kept = record { leads = λ more after d. d; }
+
+  leads_both : (a b c : List Kept) (h k : List (List ℕ)) → LeadsTo g words a h b → LeadsTo g words b k c → LeadsTo g words a (h ++ k) c
+  leads_both a b c h k first second = record {
+    leads = λ more after d. subst (λ (l : List (List ℕ)). IsDialogue g words a l after) (sym (append_assoc h k more)) (first.leads (k ++ more) after (second.leads more after d));
+  }
+
+  pub goes_both : (a b c : List Kept) (left mid come : Option (List ℕ)) → GoesOn g words a b left mid → GoesOn g words b c mid come → GoesOn g words a c left come
+  goes_both a b c left mid come first second = (first.0 ++ second.0, heard_both left mid come first.0 second.0 first.1 second.1, leads_both a b c first.0 second.0 first.2 second.2)
+
+  -- nothing is left to ask
+  over_at : (kept : List Kept) → QuestionIs g words kept None → (heard : List (List ℕ)) → IsDialogue g words kept heard kept
+  over_at kept none [] = refl
+  over_at kept none (line ∷ more) = inl (none, refl)
+
+  pub over_unasked : (kept : List Kept) (bytes : Option (List ℕ)) (before now : ℕ) → QuestionIs g words kept None → IsOver g words kept bytes before now
+  over_unasked kept None before now none = ([], tt, refl)
+  over_unasked kept (Some xs) before now none = (lines xs, inl refl, over_at kept none (lines xs))
+
+  -- a question was asked
+  module _ (q : Asked) (old new : List Kept) (question : QuestionIs g words old (Some q)) where
+    line_leads : (line : List ℕ) → replied q (reply_in line) old ≡ Some new → LeadsTo g words old (line ∷ []) new
+    line_leads line is = record {
+      leads = λ more after d. inr (q, question, subst (λ (next : Option (List Kept)). From next old more after) (sym is) d);
+    }
+
+    quits : (line : List ℕ) (more : List (List ℕ)) → replied q (reply_in line) old ≡ None → IsDialogue g words old (line ∷ more) old
+    quits line more is = inr (q, question, subst (λ (next : Option (List Kept)). From next old more old) (sym is) refl)
+
+    over_silent : (bytes come : Option (List ℕ)) (before now : ℕ) → IsNextLine bytes come before now None → IsOver g words old bytes before now
+    over_silent None come before now is = ([], tt, refl)
+    over_silent (Some xs) come before now (inl none) = ([], inl (sym none), refl)
+    over_silent (Some xs) come before now (inr rose) = ([], inr (rose, (lines xs, refl)), refl)
+
+    over_quit : (bytes come : Option (List ℕ)) (before now : ℕ) (line : List ℕ) → IsNextLine bytes come before now (Some line) → replied q (reply_in line) old ≡ None
+        → IsOver g words old bytes before now
+    over_quit None come before now line next is = (line ∷ [], tt, quits line [] is)
+    over_quit (Some xs) None before now line next is = absurd next
+    over_quit (Some xs) (Some ys) before now line next is = (line ∷ lines ys, inl (sym next), quits line (lines ys) is)
+
+    pub heard_turns : (on : Bool) (bytes come : Option (List ℕ)) (before now : ℕ) → Hears on q old new bytes come before now → Turns on g words old new bytes come before now
+    heard_turns true bytes come before now hears = (hears.0 ∷ [], heard_line bytes come before now hears.0 hears.1, line_leads hears.0 hears.2)
+    heard_turns false bytes come before now hears = (hears.0, elim hears.1 [
+      | inl silent ↦ over_silent bytes come before now silent
+      | inr quit ↦ over_quit bytes come before now quit.0 quit.1 quit.2
+    ])
+
+  -- the whole dialogue
+  pub all_answered : (kept : List Kept) (left come : Option (List ℕ)) (first before now : ℕ) → GoesOn g words [] kept left come → first ≤ before → IsOver g words kept come before now
+      → AreAnswered g words left first now (typed_with words kept)
+  all_answered kept left come first before now went le over =
+      (went.0 ++ over.0, kept, lines_after left come first before now went.0 over.0 went.1 le over.1, went.2.leads over.0 kept over.2, refl)
+
+module _ (g : Ground) (words : List Example) where
+  -- nothing was heard yet
+  pub goes_not : (kept : List Kept) (left come : Option (List ℕ)) → come ≡ left → GoesOn g words kept kept left come
+  goes_not kept None come same = ([], tt, leads_start g words kept)
+  goes_not kept (Some xs) None same = cc
+  goes_not kept (Some xs) (Some ys) same = ([], (let eq : ys ≡ xs = cc in ap lines (sym eq)), leads_start g words kept)

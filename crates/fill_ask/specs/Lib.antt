@@ -1,0 +1,6 @@
+pub mod Lines
+pub mod Cuts
+pub mod Replies
+pub mod Dialogue
+pub mod Turns
+pub mod Told

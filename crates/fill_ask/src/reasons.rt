@@ -1,0 +1,110 @@
+//! Why a given text is not learned from, and which example it clashes with. No contract says these texts, nor what is found.
+ghost use Rattle.std.specs.Prelude.{◌≡◌, ◌≤◌, length, true};
+ghost use Rattle.fill_ask.specs.Told.{Grew};
+
+use crate::say::say;
+use fill_edge::Sink;
+use fill_filled::Refused;
+use fill_session::{EditError, Part, Session};
+use fill_sheet::Sheet;
+use std::alloc::{AllocError, Global};
+
+/// Tells why a given text is not learned from, as far as there is memory for it.
+pub(crate) fn tell_refusal<E: Sink>(
+    alloc: Global,
+    session: &Session,
+    above: u32,
+    cell: &Refused,
+    err: &mut E,
+)
+    ensures { Grew (E.written err.old) (E.written err.new) (E.faults err.old) (E.faults err.new) }
+{
+    if let Ok(text) = refused_text(alloc, above, cell, clash_of(session, cell.row)) {
+        say(err, text.as_bytes());
+    }
+}
+
+/// The row of the first example that reads the same cells as this row, and 0 where there is none.
+pub fn clash_of(session: &Session, row: u32) -> u32 {
+    for example in session.examples() {
+        if is_pair(session.sheet(), row, example.row)
+            && reads_same(session.sheet(), row, example.row)
+        {
+            return example.row;
+        }
+    }
+    0
+}
+
+/// Whether these are two rows of the sheet.
+fn is_pair(sheet: &Sheet, row: u32, other: u32) -> bool
+    ensures { result ≡ true → (1 ≤ row) × (row ≤ length sheet.now.rows) × (1 ≤ other) × (other ≤ length sheet.now.rows) }
+{
+    row >= 1 && row <= sheet.rows() && other >= 1 && other <= sheet.rows() && row != other
+}
+
+/// Whether two rows have the same cells to read.
+fn reads_same(sheet: &Sheet, row: u32, other: u32) -> bool
+    requires first { (1 ≤ row) × (row ≤ length sheet.now.rows) }
+    requires second { (1 ≤ other) × (other ≤ length sheet.now.rows) }
+{
+    for column in sheet.inputs() {
+        if !sheet.cell(row, *column).same(sheet.cell(other, *column)) {
+            return false;
+        }
+    }
+    true
+}
+
+/// Why a given text is not learned from, which clashes with the example of a row, or with none where that is 0. Rows are numbered
+/// as a spreadsheet shows them, below `above` records.
+pub fn refused_text(
+    alloc: Global,
+    above: u32,
+    cell: &Refused,
+    clash: u32,
+) -> Result<String, AllocError> {
+    let number = cell.row.saturating_add(above);
+    if clash > 0 {
+        let other = clash.saturating_add(above);
+        return format!(in alloc;
+            "fillcsv: row {number}: not learned from: row {other} reads the same cells and has another text\n"
+        );
+    }
+    match cell.reason {
+        EditError::TooLong {
+            part: Part::Text,
+            length,
+        } => {
+            format!(in alloc;
+                "fillcsv: row {number}: not learned from: {length} characters, and an example has 100 at most\n"
+            )
+        }
+        EditError::TooLong {
+            part: Part::Inputs,
+            length,
+        } => {
+            format!(in alloc;
+                "fillcsv: row {number}: not learned from: {length} characters to read, and an example has 1000 at most\n"
+            )
+        }
+        EditError::NoProgram { .. } => {
+            format!(in alloc; "fillcsv: row {number}: not learned from: no rule gives this text\n")
+        }
+        EditError::TooManyBranches { .. } => {
+            format!(in alloc;
+                "fillcsv: row {number}: not learned from: no rule fits it beside the examples above, and more than 8 rules would be needed\n"
+            )
+        }
+        EditError::NoGuard { .. } => {
+            format!(in alloc;
+                "fillcsv: row {number}: not learned from: no rule fits it beside the examples above, and nothing tells its row from theirs\n"
+            )
+        }
+        EditError::NoSuchRow { .. }
+        | EditError::HasExample
+        | EditError::NoExample
+        | EditError::TooMany
+        | EditError::NoMemory => format!(in alloc; "fillcsv: row {number}: not learned from\n"),
+    }
+}

@@ -1,0 +1,163 @@
+//! A sheet that is ready to be filled.
+ghost use Rattle.std.specs.Prelude.{◌≡◌, ◌≤◌, IfOk, OnOk, false};
+ghost use Rattle.fill_tree.specs.Grammar.{AreSettings};
+ghost use Rattle.fill_words.specs.Words.{data_of};
+ghost use Rattle.fill_csv.specs.Ground.{profile_of, settings_of};
+ghost use Rattle.fill_ask.specs.Told.{Grew};
+ghost use Rattle.fill_csv.specs.Asking.{AreTyped, heard};
+ghost use Rattle.fill_csv.specs.Pages.{page_of, with_typed};
+ghost use Rattle.fill_csv.specs.Read.{AreParts, IsReady, page_data, read_data};
+
+use crate::explain::Spoken;
+use crate::head;
+use crate::opening::SheetRead;
+use crate::saving::{RuleFrame, saving_of};
+use fill_ask::{Topic, ask};
+use fill_edge::{Ledger, Sink, Steps};
+use fill_filled::Form;
+use fill_records::Record;
+use fill_session::Session;
+use fill_stream::Source;
+use fill_text::{List, NoMemory};
+use fill_tree::{Constants, Example, Profile, Settings};
+use fill_words::Asked;
+use std::alloc::Global;
+
+/// What is told of the first cells in doubt.
+#[derive(Clone, Copy)]
+pub(crate) enum Doubts {
+    /// Nothing.
+    Untold,
+    /// Both answers.
+    Answers,
+    /// Both answers, and the rule behind the other one.
+    Rules,
+}
+
+impl Doubts {
+    /// What the words ask for.
+    pub(crate) fn of(asked: &Asked) -> Doubts {
+        if asked.quiet {
+            Doubts::Untold
+        } else if asked.explain {
+            Doubts::Rules
+        } else {
+            Doubts::Answers
+        }
+    }
+}
+
+/// A sheet that is ready to be filled.
+#[derive(Drop)]
+pub(crate) struct Desk {
+    /// The rows, and no examples yet.
+    pub session: Session,
+    /// The records of the sheet, the header among them.
+    pub records: List<Record>,
+    /// Whether the first of them names the columns.
+    pub header: bool,
+    /// The texts that are typed for rows.
+    pub typed: List<Example>,
+    /// How answers are written.
+    pub form: Form,
+    /// What stands before the records of rows.
+    pub head: List<u8>,
+    /// What the rule has beside its program, where it is to be saved.
+    pub saving: Option<RuleFrame>,
+    /// By which names rules are told.
+    pub spoken: Spoken,
+    /// What is told of the first cells in doubt.
+    pub doubts: Doubts,
+    /// Whether cells in doubt are asked about.
+    pub ask: bool,
+}
+
+impl Desk {
+    /// The sheet that was read, for what the words ask.
+    pub(crate) fn of(alloc: Global, asked: &Asked, read: SheetRead) -> Result<Desk, NoMemory>
+        requires { AreParts (data_of asked.now) read }
+        ensures page { IfOk result (λ desk. page_data desk ≡ page_of (data_of asked.now) (read_data read)) }
+        ensures ready { IfOk result IsReady }
+        ensures asks { IfOk result (λ desk. desk.ask ≡ asked.now.ask) }
+    {
+        let form = head::form_of(asked, &read);
+        let head = head::head_of(alloc, asked, &read, &form)?;
+        let saving = saving_of(alloc, asked, &read)?;
+        let spoken = Spoken::of(alloc, asked, &read)?;
+        let SheetRead {
+            records,
+            sheet,
+            typed,
+            tables,
+            ..
+        } = read;
+        let settings = settings_of(asked.profile, asked.depth);
+        let session = Session::new(alloc, settings, sheet, tables)?;
+        Ok(Desk {
+            session,
+            records,
+            header: asked.header,
+            typed,
+            form,
+            head,
+            saving,
+            spoken,
+            doubts: Doubts::of(asked),
+            ask: asked.ask,
+        })
+    }
+
+    /// Asks about the cells in doubt, where that is wanted: the replies are typed texts beside those that the words give.
+    pub(crate) fn ask_about<S: Source, E: Sink, L: Ledger>(
+        &mut self,
+        alloc: Global,
+        input: &mut S,
+        err: &mut E,
+        steps: &mut Steps<L>,
+    ) -> Result<(), NoMemory>
+        requires { IsReady self.old }
+        ensures ready { OnOk result (IsReady self.new) }
+        ensures page { OnOk result (page_data self.new ≡ with_typed (page_data self.old) self.new.typed) }
+        ensures typed { OnOk result (AreTyped self.old.ask self.old.session.spaces.ground self.old.typed (heard (S.left input.old) (S.faults input.old) (S.faults input.new)) self.new.typed) }
+        ensures silent { self.old.ask ≡ false → err.new ≡ err.old }
+        ensures grew { Grew (E.written err.old) (E.written err.new) (E.faults err.old) (E.faults err.new) }
+    {
+        if !self.ask {
+            return Ok(());
+        }
+        let topic = Topic {
+            words: self.typed.as_slice(),
+            columns: self.spoken.columns(),
+            above: if self.header { 1 } else { 0 },
+        };
+        let typed = ask(alloc, &topic, &mut self.session, input, err, steps)?;
+        self.typed = typed;
+        Ok(())
+    }
+}
+
+/// The settings that words ask for, by the number of the profile and how many lookups may stand inside each other.
+fn settings_of(profile: u8, depth: u8) -> Settings
+    ensures value { result ≡ settings_of profile depth }
+    ensures bounded { AreSettings result }
+{
+    let profile = profile_of(profile);
+    Settings {
+        depth: depth.min(profile.depth),
+        constants: Constants::Any,
+        profile,
+    }
+}
+
+/// The profile of a number.
+fn profile_of(number: u8) -> Profile
+    ensures value { result ≡ profile_of number }
+    ensures bounded { result.depth ≤ 3 }
+{
+    match number {
+        1 => Profile::FIRST,
+        2 => Profile::SECOND,
+        _ => Profile::THIRD,
+    }
+}
+
