@@ -1,16 +1,21 @@
 -- Turns of a dialogue, and the whole of it.
 use Rattle.std.proofs.Common.{◌≡◌, ◌∙◌, ◌⊎◌, ◌≤◌, ℕ, List, [], ◌∷◌, ◌++◌, Bool, Option, None, Some, true, false, ap, arith, inl, inr, refl, subst, sym}
-use Rattle.std.specs.Prelude.{MatchOption}
+use Rattle.std.specs.Prelude.{IfOk, MatchOption, Result, Ok, Err, if◌then◌else◌}
+use Rattle.std.specs.Io.KnownBytes.{prepend_known}
+use Rattle.std.proofs.KnownBytes.{prepend_known-nil}
 use Rattle.std.specs.Str.Lines.{lines}
 use Rattle.std.proofs.lemmas.List.{append_assoc}
 use Rattle.fill_edge.specs.Outside.{Rose}
 use Rattle.fill_tree.specs.declared.user.Example.{Example}
 use Rattle.fill_space.specs.declared.ground.Ground.{Ground}
-use Rattle.fill_session.specs.Suggested.{Asked}
+use Rattle.fill_session.specs.Suggested.{Asked, SuggestionIs}
+use Rattle.fill_filled.specs.Learned.{AreLearned}
+use Rattle.fill_filled.specs.declared.learning.Refused.{Refused}
 use Rattle.fill_ask.specs.declared.replies.Kept.{Kept}
+use Rattle.fill_ask.specs.declared.replies.Reply.{Reply}
 use Rattle.fill_ask.specs.Dialogue.{AreAnswered, IsDialogue, QuestionIs}
 use Rattle.fill_ask.specs.Lines.{AreLinesOf, IsNextLine}
-use Rattle.fill_ask.specs.Replies.{replied, reply_in, typed_with}
+use Rattle.fill_ask.specs.Replies.{replied, reply_in, rows_of, typed_with}
 use Rattle.fill_ask.specs.Turns.{AreHeard, GoesOn, Hears, IsOver, LeadsTo, Turns}
 
 heard_both : (a b c : Option (List ℕ)) (h k : List (List ℕ)) → AreHeard a b h → AreHeard b c k → AreHeard a c (h ++ k)
@@ -98,3 +103,24 @@ module _ (g : Ground) (words : List Example) where
   goes_not kept None come same = ([], tt, leads_start g words kept)
   goes_not kept (Some xs) None same = cc
   goes_not kept (Some xs) (Some ys) same = ([], (let eq : ys ≡ xs = cc in ap lines (sym eq)), leads_start g words kept)
+
+  pub goes_start : (kept : List Kept) (left : Option (List ℕ)) (held : List ℕ) → kept ≡ [] → held ≡ [] → GoesOn g words [] kept left (prepend_known held left)
+  goes_start kept left held none empty =
+      subst (λ (k : List Kept). GoesOn g words [] k left (prepend_known held left)) (sym none)
+      (goes_not [] left (prepend_known held left) (ap (λ (h : List ℕ). prepend_known h left) empty ∙ prepend_known-nil left))
+
+-- a line was heard, and its reply was taken
+pub hears_taken : {E : Type 0} (r : Result Bool E) (q : Asked) (reply : Reply) (old new : List Kept) (bytes come : Option (List ℕ)) (before now : ℕ) (line : List ℕ)
+    → IsNextLine bytes come before now (Some line) → reply ≡ reply_in line
+    → IfOk r (λ on. replied q reply old ≡ (if on then Some new else None)) → IfOk r (λ on. on ≡ false → new ≡ old)
+    → IfOk r (λ on. Hears on q old new bytes come before now)
+hears_taken (Ok true) q reply old new bytes come before now line next is taken stays = (line, next, ap (λ (x : Reply). replied q x old) (sym is) ∙ taken)
+hears_taken (Ok false) q reply old new bytes come before now line next is taken stays = (stays refl, inr (line, next, ap (λ (x : Reply). replied q x old) (sym is) ∙ taken))
+hears_taken (Err e) q reply old new bytes come before now line next is taken stays = tt
+
+-- what is asked once all is learned that is typed
+pub question_is : (g over : Ground) (words : List Example) (kept : List Kept) (typed : List Example) (passed : List ℕ) (examples : List Example) (refused : List Refused) (found : Option Asked)
+    → typed ≡ typed_with words kept → passed ≡ rows_of kept → over ≡ g → AreLearned typed g examples refused → SuggestionIs over examples passed found → QuestionIs g words kept found
+question_is g over words kept typed passed examples refused found is_typed is_passed is_over learned asked =
+    (examples, refused, subst (λ (t : List Example). AreLearned t g examples refused) is_typed learned,
+        subst (λ (p : List ℕ). SuggestionIs g examples p found) is_passed (subst (λ (o : Ground). SuggestionIs o examples passed found) is_over asked))

@@ -144,15 +144,19 @@ fn question<E: Sink, L: Ledger>(
     let typed = typed_with(alloc, topic.words, kept)?;
     let refused = learn(alloc, session, typed.as_slice(), steps)?;
     let passed = rows_of(alloc, kept)?;
-    let asked = session.suggest_beside(&passed)?;
-    if let Some(asked) = &asked {
-        if let Some(cell) = refusal_of(refused.as_slice(), kept) {
-            tell_refusal(alloc, session, topic.above, cell, err);
+    let found = session.suggest_beside(&passed)?;
+    let asked = match found {
+        Some(asked) => asked,
+        None => {
+            clear(session, steps);
+            return Ok(None);
         }
-        tell_question(alloc, topic, session.sheet(), asked, err);
-    }
+    };
+    let refusal = refusal_of(refused.as_slice(), kept);
+    tell_refusal(alloc, session, topic.above, refusal, err);
+    tell_question(alloc, topic, session.sheet(), &asked, err);
     clear(session, steps);
-    Ok(asked)
+    Ok(Some(asked))
 }
 
 /// Forgets what was learned.

@@ -94,7 +94,8 @@ fn put_cut(to: &mut String, text: &Text) -> Result<(), NoMemory> {
     if chars.len() <= MOST_TOLD {
         return Ok(put_quoted(to, chars)?);
     }
-    put_quoted(to, &chars[..MOST_TOLD])?;
+    let (front, _) = chars.split_at(MOST_TOLD);
+    put_quoted(to, front)?;
     Ok(to.push_str("..")?)
 }
 

@@ -9,16 +9,19 @@ use fill_session::{EditError, Part, Session};
 use fill_sheet::Sheet;
 use std::alloc::{AllocError, Global};
 
-/// Tells why a given text is not learned from, as far as there is memory for it.
+/// Tells why a given text is not learned from, if one is not, as far as there is memory for it.
 pub(crate) fn tell_refusal<E: Sink>(
     alloc: Global,
     session: &Session,
     above: u32,
-    cell: &Refused,
+    cell: Option<&Refused>,
     err: &mut E,
 )
     ensures { Grew (E.written err.old) (E.written err.new) (E.faults err.old) (E.faults err.new) }
 {
+    let Some(cell) = cell else {
+        return;
+    };
     if let Ok(text) = refused_text(alloc, above, cell, clash_of(session, cell.row)) {
         say(err, text.as_bytes());
     }

@@ -82,3 +82,9 @@ module _ (asked : AskedData) (files : Files) (input : Heard) (before now : Count
   pub page_fails : (status : ℕ) → FailsPage status asked.ask (page_of asked read) input old new Said → EndsFilled asked files input status before now old new store store Said
   page_fails status (inl four) = part_ends asked files input before now old new store store Said status four.0 refl (part_written four.1) four.2
   page_fails status (inr six) = memory_ends asked files input before now old new store store Said status six.0 refl (rows_written six.1) six.2
+
+-- the same words
+pub ends_same : (a b : AskedData) (files : Files) (input : Heard) (status : ℕ) (before now : Counts) (old new : Option (List ℕ)) (held kept : StoreAt) (first last : Option (List ℕ)) (m n : ℕ)
+    → a ≡ b → EndsFilled a files input status before now old new held kept (SaysAfter a.ask first last m n) → EndsFilled b files input status before now old new held kept (SaysAfter b.ask first last m n)
+ends_same a b files input status before now old new held kept first last m n same ends =
+    subst (λ (x : AskedData). EndsFilled x files input status before now old new held kept (SaysAfter x.ask first last m n)) same ends
