@@ -24,7 +24,7 @@ cut_at : (front rest bytes line : List ℕ) → All (λ b. is_newline b ≡ fals
 cut_at front rest bytes line none is stripped = record {
   cut = λ more.
       let split : slice_split is_newline (bytes ++ more) ≡ front ∷ slice_split is_newline (rest ++ more) =
-          ap (λ (b : List ℕ). slice_split is_newline (b ++ more)) is ∙ ap (λ (b : List ℕ). slice_split is_newline b) (append_assoc front (10 ∷ rest) more) ∙ slice_split_at is_newline front 10 (rest ++ more) none refl in
+      ap (λ (b : List ℕ). slice_split is_newline (b ++ more)) is ∙ ap (λ (b : List ℕ). slice_split is_newline b) (append_assoc front (10 ∷ rest) more) ∙ slice_split_at is_newline front 10 (rest ++ more) none refl in
       ap lines_of_parts split ∙ front_line front (slice_split is_newline (rest ++ more)) (rest ++ more) refl ∙ ap (λ (l : List ℕ). l ∷ lines (rest ++ more)) (sym stripped);
 }
 
