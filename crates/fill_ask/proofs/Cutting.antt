@@ -1,6 +1,6 @@
 -- Lines that are cut off.
-use Rattle.std.proofs.Common.{◌≡◌, ◌∙◌, ◌⊎◌, ◌+◌, ◌<◌, ◌≤◌, ℕ, List, [], ◌∷◌, ◌++◌, All, Option, None, Some, true, false, ap, arith, inl, inr, get_or, length, refl, subst, suc, sym, take, drop}
-use Rattle.std.specs.Prelude.{option_to_list, ◌==◌, if◌then◌else◌}
+use Rattle.std.proofs.Common.{◌≡◌, ◌∙◌, ◌+◌, ◌<◌, ◌≤◌, ℕ, List, [], ◌∷◌, ◌++◌, All, Option, None, Some, false, ap, arith, inl, inr, get_or, length, refl, subst, suc, sym, take, drop}
+use Rattle.std.specs.Prelude.{option_to_list, ◌==◌}
 use Rattle.std.specs.List.{slice_split}
 use Rattle.std.specs.Io.KnownBytes.{Consumes, IsAtEnd, Keeps, prepend_known}
 use Rattle.std.proofs.KnownBytes.{Keeps-trans}
@@ -24,7 +24,7 @@ cut_at : (front rest bytes line : List ℕ) → All (λ b. is_newline b ≡ fals
 cut_at front rest bytes line none is stripped = record {
   cut = λ more.
       let split : slice_split is_newline (bytes ++ more) ≡ front ∷ slice_split is_newline (rest ++ more) =
-          ap (λ (b : List ℕ). slice_split is_newline (b ++ more)) is ∙ ap (λ (b : List ℕ). slice_split is_newline b) (append_assoc front (10 ∷ rest) more) ∙ slice_split_at is_newline front 10 (rest ++ more) none refl in
+      ap (λ (b : List ℕ). slice_split is_newline (b ++ more)) is ∙ ap (λ (b : List ℕ). slice_split is_newline b) (append_assoc front (10 ∷ rest) more) ∙ slice_split_at is_newline front 10 (rest ++ more) none refl in
       ap lines_of_parts split ∙ front_line front (slice_split is_newline (rest ++ more)) (rest ++ more) refl ∙ ap (λ (l : List ℕ). l ∷ lines (rest ++ more)) (sym stripped);
 }
 

@@ -5,7 +5,6 @@ use Rattle.std.specs.Str.{IsUtf8, is_utf8}
 use Rattle.std.proofs.lemmas.Str.{IsUtf8-from_is_utf8, is_utf8-from_IsUtf8}
 use Rattle.std.proofs.lemmas.Bool.{false_from_ne_true}
 use Rattle.std.proofs.lemmas.List.Elements.{filter_map-append}
-
 use Rattle.fill_ask.specs.declared.replies.Reply.TheVariants.{Unclear}
 use Rattle.fill_ask.specs.Replies.{reply_in, reply_of}
 use Rattle.std.proofs.lemmas.List.{append-nil, take-append-le, take_all, take_more}

@@ -1,5 +1,5 @@
 -- Turns of a dialogue, and the whole of it.
-use Rattle.std.proofs.Common.{◌≡◌, ◌∙◌, ◌⊎◌, ◌≤◌, ℕ, List, [], ◌∷◌, ◌++◌, Bool, Option, None, Some, true, false, ap, arith, inl, inr, refl, subst, sym}
+use Rattle.std.proofs.Common.{◌≡◌, ◌∙◌, ◌≤◌, ℕ, List, [], ◌∷◌, ◌++◌, Bool, Option, None, Some, true, false, ap, arith, inl, inr, refl, subst, sym}
 use Rattle.std.specs.Prelude.{IfOk, MatchOption, Result, Ok, Err, if◌then◌else◌}
 use Rattle.std.specs.Io.KnownBytes.{prepend_known}
 use Rattle.std.proofs.KnownBytes.{prepend_known-nil}
@@ -44,7 +44,7 @@ module _ (g : Ground) (words : List Example) where
   From next kept more after = MatchOption next (after ≡ kept) (λ now. IsDialogue g words now more after)
 
   pub leads_start : (kept : List Kept) → LeadsTo g words kept [] kept
-  leads_start kept = record { leads = λ more after d. d; }
+  leads_start kept = record { leads = λ more after d. d }
 
   leads_both : (a b c : List Kept) (h k : List (List ℕ)) → LeadsTo g words a h b → LeadsTo g words b k c → LeadsTo g words a (h ++ k) c
   leads_both a b c h k first second = record {
@@ -86,10 +86,13 @@ module _ (g : Ground) (words : List Example) where
 
     pub heard_turns : (on : Bool) (bytes come : Option (List ℕ)) (before now : ℕ) → Hears on q old new bytes come before now → Turns on g words old new bytes come before now
     heard_turns true bytes come before now hears = (hears.0 ∷ [], heard_line bytes come before now hears.0 hears.1, line_leads hears.0 hears.2)
-    heard_turns false bytes come before now hears = (hears.0, elim hears.1 [
-      | inl silent ↦ over_silent bytes come before now silent
-      | inr quit ↦ over_quit bytes come before now quit.0 quit.1 quit.2
-    ])
+    heard_turns false bytes come before now hears = (
+      hears.0,
+      elim hears.1 [
+        | inl silent ↦ over_silent bytes come before now silent
+        | inr quit ↦ over_quit bytes come before now quit.0 quit.1 quit.2
+      ],
+    )
 
   -- the whole dialogue
   pub all_answered : (kept : List Kept) (left come : Option (List ℕ)) (first before now : ℕ) → GoesOn g words [] kept left come → first ≤ before → IsOver g words kept come before now
@@ -121,6 +124,9 @@ hears_taken (Err e) q reply old new bytes come before now line next is taken sta
 -- what is asked once all is learned that is typed
 pub question_is : (g over : Ground) (words : List Example) (kept : List Kept) (typed : List Example) (passed : List ℕ) (examples : List Example) (refused : List Refused) (found : Option Asked)
     → typed ≡ typed_with words kept → passed ≡ rows_of kept → over ≡ g → AreLearned typed g examples refused → SuggestionIs over examples passed found → QuestionIs g words kept found
-question_is g over words kept typed passed examples refused found is_typed is_passed is_over learned asked =
-    (examples, refused, subst (λ (t : List Example). AreLearned t g examples refused) is_typed learned,
-        subst (λ (p : List ℕ). SuggestionIs g examples p found) is_passed (subst (λ (o : Ground). SuggestionIs o examples passed found) is_over asked))
+question_is g over words kept typed passed examples refused found is_typed is_passed is_over learned asked = (
+  examples,
+  refused,
+  subst (λ (t : List Example). AreLearned t g examples refused) is_typed learned,
+  subst (λ (p : List ℕ). SuggestionIs g examples p found) is_passed (subst (λ (o : Ground). SuggestionIs o examples passed found) is_over asked),
+)

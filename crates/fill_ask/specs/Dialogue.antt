@@ -21,7 +21,7 @@ abbrev pub IsDialogue : Ground → List Example → List Kept → List (List ℕ
 IsDialogue g words kept [] after = after ≡ kept
 IsDialogue g words kept (line ∷ more) after = (QuestionIs g words kept None × (after ≡ kept))
     ⊎ ((q : Asked) × QuestionIs g words kept (Some q)
-        × MatchOption (replied q (reply_in line) kept) (after ≡ kept) (λ now. IsDialogue g words now more after))
+    × MatchOption (replied q (reply_in line) kept) (after ≡ kept) (λ now. IsDialogue g words now more after))
 
 -- the typed texts after a dialogue over the lines of what a source has left: the same as if the words had given those of the
 -- replies

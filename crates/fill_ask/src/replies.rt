@@ -151,7 +151,10 @@ pub(crate) fn typed_with(
     }
     for word in words {
         let text = word.text.copy()?;
-        typed.push(Example { row: word.row, text })?;
+        typed.push(Example {
+            row: word.row,
+            text,
+        })?;
     }
     Ok(typed)
 }
@@ -164,7 +167,10 @@ fn put_example(typed: &mut List<Example>, reply: &Kept) -> Result<(), NoMemory>
         return Ok(());
     };
     let text = text.copy()?;
-    typed.push(Example { row: reply.row, text })
+    typed.push(Example {
+        row: reply.row,
+        text,
+    })
 }
 
 /// The rows of the replies, which are not asked again.

@@ -160,4 +160,3 @@ fn profile_of(number: u8) -> Profile
         _ => Profile::THIRD,
     }
 }
-

@@ -121,7 +121,8 @@ For more information, try '--help'.
 ";
 
 /// What is wrong where the sheet comes from where the answers come from.
-const TWICE: &str = "error: the argument '--ask' cannot be used with the FILE '-': it reads the answers from standard input
+const TWICE: &str =
+    "error: the argument '--ask' cannot be used with the FILE '-': it reads the answers from standard input
 
 For more information, try '--help'.
 ";

@@ -15,7 +15,8 @@ struct Row<'a> {
 }
 
 /// One row is in doubt, that of Emmy A Noether.
-const PEOPLE: &[u8] = b"Name,City,Label\nAda Byron,London,Byron (London)\nMax Planck,Kiel,\nLise Meitner,Graz,Meitner (Graz)\nEmmy A Noether,Erlangen,\nCarl Gauss,Kassel,\nEmil Artin,,\n";
+const PEOPLE: &[u8] =
+    b"Name,City,Label\nAda Byron,London,Byron (London)\nMax Planck,Kiel,\nLise Meitner,Graz,Meitner (Graz)\nEmmy A Noether,Erlangen,\nCarl Gauss,Kassel,\nEmil Artin,,\n";
 
 const LABEL: &[&str] = &["s.csv", "--to", "Label", "--state"];
 
@@ -25,12 +26,7 @@ const NAMES: &[u8] = b"Name,Last\nAda Byron,Byron\nMax Planck,\nX\n";
 const LAST: &[&str] = &["s.csv", "--to", "Last", "--state", "--profile", "1"];
 
 /// A run of these words over this input.
-fn scene_of(
-    alloc: Global,
-    sheet: &[u8],
-    words: &[&str],
-    more: &[&str],
-) -> Result<Scene, Fail> {
+fn scene_of(alloc: Global, sheet: &[u8], words: &[&str], more: &[&str]) -> Result<Scene, Fail> {
     let mut scene = empty_scene(alloc)?;
     for word in words {
         scene.words.push(String::from_str(alloc, word)?)?;

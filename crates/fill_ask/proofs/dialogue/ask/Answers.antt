@@ -35,10 +35,10 @@ returns-in-Ok-false-clause-answered g c =
     let was = c.loop.invariant in
     let turned = rw (c.in-Ok-false.field-0-test, was.ground) at c.in-Ok-false.ensures.turns in
     let answered = all_answered c.args.session.now.spaces.ground c.args.topic.now.words.now c.loop.dialogue.kept.items (g.S.Source.left c.args.input.now)
-        (prepend_known c.loop.dialogue.lines.held (g.S.Source.left c.loop.input)) (g.S.Source.faults c.args.input.now) (g.S.Source.faults c.loop.input) (g.S.Source.faults c.turn.new.input) was.went was.later turned.1 in
+    (prepend_known c.loop.dialogue.lines.held (g.S.Source.left c.loop.input)) (g.S.Source.faults c.args.input.now) (g.S.Source.faults c.loop.input) (g.S.Source.faults c.turn.new.input) was.went was.later turned.1 in
     IfOk-weaker c.typed_with.result _ _ (λ typed h.
-        let same : typed_with c.args.topic.now.words.now c.loop.dialogue.kept.items ≡ typed = sym (h ∙ ap (typed_with c.args.topic.now.words.now) (c.deref.ensures.value ∙ turned.0)) in
-        subst (λ (t : List Example). AreAnswered c.args.session.now.spaces.ground c.args.topic.now.words.now (g.S.Source.left c.args.input.now) (g.S.Source.faults c.args.input.now) (g.S.Source.faults c.turn.new.input) t) same answered) c.typed_with.ensures
+    let same : typed_with c.args.topic.now.words.now c.loop.dialogue.kept.items ≡ typed = sym (h ∙ ap (typed_with c.args.topic.now.words.now) (c.deref.ensures.value ∙ turned.0)) in
+    subst (λ (t : List Example). AreAnswered c.args.session.now.spaces.ground c.args.topic.now.words.now (g.S.Source.left c.args.input.now) (g.S.Source.faults c.args.input.now) (g.S.Source.faults c.turn.new.input) t) same answered) c.typed_with.ensures
 
 pub returns-in-Ok-false-clause-grew : goal.returns-in-Ok-false-clause-grew
 returns-in-Ok-false-clause-grew g c = grew_both _ _ _ _ _ _ c.loop.invariant.grew c.turn.ensures.grew

@@ -42,9 +42,11 @@ pub returns-in-Err-Shown-clause-filled : goal.returns-in-Err-Shown-clause-filled
 returns-in-Err-Shown-clause-filled g c = λ asked is. absurd (shows_asks _ asked (rw c.in-Err-Shown.field-0-is at c.in-Err-Shown.ensures.answer) is)
 
 pub returns-clause-filled : goal.returns-clause-filled
-returns-clause-filled g c = λ asked is.
-    (c.args.input, memory_ends asked (g.C.Cabinet.files c.args.folder.now.cabinet) (heard (g.S.Source.left c.args.input) (g.S.Source.faults c.args.input) (g.S.Source.faults c.args.input)) _ _ _ _ _ _ _ 6
-        refl refl (inl (Keeps-refl (g.O.Sink.written c.args.out.now))) (says_at_once asked.ask _ _ _ _ _ c.say.ensures))
+returns-clause-filled g c = λ asked is. (
+  c.args.input,
+  memory_ends asked (g.C.Cabinet.files c.args.folder.now.cabinet) (heard (g.S.Source.left c.args.input) (g.S.Source.faults c.args.input) (g.S.Source.faults c.args.input)) _ _ _ _ _ _ _ 6
+      refl refl (inl (Keeps-refl (g.O.Sink.written c.args.out.now))) (says_at_once asked.ask _ _ _ _ _ c.say.ensures),
+)
 
 pub returns-in-Ok-Run-clause-ran : goal.returns-in-Ok-Run-clause-ran
 returns-in-Ok-Run-clause-ran g c = λ saved is.
