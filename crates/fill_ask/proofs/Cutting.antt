@@ -1,6 +1,6 @@
 -- Lines that are cut off.
-use Rattle.std.proofs.Common.{◌≡◌, ◌∙◌, ◌⊎◌, ◌+◌, ◌<◌, ◌≤◌, ℕ, List, [], ◌∷◌, ◌++◌, All, Option, None, Some, true, false, ap, arith, inl, inr, get_or, length, refl, subst, suc, sym, take, drop}
-use Rattle.std.specs.Prelude.{option_to_list, ◌==◌, if◌then◌else◌}
+use Rattle.std.proofs.Common.{◌≡◌, ◌∙◌, ◌+◌, ◌<◌, ◌≤◌, ℕ, List, [], ◌∷◌, ◌++◌, All, Option, None, Some, false, ap, arith, inl, inr, get_or, length, refl, subst, suc, sym, take, drop}
+use Rattle.std.specs.Prelude.{option_to_list, ◌==◌}
 use Rattle.std.specs.List.{slice_split}
 use Rattle.std.specs.Io.KnownBytes.{Consumes, IsAtEnd, Keeps, prepend_known}
 use Rattle.std.proofs.KnownBytes.{Keeps-trans}

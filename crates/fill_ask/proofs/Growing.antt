@@ -1,5 +1,5 @@
 -- What is told between two states of a sink, one after the other.
-use Rattle.std.proofs.Common.{◌≡◌, ◌≤◌, ◌<◌, ℕ, List, [], ◌++◌, Option, Result, Ok, Err, arith, length, take}
+use Rattle.std.proofs.Common.{◌≤◌, ℕ, List, [], ◌++◌, Option, Result, Ok, Err, arith, take}
 use Rattle.std.specs.Prelude.{OnErr, OnOk}
 use Rattle.std.specs.Io.KnownBytes.{Appends}
 use Rattle.std.proofs.KnownBytes.{Appends-nil, Appends-trans}

@@ -1,5 +1,5 @@
 -- One turn of a dialogue.
-use Rattle.std.specs.Prelude.{◌≡◌, ◌⊎◌, ℕ, List, [], ◌∷◌, ◌++◌, Bool, true, false, Option, None, Some, ⊤}
+use Rattle.std.specs.Prelude.{◌≡◌, ◌⊎◌, ℕ, List, ◌++◌, Bool, true, false, Option, None, Some, ⊤}
 use Rattle.std.specs.Str.Lines.{lines}
 use Rattle.fill_tree.specs.declared.user.Example.{Example}
 use Rattle.fill_space.specs.declared.ground.Ground.{Ground}

@@ -1,8 +1,4 @@
-use Rattle.std.proofs.Common.{◌≡◌, ◌≤◌, length, arith, get_or, take}
-use Rattle.std.proofs.lemmas.Bool.Decides.{nat_tests}
-use Rattle.std.proofs.lemmas.List.{take_all}
-use Rattle.std.proofs.lemmas.List.Elements.{All-more, All-same}
-use Rattle.fill_ask.specs.Cuts.{is_newline}
+use Rattle.std.proofs.Common.{arith}
 use Rattle.fill_ask.proofs.Cutting.{all_there, no_newline}
 use Rattle.fill_ask.proofs.lines.newline_in.Goals as goal
 

@@ -1,5 +1,5 @@
 use Rattle.std.specs.Io.KnownBytes.{prepend_known}
-use Rattle.fill_ask.proofs.Cutting.{come_more, next_cut, next_failed, next_last}
+use Rattle.fill_ask.proofs.Cutting.{come_more}
 use Rattle.fill_ask.proofs.lines.Lines.next.Goals as goal
 
 pub loop-preserved : goal.loop-preserved
