@@ -193,14 +193,19 @@ fn has_long(session: &Session, rows: &[u32]) -> bool {
     false
 }
 
+/// With more rows in doubt only those who ask for rules are told which one to look at next: rows without a pattern take up to
+/// half a millisecond each.
+const MOST_ASKED: u32 = 1000;
+
 /// The row to look at next, where several are in doubt and both answers are told, as far as memory goes.
 fn next_of(alloc: Global, page: &Page<'_>, session: &Session, counts: &Counts) -> Option<Next> {
+    let doubtful = counts.doubt.saturating_add(counts.nothing_in_doubt);
     let told = match page.doubts {
         Doubts::Untold => false,
-        Doubts::Answers => !has_long(session, &counts.doubtful),
+        Doubts::Answers => doubtful <= MOST_ASKED && !has_long(session, &counts.doubtful),
         Doubts::Rules => true,
     };
-    if !told || counts.doubt.saturating_add(counts.nothing_in_doubt) < 2 {
+    if !told || doubtful < 2 {
         return None;
     }
     explain::next_of(alloc, session).unwrap_or(None)
