@@ -72,9 +72,7 @@ impl Spoken {
             return Ok(line);
         };
         let answer = session.answer(alloc, row)?;
-        put_answer(&mut line, &answer.text)?;
-        line.push_str(", or ")?;
-        put_answer(&mut line, &objection.text)?;
+        put_answers(&mut line, &answer.text, &objection.text)?;
         if with_rule {
             line.push_str(" by: ")?;
             let other = program_text(alloc, &objection.program, self.names())?;
@@ -82,6 +80,27 @@ impl Spoken {
         }
         Ok(line)
     }
+}
+
+/// A row to look at, and what its cell could be.
+#[derive(Drop)]
+pub(crate) struct Next {
+    pub row: u32,
+    /// Both answers.
+    pub answers: String,
+}
+
+/// The row to look at next; none where no row is in doubt.
+pub(crate) fn next_of(alloc: Global, session: &Session) -> Result<Option<Next>, NoMemory> {
+    let Some(found) = session.suggest()? else {
+        return Ok(None);
+    };
+    let mut answers = String::new(alloc);
+    put_answers(&mut answers, &found.answer, &found.objection.text)?;
+    Ok(Some(Next {
+        row: found.row,
+        answers,
+    }))
 }
 
 /// With more characters to read a row is long: in texts of one pattern the search then takes seconds a row.
@@ -97,6 +116,13 @@ pub(crate) fn is_long(sheet: &Sheet, row: u32) -> bool
         length = length.saturating_add(sheet.cell(row, *column).len());
     }
     length > MOST_READ
+}
+
+/// Puts what stands in a cell and what else it could be at the end.
+fn put_answers(to: &mut String, said: &Option<Text>, other: &Option<Text>) -> Result<(), NoMemory> {
+    put_answer(to, said)?;
+    to.push_str(", or ")?;
+    put_answer(to, other)
 }
 
 /// Puts an answer at the end: a text in quotes, or the word `none`.

@@ -18,7 +18,7 @@ ghost use Rattle.fill_csv.specs.Said.{Says};
 ghost use Rattle.fill_csv.specs.Read.{AreParts, frame_data, read_data};
 
 use crate::clash::clashes_of;
-use crate::explain::{Spoken, is_long};
+use crate::explain::{self, Next, Spoken, is_long};
 use crate::head;
 use crate::opening::{SheetRead, open_sheet};
 use crate::saving::{RuleFrame, saved_text, saving_of};
@@ -206,12 +206,12 @@ fn doubts_of(alloc: Global, page: &Page<'_>, session: &Session, rows: &[u32]) ->
         Doubts::Answers => false,
         Doubts::Rules => true,
     };
+    if !with_rule && has_long(session, rows) {
+        return doubts;
+    }
     for row in rows {
         if *row == 0 || *row as usize > page.rows.len() {
             break;
-        }
-        if !with_rule && is_long(session.sheet(), *row) {
-            return Vec::new(alloc);
         }
         let Ok(doubt) = page.spoken.doubt_of(alloc, session, *row, with_rule) else {
             break;
@@ -223,19 +223,36 @@ fn doubts_of(alloc: Global, page: &Page<'_>, session: &Session, rows: &[u32]) ->
     doubts
 }
 
-/// With more rows in doubt it is not told which one to look at next: to find it takes a second for each thousand.
+/// Whether one of these rows has many characters to read. Rows count from 1, and 0 ends them.
+fn has_long(session: &Session, rows: &[u32]) -> bool {
+    let sheet = session.sheet();
+    for row in rows {
+        if *row == 0 || *row > sheet.rows() {
+            break;
+        }
+        if is_long(sheet, *row) {
+            return true;
+        }
+    }
+    false
+}
+
+/// With more rows in doubt only those who ask for rules are told which one to look at next: rows without a pattern take up to
+/// half a millisecond each.
 const MOST_ASKED: u32 = 1000;
 
-/// The row to look at next, if that is told and memory allows it, and 0 where there is none.
-fn next_of(page: &Page<'_>, session: &Session, counts: &Counts) -> u32 {
-    if counts.doubt.saturating_add(counts.nothing_in_doubt) > MOST_ASKED {
-        return 0;
+/// The row to look at next, where several are in doubt and both answers are told, as far as memory goes.
+fn next_of(alloc: Global, page: &Page<'_>, session: &Session, counts: &Counts) -> Option<Next> {
+    let doubtful = counts.doubt.saturating_add(counts.nothing_in_doubt);
+    let told = match page.doubts {
+        Doubts::Untold => false,
+        Doubts::Answers => doubtful <= MOST_ASKED && !has_long(session, &counts.doubtful),
+        Doubts::Rules => true,
+    };
+    if !told || doubtful < 2 {
+        return None;
     }
-    match page.doubts {
-        Doubts::Rules => session.suggest().unwrap_or(None).map_or(0, |next| next.row),
-        Doubts::Answers => 0,
-        Doubts::Untold => 0,
-    }
+    explain::next_of(alloc, session).unwrap_or(None)
 }
 
 /// Learns from the sheet's column, and writes the sheet with it filled. The text of the rule is made too, where it is to be
@@ -284,7 +301,7 @@ fn write_page<O: Sink, L: Ledger>(
                 .rule_of(alloc, session)
                 .unwrap_or(Vec::new(alloc)),
             doubts: doubts_of(alloc, page, session, &summary.counts.doubtful),
-            next: next_of(page, session, &summary.counts),
+            next: next_of(alloc, page, session, &summary.counts),
         }),
         Err(halt) => Err(halt),
     }

@@ -4,6 +4,7 @@ ghost use Rattle.std.specs.List.{list_any};
 ghost use Rattle.fill_filled.specs.Learned.{counts};
 
 use crate::clash::MOST_REFUSALS;
+use crate::explain::Next;
 use crate::stop::say;
 use fill_edge::{Sink, write_all};
 use fill_filled::{Counts, Refused, Summary};
@@ -24,8 +25,8 @@ pub(crate) struct Told {
     pub rule: Vec<String>,
     /// Both answers for the cells of the first rows in doubt.
     pub doubts: Vec<String>,
-    /// The row to look at next, and 0 where that is not told.
-    pub next: u32,
+    /// The row to look at next, where that is told.
+    pub next: Option<Next>,
     /// The text of the rule, where it is to be saved and there is one.
     pub text: Option<List<u8>>,
 }
@@ -85,8 +86,9 @@ impl Told {
                 doubt_text(alloc, row.saturating_add(above), doubt.as_str()),
             );
         }
-        if self.next > 0 {
-            say_line(err, next_text(alloc, self.next.saturating_add(above)));
+        if let Some(next) = &self.next {
+            let row = next.row.saturating_add(above);
+            say_line(err, next_text(alloc, row, next.answers.as_str()));
         }
     }
 }
@@ -115,9 +117,9 @@ fn doubt_text(alloc: Global, row: u32, doubt: &str) -> Result<String, AllocError
     format!(in alloc; "fillcsv: row {row}: {doubt}\n")
 }
 
-/// The row to look at next.
-fn next_text(alloc: Global, row: u32) -> Result<String, AllocError> {
-    format!(in alloc; "fillcsv: look at row {row} next\n")
+/// The row to look at next, and both answers for its cell.
+fn next_text(alloc: Global, row: u32, answers: &str) -> Result<String, AllocError> {
+    format!(in alloc; "fillcsv: look at row {row} next: {answers}\n")
 }
 
 /// How many cells have each state.
