@@ -1,11 +1,9 @@
 -- A row that is asked, by what the program of its branch answers there.
-use Rattle.std.proofs.Common.{◌≡◌, inl, inr, Bool, ℕ, suc, ◌+◌, ◌<◌, ◌≤◌, List, [], ◌∷◌, ◌++◌, length, Option, None, Some, refl, sym, ap, subst, ◌∙◌, length-append, arith}
+use Rattle.std.proofs.Common.{◌≡◌, inl, inr, Bool, ℕ, suc, ◌+◌, ◌<◌, ◌≤◌, List, [], ◌∷◌, length, Option, None, Some, refl, sym, ap, subst, ◌∙◌, length-append, arith}
 use Rattle.std.specs.Prelude.{slice_get, Contains}
 use Rattle.std.proofs.lemmas.Option.{same_Some}
 use Rattle.std.specs.Cmp.{nat_cmp_is}
-use Rattle.std.specs.Ordering.{nat_cmp}
-use Rattle.std.specs.declared.cmp.Ordering.{Ordering}
-use Rattle.std.specs.declared.cmp.Ordering.TheVariants.{Less, Greater}
+use Rattle.std.specs.declared.cmp.Ordering.TheVariants.{Greater}
 use Rattle.fill_tables.specs.Keys.{KeysDistinguish}
 use Rattle.fill_tokens.specs.declared.prices.Prices.{Prices}
 use Rattle.fill_tree.specs.Cost.{program_cost}
@@ -21,8 +19,8 @@ use Rattle.fill_space.specs.Spaces.{SpaceStands}
 use Rattle.fill_session.specs.Answers.{AnswerIs, IsBranchAt}
 use Rattle.fill_session.specs.Branches.{AreBranches, AreGuarded, BranchData, lists_of}
 use Rattle.fill_session.specs.Objector.{ObjectorIs}
-use Rattle.fill_session.specs.State.{AreShown, IsBranch, SessionData}
-use Rattle.fill_session.specs.Suggested.{Asked, ComesFirst, IsAsked, IsAskedAt, LeadsStand, NoneAsked, ObjectorWithin, asked_of, cost_of, is_silent}
+use Rattle.fill_session.specs.State.{AreShown, SessionData}
+use Rattle.fill_session.specs.Suggested.{ComesFirst, IsAskedAt, LeadsStand, NoneAsked, ObjectorWithin, cost_of, is_silent}
 use Rattle.fill_session.specs.Taken.{IsFirstTaker, NoneTakes}
 use Rattle.fill_session.specs.declared.answer.Answer.{Answer}
 use Rattle.fill_session.specs.declared.answer.State.TheVariants.{Doubt}

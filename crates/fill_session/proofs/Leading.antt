@@ -1,14 +1,13 @@
 -- What the first programs of a branch tell of a row.
-use Rattle.std.proofs.Common.{◌≡◌, ◌⊎◌, inl, inr, ℕ, ◌<◌, ◌≤◌, ◌^◌, List, length, map, get_or, Option, None, Some, sym, ap, subst, ◌∙◌, arith}
+use Rattle.std.proofs.Common.{◌≡◌, ◌⊎◌, inl, inr, ℕ, ◌<◌, ◌^◌, List, length, map, get_or, Option, None, Some, sym, ap, subst, ◌∙◌, arith}
 use Rattle.std.specs.List.{All, AllWithin, Contains}
-use Rattle.std.specs.declared.cmp.Ordering.TheVariants.{Less}
 use Rattle.std.proofs.lemmas.Bool.{cases_lt}
 use Rattle.std.proofs.lemmas.List.{get_or-map, length-map}
 use Rattle.std.proofs.lemmas.List.Elements.{All-contains, All-from_all_within, All-map}
 use Rattle.fill_tree.specs.Chosen.{IsLeast}
 use Rattle.fill_tree.specs.Cost.{program_cost}
 use Rattle.fill_tree.specs.Meaning.{program_tree}
-use Rattle.fill_tree.specs.Order.{Before, program_cmp}
+use Rattle.fill_tree.specs.Order.{Before}
 use Rattle.fill_tree.specs.Tree.{Atoms}
 use Rattle.fill_tree.specs.Value.{IsValue, ProgramIs}
 use Rattle.fill_tree.specs.declared.tree.Program.{Program}

@@ -1,10 +1,9 @@
 -- The branch of a row in doubt, and its objector within a limit.
-use Rattle.std.proofs.Common.{◌≡◌, ◌⊎◌, inl, inr, ℕ, zero, suc, ◌+◌, ◌-◌, ◌<◌, ◌≤◌, List, [], ◌∷◌, ◌++◌, length, get_or, Option, None, Some, Result, Ok, Err, refl, sym, ap, subst, ◌∙◌, length-append, arith}
+use Rattle.std.proofs.Common.{◌≡◌, ◌⊎◌, inl, inr, ℕ, zero, suc, ◌+◌, ◌-◌, ◌<◌, List, [], ◌∷◌, ◌++◌, length, get_or, Option, None, Some, Result, Ok, Err, refl, sym, ap, subst, ◌∙◌, length-append, arith}
 use Rattle.std.specs.Prelude.{slice_get, IfOk, option_map}
 use Rattle.std.proofs.lemmas.Option.{same_Some}
 use Rattle.fill_text.specs.declared.error.NoMemory.{NoMemory}
 use Rattle.fill_tables.specs.Keys.{KeysDistinguish}
-use Rattle.fill_tree.specs.Cost.{program_cost}
 use Rattle.fill_tree.specs.Value.{IsValue, ProgramIs}
 use Rattle.fill_tree.specs.declared.user.Example.{Example}
 use Rattle.fill_object.specs.declared.graph.Objection.{Objection}
@@ -13,11 +12,9 @@ use Rattle.fill_space.specs.Objector.{ObjectionTree, ObjectionWithin, ObjectsOn,
 use Rattle.fill_split.proofs.Zips.{zip_lengths}
 use Rattle.fill_session.specs.Answers.{AnswerIs, IsBranchAt}
 use Rattle.fill_session.specs.Branches.{AreBranches, BranchData, lists_of}
-use Rattle.fill_session.specs.Objector.{ObjectorIs}
 use Rattle.fill_session.specs.State.{AreShown, IsBranch, Shows}
 use Rattle.fill_session.specs.Suggested.{Asked, IsAsked, ObjectorWithin}
 use Rattle.fill_session.specs.declared.answer.Answer.{Answer}
-use Rattle.fill_session.specs.declared.answer.State.{State}
 use Rattle.fill_session.specs.declared.answer.State.TheVariants.{Sure, Doubt}
 use Rattle.fill_session.specs.declared.branch.Branch.{Branch}
 use Rattle.fill_session.proofs.Held.{lists_long}

@@ -1,5 +1,5 @@
 -- Which row in doubt comes first.
-use Rattle.std.proofs.Common.{◌≡◌, ◌⊎◌, inl, inr, Bool, ℕ, suc, ◌<◌, ◌≤◌, ◌+◌, List, [], ◌∷◌, length, Option, None, Some, false, true, refl, sym, ap, subst, ◌∙◌, arith}
+use Rattle.std.proofs.Common.{◌≡◌, ◌⊎◌, inl, inr, Bool, ℕ, suc, ◌<◌, ◌≤◌, List, length, Option, None, Some, false, true, refl, sym, ap, subst, ◌∙◌, arith}
 use Rattle.std.proofs.lemmas.Bool.{cases_lt, false≢true}
 use Rattle.std.proofs.lemmas.Option.{same_Some}
 use Rattle.std.specs.Cmp.{nat_cmp_is}
@@ -8,16 +8,14 @@ use Rattle.std.specs.declared.cmp.Ordering.{Ordering}
 use Rattle.std.specs.declared.cmp.Ordering.TheVariants.{Less, Equal, Greater}
 use Rattle.std.specs.Ordering.{nat_cmp, ordering_then}
 use Rattle.fill_tokens.specs.declared.prices.Prices.{Prices}
-use Rattle.fill_tree.specs.Cost.{program_cost}
 use Rattle.fill_tree.specs.Meaning.{program_tree}
 use Rattle.fill_tree.specs.Order.{Before, program_cmp}
-use Rattle.fill_tree.specs.Tree.{Atoms}
 use Rattle.fill_tree.specs.declared.user.Example.{Example}
 use Rattle.fill_tree.proofs.ProgramOrder.{before_trans, exact_programs, program_cmp-same}
-use Rattle.fill_space.specs.Objector.{ObjectionTree, objection_tree}
+use Rattle.fill_space.specs.Objector.{ObjectionTree}
 use Rattle.fill_space.specs.declared.ground.Ground.{Ground}
 use Rattle.fill_session.specs.Objector.{ObjectorIs}
-use Rattle.fill_session.specs.Suggested.{Asked, ComesFirst, FirstAsked, IsAsked, IsAskedAt, NoneAsked, SuggestionIs, asked_cmp, asked_of, cost_of, is_silent, rank_of}
+use Rattle.fill_session.specs.Suggested.{Asked, FirstAsked, IsAsked, IsAskedAt, NoneAsked, SuggestionIs, asked_cmp, asked_of, is_silent, rank_of}
 use Rattle.fill_session.specs.declared.suggestion.Suggestion.{Suggestion}
 use Rattle.fill_session.proofs.Objecting.{objector_is_one}
 

@@ -11,8 +11,8 @@ use fill_text::{List, NoMemory};
 use fill_tree::Program;
 use std::alloc::Global;
 
-/// How many programs of a branch are asked one by one before its graph is: as many as [`Spaces::best`] gives. They take about
-/// as long as learning two examples, also where these are noise, and a row by them a tenth of a search in the graph.
+/// How many programs of a branch are asked one by one before its graph is: as many as [`Spaces::best`] gives. To ask one
+/// on a row takes well below a microsecond, and to search the graph there some hundred.
 pub(crate) const CANDIDATES: u32 = 20;
 
 /// The space of a branch, and what leads the search for objections there.

@@ -1,4 +1,4 @@
-use Rattle.std.proofs.Common.{Option, List, ℕ, sym, subst, ◌∙◌}
+use Rattle.std.proofs.Common.{List, subst}
 use Rattle.std.proofs.lemmas.Bool.{false≢true}
 use Rattle.fill_text.specs.Data.{SheetData, TableData}
 use Rattle.fill_tree.specs.Meaning.{program_tree}

@@ -1,4 +1,4 @@
-use Rattle.std.proofs.Common.{◌≡◌, ◌<◌, ◌≤◌, length, List, map, refl, sym, subst, arith}
+use Rattle.std.proofs.Common.{◌≡◌, length, List, map, refl, sym, subst, arith}
 use Rattle.std.proofs.lemmas.Bool.{false≢true}
 use Rattle.std.specs.List.{AllWithin}
 use Rattle.fill_tree.specs.Meaning.{program_tree}

@@ -1,8 +1,4 @@
-use Rattle.std.proofs.Common.{◌≡◌, ◌^◌, ◌<◌, List, map, subst, sym, ap, ◌∙◌}
-use Rattle.std.specs.List.{All}
-use Rattle.fill_tokens.specs.declared.prices.Prices.{Prices}
-use Rattle.fill_tree.specs.Cost.{program_cost}
-use Rattle.fill_tree.specs.Meaning.{program_tree}
+use Rattle.std.proofs.Common.{List, subst}
 use Rattle.fill_tree.specs.declared.user.Settings.{Settings}
 use Rattle.fill_arena.specs.declared.entry.Entry.{Entry}
 use Rattle.fill_arena.specs.WellMade.{IsWellMade}

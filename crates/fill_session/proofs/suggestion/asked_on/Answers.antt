@@ -1,4 +1,4 @@
-use Rattle.std.proofs.Common.{◌≡◌, ℕ, ◌<◌, List, Option, get_or, refl, sym, ap, subst, ◌∙◌, arith, rules}
+use Rattle.std.proofs.Common.{◌≡◌, ◌<◌, List, get_or, refl, sym, ap, subst, ◌∙◌, arith, rules}
 use Rattle.std.proofs.lemmas.Bool.{false≢true}
 use Rattle.fill_text.specs.Data.{SheetData, TableData}
 use Rattle.fill_tables.specs.Keys.{KeysDistinguish}
@@ -6,7 +6,7 @@ use Rattle.fill_tree.specs.Meaning.{program_tree}
 use Rattle.fill_tree.specs.Value.{IsValue, ProgramIs}
 use Rattle.fill_tree.specs.declared.user.Example.{Example}
 use Rattle.fill_space.specs.Spaces.{SpacesData, SpaceStands}
-use Rattle.fill_session.specs.Suggested.{LeadStands, ToldIs, is_silent}
+use Rattle.fill_session.specs.Suggested.{LeadStands, ToldIs}
 use Rattle.fill_session.specs.Taken.{IsFirstTaker, NoneTakes, ReadInputs}
 use Rattle.fill_session.specs.declared.branch.Branch.{Branch}
 use Rattle.fill_session.specs.declared.candidates.Told.{Told}

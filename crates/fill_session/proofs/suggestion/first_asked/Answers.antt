@@ -1,4 +1,4 @@
-use Rattle.std.proofs.Common.{◌≤◌, arith}
+use Rattle.std.proofs.Common.{arith}
 use Rattle.fill_session.proofs.suggestion.first_asked.Goals as goal
 
 pub loop-above-init : goal.loop-above-init

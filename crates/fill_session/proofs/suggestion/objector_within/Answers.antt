@@ -1,9 +1,8 @@
-use Rattle.std.proofs.Common.{◌≡◌, ◌-◌, ℕ, suc, ◌<◌, List, Option, None, Some, length, get_or, sym, ap, subst, ◌∙◌, arith}
+use Rattle.std.proofs.Common.{◌-◌, ℕ, List, Option, get_or, sym, subst, arith}
 use Rattle.std.specs.Prelude.{IfOk, option_map}
 use Rattle.fill_tree.specs.declared.user.Example.{Example}
 use Rattle.fill_space.specs.Objector.{ObjectionWithin, objection_tree}
 use Rattle.fill_space.specs.Spaces.{GuideStands, SpacesData, SpaceStands}
-use Rattle.fill_session.specs.State.{IsBranch}
 use Rattle.fill_session.specs.Suggested.{ObjectorWithin}
 use Rattle.fill_session.proofs.Picked.{here}
 use Rattle.fill_session.proofs.Searching.{is_branch, objector_told, ok_on, taken, within}
