@@ -211,6 +211,7 @@ Options:
       --strict                 Status 1 also where a cell is neither given nor sure
       --quiet                  Tell nothing of a sheet that was filled
       --explain                Tell what else the first ten cells in doubt could be, and by which rule
+      --ask                    Ask about the cells in doubt, one after another, and learn from the answers
       --save <RULE>            Save the rule in this file, for --rule
   -h, --help                   Print help
   -V, --version                Print version
@@ -221,6 +222,7 @@ Examples:
   fillcsv people.csv --to Label --example '5=Noether (Erlangen)' --example 7=
   fillcsv people.csv --new Initials --example 2=AB
   fillcsv sales.csv --to Month --table months=months.csv --key months:1
+  fillcsv people.csv --to Label --ask > filled.csv
   fillcsv people.csv --to Label --save label.rule
   fillcsv --rule label.rule < more.csv > filled.csv
 ";
