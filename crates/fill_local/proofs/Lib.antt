@@ -1,0 +1,11 @@
+pub mod Values
+pub mod Grammar
+pub mod Zipped
+pub mod Explaining
+pub mod Guarding
+pub mod Placing
+pub mod Answering
+pub mod Objecting
+pub mod Keeping
+pub mod Paired
+pub mod Renumbering
