@@ -34,7 +34,7 @@ module _ (g h : Ground) (Pair : ℕ → ℕ → Type 0) (m : ArePaired g h Pair)
   pub has_to : (es ds : List Example) → SaySame Pair es ds → (r q : ℕ) → Pair r q → HasExample es r → HasExample ds q
   has_to es ds z r q pair has = contains_zip Pair r q (λ x y one e. (m.once x r y q one pair).0 e) (rows_of es) (rows_of ds) (rows_zip Pair es ds z) has
 
-  placed_on : (es ds : List Example) → SaySame Pair es ds → (lists : List (List Example)) → ArePlaced g es lists → (now : List (List Example)) × ArePlaced h ds now × AllZip (SaySame Pair) lists now
+  pub placed_on : (es ds : List Example) → SaySame Pair es ds → (lists : List (List Example)) → ArePlaced g es lists → (now : List (List Example)) × ArePlaced h ds now × AllZip (SaySame Pair) lists now
   placed_on es ds z lists p =
       let t = placed_to (SaysSame Pair) (FitsOn g) (FitsOn h) (WeighsOn g) (WeighsOn h) (λ a b z. fits_to g h Pair m a b z)
           (λ a b z. fits_to h g (λ q r. Pair r q) (paired_back g h Pair m) b a (same_back Pair a b z))

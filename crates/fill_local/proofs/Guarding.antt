@@ -25,7 +25,7 @@ module _ (g h : Ground) (Pair : ℕ → ℕ → Type 0) (m : ArePaired g h Pair)
   holds_to : (r q : ℕ) → Pair r q → (k : Guard) → GuardHolds g.sheet r k ≡ GuardHolds h.sheet q k
   holds_to r q pair k = guard_same g.sheet h.sheet r q (m.cells r q pair) k
 
-  separates_to : (ins outs now others : List ℕ) → AllZip Pair ins now → AllZip Pair outs others → (k : Guard) → Separates g.settings g.sheet ins outs k → Separates h.settings h.sheet now others k
+  pub separates_to : (ins outs now others : List ℕ) → AllZip Pair ins now → AllZip Pair outs others → (k : Guard) → Separates g.settings g.sheet ins outs k → Separates h.settings h.sheet now others k
   separates_to ins outs now others zi zo k s = record {
     is = guard_in g.settings h.settings g.sheet h.sheet m.same.settings m.same.inputs k s.is;
     holds = zip_all Pair (λ r. GuardHolds g.sheet r k) (λ q. GuardHolds h.sheet q k) (λ r q pair x. coe 0 1 (i. holds_to r q pair k i) x) ins now zi s.holds;

@@ -9,3 +9,6 @@ pub mod Objecting
 pub mod Keeping
 pub mod Paired
 pub mod Renumbering
+pub mod Fates
+pub mod Outcomes
+pub mod Editing

@@ -27,7 +27,7 @@ module _ {I : Type 0} (R : I → I → Type 0) (fits fits' : List I → Type 0) 
       λ j d v e f w. let m = there j d e in p.2 j m.0 v m.1 (back (m.0 ++ x ∷ []) (d ++ y ∷ []) m.2 f) (w_back (m.0 ++ x ∷ []) (d ++ y ∷ []) m.2 v w),
     )
 
-    none_to : NoneFits fits bs x → NoneFits fits' cs y
+    pub none_to : NoneFits fits bs x → NoneFits fits' cs y
     none_to none = λ j d e f. let m = there j d e in none j m.0 m.1 (back (m.0 ++ x ∷ []) (d ++ y ∷ []) m.2 f)
 
     abbrev FollowsTo : Placing → List (List I) → Type 0

@@ -14,22 +14,22 @@ use Rattle.fill_local.proofs.Answering.{answer_to, branches_to}
 use Rattle.fill_local.proofs.Objecting.{objector_to}
 use Rattle.fill_local.proofs.Paired.{AreAlike, ArePaired, SaySame, SaysSame}
 
-contains_more : (x : ℕ) (xs : List ℕ) (r : ℕ) → Contains xs r → Contains (x ∷ xs) r
+pub contains_more : (x : ℕ) (xs : List ℕ) (r : ℕ) → Contains xs r → Contains (x ∷ xs) r
 contains_more x xs r c = (suc c.0, omega (arith, c.1), c.2)
 
 module _ (number : ℕ → ℕ) (rows : List ℕ) where
   -- each of these rows, with its number
-  abbrev Numbered : ℕ → ℕ → Type 0
+  abbrev pub Numbered : ℕ → ℕ → Type 0
   Numbered r q = (number r ≡ q) × Contains rows r
 
-  say_numbered : (es : List Example) → ((r : ℕ) → Contains (rows_of es) r → Contains rows r) → SaySame Numbered es (renumbered number es)
+  pub say_numbered : (es : List Example) → ((r : ℕ) → Contains (rows_of es) r → Contains rows r) → SaySame Numbered es (renumbered number es)
   say_numbered [] inside = tt
   say_numbered (e ∷ es) inside =
       let one : SaysSame Numbered e (record { row = number e.row; text = e.text }) = record { row = (refl, inside e.row (0, omega arith, refl)); text = refl } in
       (one, say_numbered es (λ r c. inside r (contains_more e.row (rows_of es) r c)))
 
   -- examples of paired rows are those under other numbers
-  are_numbered : (es ds : List Example) → SaySame Numbered es ds → ds ≡ renumbered number es
+  pub are_numbered : (es ds : List Example) → SaySame Numbered es ds → ds ≡ renumbered number es
   are_numbered [] [] z = refl
   are_numbered [] (d ∷ ds) z = absurd z
   are_numbered (e ∷ es) [] z = absurd z
@@ -46,7 +46,7 @@ module _ (number : ℕ → ℕ) (rows : List ℕ) where
       ap₂ (λ x l. x ∷ l) one (alike_numbered bs cs z.1)
 
 module _ (g h : Ground) (number : ℕ → ℕ) where
-  paired : (rows : List ℕ) → AreRenumbered g h number rows → ArePaired g h (Numbered number rows)
+  pub paired : (rows : List ℕ) → AreRenumbered g h number rows → ArePaired g h (Numbered number rows)
   paired rows are = record {
     same = are.same;
     cells = λ r q pair. subst (λ x. HoldSame g.sheet h.sheet r x) pair.0 (All-contains (λ x. HoldSame g.sheet h.sheet x (number x)) rows r are.cells pair.1);
