@@ -37,10 +37,10 @@ module _ (g h : Ground) (Pair : ℕ → ℕ → Type 0) (m : ArePaired g h Pair)
   pub placed_on : (es ds : List Example) → SaySame Pair es ds → (lists : List (List Example)) → ArePlaced g es lists → (now : List (List Example)) × ArePlaced h ds now × AllZip (SaySame Pair) lists now
   placed_on es ds z lists p =
       let t = placed_to (SaysSame Pair) (FitsOn g) (FitsOn h) (WeighsOn g) (WeighsOn h) (λ a b z. fits_to g h Pair m a b z)
-          (λ a b z. fits_to h g (λ q r. Pair r q) (paired_back g h Pair m) b a (same_back Pair a b z))
-          (λ a b z. weighs_to g h Pair m a b z)
-          (λ a b z. weighs_to h g (λ q r. Pair r q) (paired_back g h Pair m) b a (same_back Pair a b z))
-          (rule_of_profile g.settings.profile) [] [] tt es ds z lists p in
+      (λ a b z. fits_to h g (λ q r. Pair r q) (paired_back g h Pair m) b a (same_back Pair a b z))
+      (λ a b z. weighs_to g h Pair m a b z)
+      (λ a b z. weighs_to h g (λ q r. Pair r q) (paired_back g h Pair m) b a (same_back Pair a b z))
+      (rule_of_profile g.settings.profile) [] [] tt es ds z lists p in
       (t.0, subst (λ s. Placed (rule_of_profile s.profile) (FitsOn h) (WeighsOn h) ds t.0) m.same.settings t.1, t.2)
 
   guarded_to : (bs : List BranchData) (lists : List (List Example)) → AllZip (SaySame Pair) (lists_of bs) lists → AreGuarded g bs

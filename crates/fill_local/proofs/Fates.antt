@@ -36,7 +36,7 @@ module _ (g h : Ground) (Pair : ℕ → ℕ → Type 0) (m : ArePaired g h Pair)
       let t = zip_some (SaysSame Pair) es ds i w.0 z w.1 in
       let p = placed_on g h Pair m (take i es) (take i ds) (zip_take (SaysSame Pair) i es ds z) w.2.branches w.2.placed in
       let none : NoneFits (FitsOn h) p.0 t.0 = none_to (SaysSame Pair) (FitsOn g) (FitsOn h) (WeighsOn g) (WeighsOn h) (λ a b z. fits_to g h Pair m a b z) fits_back (λ a b z. weighs_to g h Pair m a b z) weighs_back
-          w.2.branches p.0 p.2 w.0 t.0 t.2 w.2.none in
+      w.2.branches p.0 p.2 w.0 t.0 t.2 w.2.none in
       let opens : OpensNinth (rule_of_profile h.settings.profile) (FitsOn h) (WeighsOn h) (take i ds) t.0 = record {
         branches = p.0;
         placed = p.1;
@@ -47,9 +47,13 @@ module _ (g h : Ground) (Pair : ℕ → ℕ → Type 0) (m : ArePaired g h Pair)
 
   guarded_at : (lists others : List (List Example)) → AllZip (SaySame Pair) lists others → (k : ℕ) → CanBeGuarded g lists k → CanBeGuarded h others k
   guarded_at lists others z k w =
-      let t = zip_some (SaySame Pair) lists others k w.0 z w.2 in
-      (t.0, w.1, t.1, separates_to g h Pair m (rows_of w.0) (all_rows (drop (suc k) lists)) (rows_of t.0) (all_rows (drop (suc k) others)) (rows_zip Pair w.0 t.0 t.2)
-      (zip_flat (SaySame Pair) Pair rows_of rows_of (λ x y s. rows_zip Pair x y s) (drop (suc k) lists) (drop (suc k) others) (zip_drop (SaySame Pair) (suc k) lists others z)) w.1 w.3)
+      let t = zip_some (SaySame Pair) lists others k w.0 z w.2 in (
+        t.0,
+        w.1,
+        t.1,
+        separates_to g h Pair m (rows_of w.0) (all_rows (drop (suc k) lists)) (rows_of t.0) (all_rows (drop (suc k) others)) (rows_zip Pair w.0 t.0 t.2)
+            (zip_flat (SaySame Pair) Pair rows_of rows_of (λ x y s. rows_zip Pair x y s) (drop (suc k) lists) (drop (suc k) others) (zip_drop (SaySame Pair) (suc k) lists others z)) w.1 w.3,
+      )
 
 lists_back : (Pair : ℕ → ℕ → Type 0) (lists others : List (List Example)) → AllZip (SaySame Pair) lists others → AllZip (SaySame (λ q r. Pair r q)) others lists
 lists_back Pair [] [] z = tt

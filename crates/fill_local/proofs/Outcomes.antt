@@ -7,7 +7,6 @@ use Rattle.fill_local.proofs.Paired.{SaySame, SaysSame}
 use Rattle.fill_space.specs.declared.ground.Ground.{Ground}
 use Rattle.fill_session.specs.Edits.{with_example}
 use Rattle.fill_session.specs.Outcome.{count_reason, first_reason, has_example, inputs_length, is_row, length_reason}
-use Rattle.fill_session.specs.declared.error.EditError.{EditError}
 use Rattle.fill_session.specs.declared.error.EditError.TheVariants as error
 use Rattle.fill_session.specs.declared.error.Part.TheVariants as part
 use Rattle.fill_tree.specs.declared.user.Edit.TheVariants.{Add}
@@ -49,10 +48,10 @@ module _ (Pair : ℕ → ℕ → Type 0) (once : (r q a b : ℕ) → Pair r a �
     pub reason_same : (es ds : List Example) → SaySame Pair es ds → first_reason g.sheet es (Add e.row e.text) ≡ first_reason h.sheet ds (Add d.row d.text)
     reason_same es ds z =
         let lengths : length_reason g.sheet e.row e.text ≡ length_reason h.sheet d.row d.text = λ i. if nat_lt 100 (length (same.text i)) then Some (error.TooLong part.Text (length (same.text i))) else
-          if nat_lt 1000 (long i) then Some (error.TooLong part.Inputs (long i)) else None in
+        if nat_lt 1000 (long i) then Some (error.TooLong part.Inputs (long i)) else None in
         let counts : count_reason es ≡ count_reason ds = ap (λ n. if nat_le 64 n then Some error.TooMany else None) (sym (zip_lengths (SaysSame Pair) es ds z)) in
         let left : first_reason g.sheet es (Add e.row e.text) ≡ (if has_example es e.row then Some error.HasExample else option_or (length_reason g.sheet e.row e.text) (count_reason es)) =
-          ap (λ b. if not b then Some (error.NoSuchRow (length g.sheet.rows)) else (if has_example es e.row then Some error.HasExample else option_or (length_reason g.sheet e.row e.text) (count_reason es))) inside in
+        ap (λ b. if not b then Some (error.NoSuchRow (length g.sheet.rows)) else (if has_example es e.row then Some error.HasExample else option_or (length_reason g.sheet e.row e.text) (count_reason es))) inside in
         let right : first_reason h.sheet ds (Add d.row d.text) ≡ (if has_example ds d.row then Some error.HasExample else option_or (length_reason h.sheet d.row d.text) (count_reason ds)) =
-          ap (λ b. if not b then Some (error.NoSuchRow (length h.sheet.rows)) else (if has_example ds d.row then Some error.HasExample else option_or (length_reason h.sheet d.row d.text) (count_reason ds))) (sym here ∙ inside) in
+        ap (λ b. if not b then Some (error.NoSuchRow (length h.sheet.rows)) else (if has_example ds d.row then Some error.HasExample else option_or (length_reason h.sheet d.row d.text) (count_reason ds))) (sym here ∙ inside) in
         left ∙ ((λ i. if any_same es ds z i then Some error.HasExample else option_or (lengths i) (counts i)) ∙ sym right)
