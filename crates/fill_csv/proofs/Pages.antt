@@ -1,5 +1,5 @@
 -- What was written of a page, said of an equal one, and after a dialogue.
-use Rattle.std.proofs.Common.{◌≡◌, ◌≢◌, ◌⊎◌, ◌≤◌, ℕ, List, Bool, Option, None, Some, true, false, ap, arith, inl, inr, refl, subst, sym}
+use Rattle.std.proofs.Common.{◌≡◌, ◌⊎◌, ℕ, List, Bool, Option, true, false, inl, inr, refl, subst}
 use Rattle.std.specs.Io.KnownBytes.{Keeps}
 use Rattle.fill_edge.specs.Outside.{Files}
 use Rattle.fill_open.specs.Stops.{Counts}
@@ -10,12 +10,10 @@ use Rattle.fill_ask.specs.Dialogue.{AreAnswered}
 use Rattle.fill_ask.specs.Told.{Grew}
 use Rattle.fill_ask.proofs.Growing.{grew_not}
 use Rattle.fill_words.specs.Words.{AskedData}
-use Rattle.fill_lookups.specs.Lines.{memory_line}
 use Rattle.fill_csv.specs.Asking.{AreTyped, Heard, SaysAfter}
 use Rattle.fill_csv.specs.Ends.{EndsFilled, Opens, WritesFilledPart, WritesFilledRows}
-use Rattle.fill_csv.specs.Lines.{output_line}
 use Rattle.fill_csv.specs.Opening.{SheetRead}
-use Rattle.fill_csv.specs.Pages.{FailsPage, FillsPage, FillsPart, FillsRows, IsBegun, IsDone, IsPart, PageData, page_of, with_typed}
+use Rattle.fill_csv.specs.Pages.{FailsPage, FillsPage, FillsPart, FillsRows, IsBegun, IsDone, IsPart, PageData, page_of}
 use Rattle.fill_csv.specs.Said.{Says}
 use Rattle.fill_csv.specs.Saved.{StoreAt}
 use Rattle.fill_csv.proofs.Endings.{memory_ends, part_ends}

@@ -1,5 +1,5 @@
 //! The run of `fillcsv`, over any cabinet of files, any store, any input and any sinks.
-ghost use Rattle.std.specs.Prelude.{◌≡◌, ◌≢◌, ◌⊎◌, ◌≤◌, ℕ, List as Listed, [], All, IfErr, IfOk, IsOk, false, map, option_map, string_bytes, true, unwrap_or};
+ghost use Rattle.std.specs.Prelude.{◌≡◌, ◌≢◌, ◌⊎◌, ◌≤◌, ℕ, List as Listed, [], All, IfErr, IfOk, IsOk, false, map, Option, option_map, string_bytes, true, unwrap_or};
 ghost use Rattle.fill_edge.specs.Outside.{Rose};
 ghost use Rattle.fill_filter.specs.RuleFile.{RanFile};
 ghost use Rattle.fill_words.specs.Words.{AskedData, Asks, IsLookup, Runs, SavedData, Shows, Wrong, asked_in, data_of, lookup_data};

@@ -1,5 +1,5 @@
 //! Filling a sheet.
-ghost use Rattle.std.specs.Prelude.{◌≡◌, ◌⊎◌, ◌≤◌, ℕ, List as Listed, [], IfErr, IfOk, IfSome, IsErrOf, IsOk, drop, length, option_map};
+ghost use Rattle.std.specs.Prelude.{◌≡◌, ◌⊎◌, ◌≤◌, ℕ, List as Listed, [], IfErr, IfOk, IfSome, IsErrOf, IsOk, drop, false, length, option_map};
 ghost use Rattle.std.specs.List.{list_any};
 ghost use Rattle.std.specs.Io.KnownBytes.{Keeps};
 ghost use Rattle.fill_edge.specs.Outside.{Rose};
@@ -47,7 +47,7 @@ pub(crate) fn fill<S: Source, O: Sink, E: Sink, L: Ledger>(
     requires ready { IsReady desk }
     ensures filled { IfOk result (λ told. FillsPage desk.ask (page_data desk) (heard (S.left input.old) (S.faults input.old) (S.faults input.new)) (O.written out.old) (O.written out.new) told.refused told.summary.unsure told.text) }
     ensures silent { IsOk result → desk.ask ≡ false → err.new ≡ err.old }
-    ensures grew { Grew (E.written err.old) (E.written err.new) (E.faults err.old) (E.faults err.new) }
+    ensures grew { IsOk result → Grew (E.written err.old) (E.written err.new) (E.faults err.old) (E.faults err.new) }
     ensures fails { IfErr result (λ status. FailsPage status desk.ask (page_data desk) (heard (S.left input.old) (S.faults input.old) (S.faults input.new)) (O.written out.old) (O.written out.new)
         (SaysAfter desk.ask (E.written err.old) (E.written err.new) (E.faults err.old) (E.faults err.new))) }
     ensures fault { IsErrOf result 4 → Rose (O.faults out.old) (O.faults out.new) }

@@ -1,4 +1,4 @@
-use Rattle.std.proofs.Common.{◌≡◌, ◌∙◌, List, ℕ, refl, sym}
+use Rattle.std.proofs.Common.{◌≡◌, ◌∙◌, refl}
 use Rattle.fill_words.specs.Words.{data_of}
 use Rattle.fill_csv.specs.Asking.{SaysAfter}
 use Rattle.fill_csv.proofs.Pages.{fails_same, fills_same, page_fails, says_after}
@@ -12,10 +12,10 @@ pub returns-in-Ok-fill-clause-ends : goal.returns-in-Ok-fill-clause-ends
 returns-in-Ok-fill-clause-ends g c =
     let opened = c.in-Ok.ensures.opened in
     let same : c.open_desk.new.err ≡ c.args.err.now = c.in-Ok.ensures.silent refl in
-    let page = fills_same _ _ _ _ _ _ _ _ _ _ _ opened.3 opened.2 c.in-Ok-fill.ensures.filled in
+    let page = fills_same _ _ _ _ _ _ _ _ _ _ opened.3 opened.2 c.in-Ok-fill.ensures.filled in
     told_ends (data_of c.args.asked.now) (g.C.Cabinet.files c.args.folder.now.cabinet) _ _ _ _ _ _ _ _ c.end.result c.in-Ok-fill.told (opened.0, opened.1, page)
     (told_said (data_of c.args.asked.now) c.in-Ok-fill.told c.end.result _ _ _ _
-    (λ line says. says_after g.E.Sink.written g.E.Sink.faults c.args.asked.now.ask c.args.err.now c.fill.new.err c.end.new.err line (λ e. c.in-Ok-fill.ensures.silent refl (opened.3 ∙ e) ∙ same) (rw same at c.fill.ensures.grew) says)
+    (λ line says. says_after g.E.Sink.written g.E.Sink.faults c.args.asked.now.ask c.args.err.now c.fill.new.err c.end.new.err line (λ e. c.in-Ok-fill.ensures.silent refl (opened.3 ∙ e) ∙ same) (rw same at (c.in-Ok-fill.ensures.grew refl)) says)
     c.end.ensures.ends)
 
 pub returns-in-Err-fill-clause-ends : goal.returns-in-Err-fill-clause-ends

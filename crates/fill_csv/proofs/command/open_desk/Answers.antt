@@ -1,4 +1,4 @@
-use Rattle.std.proofs.Common.{inl, inr, refl}
+use Rattle.std.proofs.Common.{inl, refl}
 use Rattle.std.proofs.KnownBytes.{Keeps-refl}
 use Rattle.fill_words.specs.Words.{data_of}
 use Rattle.fill_csv.specs.Read.{read_data}
@@ -16,6 +16,6 @@ returns-in-Err-clause-fails g c = λ input old store.
 pub returns-in-Ok-of-clause-opened : goal.returns-in-Ok-of-clause-opened
 returns-in-Ok-of-clause-opened g c = (read_data c.in-Ok.read, c.in-Ok.ensures.ready, c.in-Ok-of.ensures.page, c.in-Ok-of.ensures.asks)
 
-pub returns-clause-fails : goal.returns-clause-fails
-returns-clause-fails g c = λ input old store.
+pub returns-in-Err-of-clause-fails : goal.returns-in-Err-of-clause-fails
+returns-in-Err-of-clause-fails g c = λ input old store.
     memory_ends (data_of c.args.asked.now) (g.C.Cabinet.files c.args.cabinet.now) input _ _ _ _ store store _ 6 refl refl (inl (Keeps-refl old)) (says_at_once c.args.asked.now.ask _ _ _ _ _ c.say.ensures)

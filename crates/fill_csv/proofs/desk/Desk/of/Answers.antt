@@ -1,4 +1,4 @@
-use Rattle.std.proofs.Common.{◌≡◌, ◌∙◌, List, ap, drop, option_map}
+use Rattle.std.proofs.Common.{◌≡◌, List, ap, drop}
 use Rattle.fill_sheet.specs.Sheet.{headers}
 use Rattle.fill_words.specs.Words.{data_of}
 use Rattle.fill_report.specs.Records.{Fields}
