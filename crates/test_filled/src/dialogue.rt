@@ -47,22 +47,6 @@ fn is_alike(alloc: Global, row: &Row) -> Result<bool, Fail> {
     Ok(first == second && first <= 1 && asked.out.written() == told.out.written())
 }
 
-/// Whether each of these dialogues about one row ends as the run with these words does.
-fn all_alike(alloc: Global, rows: &[(&[u8], &[&str])]) -> Result<bool, Fail> {
-    for (input, examples) in rows {
-        let row = Row {
-            sheet: PEOPLE,
-            words: LABEL,
-            input,
-            examples,
-        };
-        if !is_alike(alloc, &row)? {
-            return Ok(false);
-        }
-    }
-    Ok(true)
-}
-
 #[test]
 fn replies_are_examples(rt: HostRuntime) -> Result<(), Fail> {
     let rows: [(&[u8], &[&str]); 5] = [
@@ -72,7 +56,15 @@ fn replies_are_examples(rt: HostRuntime) -> Result<(), Fail> {
         (b"=2\n", &["--example", "5=2"]),
         (b"-\n", &["--example", "5="]),
     ];
-    assert!(rt; all_alike(rt.alloc(), &rows)?);
+    for (input, examples) in rows {
+        let row = Row {
+            sheet: PEOPLE,
+            words: LABEL,
+            input,
+            examples,
+        };
+        assert!(rt; is_alike(rt.alloc(), &row)?, "{input:?}");
+    }
     Ok(())
 }
 
@@ -85,7 +77,15 @@ fn other_lines_are_none(rt: HostRuntime) -> Result<(), Fail> {
         (b"q\n2\n", &[]),
         (b"", &[]),
     ];
-    assert!(rt; all_alike(rt.alloc(), &rows)?);
+    for (input, examples) in rows {
+        let row = Row {
+            sheet: PEOPLE,
+            words: LABEL,
+            input,
+            examples,
+        };
+        assert!(rt; is_alike(rt.alloc(), &row)?, "{input:?}");
+    }
     Ok(())
 }
 
