@@ -1,24 +1,17 @@
 -- The records of first keys, and a part of one key more.
-use Rattle.std.proofs.Common.{◌≡◌, ℕ, ◌+◌, ◌<◌, List, [], ◌∷◌, ◌++◌, length, take, drop, map, get_or, Option, refl, sym, ap, ◌∙◌, subst, arith, take-append-drop, length-append}
+use Rattle.std.proofs.Common.{◌≡◌, ℕ, ◌+◌, ◌<◌, List, [], ◌∷◌, ◌++◌, length, take, map, get_or, Option, refl, sym, ap, ◌∙◌, subst}
 use Rattle.std.specs.Io.KnownBytes.{Appends}
-use Rattle.std.proofs.lemmas.List.{take_more, take-append-le}
+use Rattle.std.proofs.lemmas.List.{take_more}
 use Rattle.fill_edge.specs.Outside.{AppendsPart}
 use Rattle.fill_sheet.specs.Report.{record_text}
 use Rattle.fill_report.specs.Output.{report_text}
 use Rattle.fill_report.specs.Records.{Fields}
-use Rattle.fill_report.proofs.Bytes.{part_more, report-append}
-use Rattle.fill_command.specs.Keys.{key_record, keys_text}
+use Rattle.fill_report.proofs.Bytes.{part_more}
+use Rattle.fill_command.specs.Output.{key_record, keys_text}
 
 records-append : (xs ys : List (List ℕ)) → map key_record (xs ++ ys) ≡ map key_record xs ++ map key_record ys
 records-append [] ys = refl
 records-append (x ∷ xs) ys = ap (λ (l : List Fields). key_record x ∷ l) (records-append xs ys)
-
-keys-append : (xs ys : List (List ℕ)) → keys_text (xs ++ ys) ≡ keys_text xs ++ keys_text ys
-keys-append xs ys = ap report_text (records-append xs ys) ∙ report-append (map key_record xs) (map key_record ys)
-
--- a proper prefix of a front is one of the whole
-part_of_front : (old new : Option (List ℕ)) (xs ys : List ℕ) → AppendsPart old new xs → AppendsPart old new (xs ++ ys)
-part_of_front old new xs ys p = (p.0, omega (arith, p.1, length-append xs ys), subst (λ (l : List ℕ). Appends old new l) (sym (take-append-le p.0 xs ys (omega (arith, p.1)))) p.2)
 
 module _ (keys : List (List ℕ)) (i : ℕ) (key : List ℕ) (within : i < length keys) (is : key ≡ get_or keys i key) where
   next_records : map key_record (take (i + 1) keys) ≡ map key_record (take i keys) ++ key_record key ∷ []
@@ -26,8 +19,6 @@ module _ (keys : List (List ℕ)) (i : ℕ) (key : List ℕ) (within : i < lengt
       let next : take (i + 1) keys ≡ take i keys ++ key ∷ [] = take_more keys i key within ∙ ap (λ (k : List ℕ). take i keys ++ k ∷ []) (sym is) in
       ap (map key_record) next ∙ records-append (take i keys) (key ∷ [])
 
-  pub key_part : (old mid new : Option (List ℕ)) → Appends old mid (keys_text (take i keys)) → AppendsPart mid new (record_text (key_record key)) → AppendsPart old new (keys_text keys)
+  pub key_part : (old mid new : Option (List ℕ)) → Appends old mid (keys_text (take i keys)) → AppendsPart mid new (record_text (key_record key)) → AppendsPart old new (keys_text (take (i + 1) keys))
   key_part old mid new w h =
-      let front = subst (λ (l : List Fields). AppendsPart old new (report_text l)) (sym next_records) (part_more old mid new (map key_record (take i keys)) (key_record key) w h) in
-      let whole : keys_text keys ≡ keys_text (take (i + 1) keys) ++ keys_text (drop (i + 1) keys) = ap keys_text (sym (take-append-drop (i + 1) keys)) ∙ keys-append (take (i + 1) keys) (drop (i + 1) keys) in
-      subst (λ (l : List ℕ). AppendsPart old new l) (sym whole) (part_of_front old new (keys_text (take (i + 1) keys)) (keys_text (drop (i + 1) keys)) front)
+      subst (λ (l : List Fields). AppendsPart old new (report_text l)) (sym next_records) (part_more old mid new (map key_record (take i keys)) (key_record key) w h)

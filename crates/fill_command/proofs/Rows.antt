@@ -9,7 +9,7 @@ use Rattle.fill_open.specs.Apply.{Applied}
 use Rattle.fill_report.specs.Records.{Fields}
 use Rattle.fill_report.proofs.Bytes.{appends_more, part_more}
 use Rattle.fill_report.proofs.Numbered.{rows_more}
-use Rattle.fill_command.specs.Applied.{WritesPartOfRows, WritesRows}
+use Rattle.fill_command.specs.Output.{WritesPartOfRows, WritesRows}
 
 module _ (a : Applied) (old : Option (List ℕ)) where
   pub rows_none : WritesRows a 0 old old

@@ -1,4 +1,4 @@
-pub mod Answer
-pub mod Applied
-pub mod Keys
-pub mod Sessions
+pub mod Ending
+pub mod Asked
+pub mod Output
+pub mod Run

@@ -7,7 +7,7 @@ ghost use Rattle.fill_edge.specs.Outside.{AppendsPart, Rose};
 ghost use Rattle.fill_open.specs.Apply.{application_data};
 ghost use Rattle.fill_sheet.specs.Report.{record_text};
 ghost use Rattle.fill_tree.specs.Switch.{switch_tree};
-ghost use Rattle.fill_command.specs.Applied.{WritesPartOfRows, WritesRows};
+ghost use Rattle.fill_command.specs.Output.{WritesPartOfRows, WritesRows};
 
 use fill_apply::apply_record;
 use fill_edge::{Sink, write_all};

@@ -3,7 +3,7 @@ ghost use Rattle.std.specs.Prelude.{◌≡◌, ◌≤◌, ℕ, IfOk, IsErrOf, On
 ghost use Rattle.std.specs.Io.KnownBytes.{Appends};
 ghost use Rattle.fill_edge.specs.Outside.{AppendsPart, Rose};
 ghost use Rattle.fill_sheet.specs.Report.{record_text};
-ghost use Rattle.fill_command.specs.Keys.{key_record, keys_text};
+ghost use Rattle.fill_command.specs.Output.{key_record, keys_text};
 
 use fill_edge::{Sink, write_all};
 use fill_report::Halt;
@@ -14,7 +14,7 @@ use std::alloc::Global;
 /// Writes the records of keys, each when it is made.
 pub fn write_keys<O: Sink>(alloc: Global, keys: &[List<u32>], out: &mut O) -> Result<(), Halt>
     ensures whole { OnOk result (Appends (O.written out.old) (O.written out.new) (keys_text keys.now)) }
-    ensures part { IsErrOf result Halt.Fault → AppendsPart (O.written out.old) (O.written out.new) (keys_text keys.now) }
+    ensures part { IsErrOf result Halt.Fault → (n : ℕ) × (n ≤ length keys.now) × AppendsPart (O.written out.old) (O.written out.new) (keys_text (take n keys.now)) }
     ensures fault { IsErrOf result Halt.Fault → Rose (O.faults out.old) (O.faults out.new) }
     ensures memory { IsErrOf result Halt.NoMemory → (n : ℕ) × (n ≤ length keys.now) × Appends (O.written out.old) (O.written out.new) (keys_text (take n keys.now)) }
 {

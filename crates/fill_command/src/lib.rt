@@ -4,10 +4,10 @@
 mod applied;
 mod apply;
 mod command;
+mod ending;
 mod keyed;
 mod keys;
 mod replay;
-mod stop;
 
 pub use command::run;
-pub use stop::{MEMORY_LINE, say};
+pub use ending::Ending;

@@ -1,22 +1,19 @@
 -- From what a run promises of its sinks to what is answered.
-use Rattle.std.proofs.Common.{◌≡◌, ◌⊎◌, ◌≤◌, ℕ, List, [], Option, Some, true, inl, inr, arith, subst}
+use Rattle.std.proofs.Common.{◌≡◌, ◌∙◌, ◌⊎◌, ◌≤◌, ℕ, List, [], Option, None, Some, true, inl, inr, ap, arith, refl, subst, sym}
 use Rattle.fill_edge.specs.Outside.{Files, Rose}
-use Rattle.fill_open.specs.Apply.{Names}
-use Rattle.fill_open.specs.Asked.{application_in, keys_file_in}
-use Rattle.fill_open.specs.Command.{command_in, made}
-use Rattle.fill_open.specs.Lines.{memory_line}
+use Rattle.fill_open.specs.Command.{CommandData, command_in, made}
 use Rattle.fill_words.specs.Words.{AskedData, Asks, Runs, SavedData, Shows, Wrong, asked_in}
-use Rattle.fill_command.specs.Answer.{IsOfSession, Says, usage_line}
-use Rattle.fill_command.specs.Applied.{EndsApplied}
-use Rattle.fill_command.specs.Keys.{EndsKeys}
-use Rattle.fill_command.specs.Sessions.{EndsSession}
+use Rattle.fill_command.specs.Ending.{Says, line_of, status_of}
+use Rattle.fill_command.specs.Run.{Gives, RunEnds, World, world}
+use Rattle.fill_command.specs.declared.ending.Ending.{Ending}
+use Rattle.fill_command.specs.declared.ending.Ending.TheVariants as ending
 use Rattle.fill_filter.specs.RuleFile.{RanFile}
 use Rattle.fill_csv.specs.Asking.{SaysAfter, heard}
 use Rattle.fill_csv.specs.Ends.{EndsFilled, EndsShown, EndsWrong, OutBefore}
 use Rattle.fill_csv.specs.Saved.{StoreAt}
 use Rattle.fill_csv.specs.Said.{Says as SaysFilled}
 use Rattle.fill_engine.specs.Answer.{AnswerData}
-use Rattle.fill_engine.specs.Programs.{EndsFillcsv, EndsFlashfill, IsNoCommand, Stores, files_of, no_faults, nothing_stored}
+use Rattle.fill_engine.specs.Programs.{EndsFillcsv, EndsFlashfill, Stores, files_of, no_faults, nothing_stored}
 use Rattle.fill_engine.specs.Input.{input_in}
 
 -- a fault is counted
@@ -25,35 +22,36 @@ no_rise rose = omega (arith, rose)
 
 -- what the run of `flashfill` promises, by what its two sinks had and have, and how often they failed
 pub record RanFlashfill (words : List (List ℕ)) (files : Files) (r : ℕ) (old new : List ℕ) (before now : ℕ) (quiet said : List ℕ) (ago lately : ℕ) (first last : ℕ) : Type 0 where
-  pub session : IsOfSession words → EndsSession words files r no_faults no_faults (Some old) (Some new) first last (Says (Some quiet) (Some said) ago lately)
-  pub application : (names : Names) → application_in words ≡ Some names → EndsApplied names files r no_faults no_faults (Some old) (Some new) (Says (Some quiet) (Some said) ago lately)
-  pub keys : (file : List ℕ) → keys_file_in words ≡ Some file → EndsKeys file files r no_faults no_faults (Some old) (Some new) (Says (Some quiet) (Some said) ago lately)
-  pub usage : IsNoCommand words → (r ≡ 2) × (new ≡ old)
-  pub no_command : r ≡ 2 → IsNoCommand words × Says (Some quiet) (Some said) ago lately usage_line
+  pub ends : (ending : Ending) × (r ≡ status_of ending) × Says (Some quiet) (Some said) ago lately (line_of ending)
+      × RunEnds (command_in words) (world files no_faults (Some old) before first) (world files no_faults (Some new) now last) ending
+  pub gives : Gives (command_in words) files r
   pub generated : (n : ℕ) → command_in words ≡ Some (made n) → (r ≤ 1) ⊎ (r ≡ 4) ⊎ (r ≡ 6)
-  pub silent : r ≤ 1 → said ≡ quiet
-  pub memory : r ≡ 6 → Says (Some quiet) (Some said) ago lately memory_line
-  pub fault : r ≡ 4 → Rose before now
-  pub statuses : r ≤ 6
 
 -- of three ways to end the second one is none
 not_second : (P Q R : Type 0) → (Q → ⊥) → P ⊎ Q ⊎ R → P ⊎ R
 not_second P Q R no_second how = elim how [ inl p ↦ inl p | inr more ↦ elim more [ inl q ↦ absurd (no_second q) | inr r ↦ inr r ] ]
 
+-- where no write fails, the status is not 4
+none_unwritten : (command : Option CommandData) (a b : World) (e : Ending) → RunEnds command a b e → a.unwritten ≡ 0 → b.unwritten ≡ 0 → status_of e ≡ 4 → ⊥
+none_unwritten None a b e h before now four = let e : status_of ending.NoCommand ≡ 4 = ap status_of (sym h.0) ∙ four in omega (arith, e)
+none_unwritten (Some command) a b ending.Unwritten h before now four = no_rise (rw (before, now) at h.1)
+none_unwritten (Some command) a b ending.Done h before now four = omega (arith, four)
+none_unwritten (Some command) a b ending.Refusing h before now four = omega (arith, four)
+none_unwritten (Some command) a b ending.NoCommand h before now four = absurd h
+none_unwritten (Some command) a b (ending.Unread line) h before now four = omega (arith, four)
+none_unwritten (Some command) a b (ending.Refused line) h before now four = omega (arith, four)
+none_unwritten (Some command) a b ending.NoMemory h before now four = omega (arith, four)
+
 flashfill_answers : (words : List (List ℕ)) (files : Files) (a : AnswerData) (first last : ℕ) →
     RanFlashfill words files a.status [] a.out 0 0 [] a.err 0 0 first last → EndsFlashfill words files a
-flashfill_answers words files a first last ran = record {
-  session = λ is. (first, last, ran.session is);
-  application = ran.application;
-  keys = ran.keys;
-  usage = ran.usage;
-  no_command = ran.no_command;
-  generated = λ n is. not_second (a.status ≤ 1) (a.status ≡ 4) (a.status ≡ 6) (λ four. no_rise (ran.fault four)) (ran.generated n is);
-  silent = ran.silent;
-  memory = ran.memory;
-  written = λ four. no_rise (ran.fault four);
-  statuses = ran.statuses;
-}
+flashfill_answers words files a first last ran =
+    let written : a.status ≡ 4 → ⊥ = λ four. none_unwritten (command_in words) _ _ ran.ends.0 ran.ends.3 refl refl (sym ran.ends.1 ∙ four) in
+    record {
+      ends = (ran.ends.0, first, last, ran.ends.1, ran.ends.2, ran.ends.3);
+      gives = ran.gives;
+      generated = λ n is. not_second (a.status ≤ 1) (a.status ≡ 4) (a.status ≡ 6) written (ran.generated n is);
+      written = written;
+    }
 
 pub flashfill_ends : (words : List (List ℕ)) (files : Files) (a : AnswerData) (r : ℕ) (old new : List ℕ) (before now : ℕ) (quiet said : List ℕ) (ago lately : ℕ) (first last : ℕ) →
     a.status ≡ r → a.out ≡ new → a.err ≡ said → old ≡ [] → quiet ≡ [] → before ≡ 0 → now ≡ 0 → ago ≡ 0 → lately ≡ 0 →

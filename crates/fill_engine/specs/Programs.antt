@@ -2,19 +2,15 @@
 use Rattle.std.specs.Prelude.{◌≡◌, ◌≢◌, ◌⊎◌, ◌≤◌, ℕ, List, [], Option, None, Some, true}
 use Rattle.fill_edge.specs.Memory.{held}
 use Rattle.fill_edge.specs.Outside.{Files}
-use Rattle.fill_open.specs.Apply.{Names}
-use Rattle.fill_open.specs.Asked.{application_in, keys_file_in}
 use Rattle.fill_open.specs.Command.{command_in, made}
-use Rattle.fill_open.specs.Lines.{memory_line}
 use Rattle.fill_open.specs.Stops.{Counts}
 use Rattle.fill_words.specs.Words.{AskedData, Asks, Runs, SavedData, Shows, Wrong, asked_in}
 use Rattle.fill_files.specs.Saves.{SavedFiles, last_bytes}
 use Rattle.fill_filter.specs.RuleFile.{RanFile}
 use Rattle.fill_csv.specs.Saved.{StoreAt}
-use Rattle.fill_command.specs.Answer.{IsOfSession, Says, usage_line}
-use Rattle.fill_command.specs.Applied.{EndsApplied}
-use Rattle.fill_command.specs.Keys.{EndsKeys}
-use Rattle.fill_command.specs.Sessions.{EndsSession}
+use Rattle.fill_command.specs.Ending.{Says, line_of, status_of}
+use Rattle.fill_command.specs.Run.{Gives, RunEnds, world}
+use Rattle.fill_command.specs.declared.ending.Ending.{Ending}
 use Rattle.fill_csv.specs.Asking.{SaysAfter, heard}
 use Rattle.fill_csv.specs.Ends.{EndsFilled, EndsShown, EndsWrong, OutBefore}
 use Rattle.fill_csv.specs.Said.{Says as SaysFilled}
@@ -32,30 +28,15 @@ files_of files = Some (λ name. held files name)
 abbrev pub no_faults : Counts
 no_faults = λ name. 0
 
--- the errors are this line, since no write fails
-abbrev pub IsSaid : AnswerData → List ℕ → Type 0
-IsSaid a line = Says (Some []) (Some a.err) 0 0 line
-
--- the words are none of `flashfill`
-abbrev pub IsNoCommand : List (List ℕ) → Type 0
-IsNoCommand words = (command_in words ≡ None) × (application_in words ≡ None) × (keys_file_in words ≡ None)
-
--- what `flashfill` answers to these words over these files
+-- what `flashfill` answers to these words over these files, of which no read fails; no write fails either
 pub record EndsFlashfill (words : List (List ℕ)) (files : Files) (a : AnswerData) : Type 0 where
-  -- words that ask for a session end as it does, those that apply a saved program or list keys likewise
-  pub session : IsOfSession words → (first : ℕ) × (last : ℕ) × EndsSession words files a.status no_faults no_faults (Some []) (Some a.out) first last (IsSaid a)
-  pub application : (names : Names) → application_in words ≡ Some names → EndsApplied names files a.status no_faults no_faults (Some []) (Some a.out) (IsSaid a)
-  pub keys : (file : List ℕ) → keys_file_in words ≡ Some file → EndsKeys file files a.status no_faults no_faults (Some []) (Some a.out) (IsSaid a)
-  -- 2 exactly where they are none of these
-  pub usage : IsNoCommand words → (a.status ≡ 2) × (a.out ≡ [])
-  pub no_command : a.status ≡ 2 → IsNoCommand words × IsSaid a usage_line
+  -- it ends as its run does, its errors are the line of this ending, where it has one, and the run made so many steps
+  pub ends : (ending : Ending) × (first : ℕ) × (last : ℕ) × (a.status ≡ status_of ending) × Says (Some []) (Some a.err) 0 0 (line_of ending)
+      × RunEnds (command_in words) (world files no_faults (Some []) 0 first) (world files no_faults (Some a.out) 0 last) ending
+  pub gives : Gives (command_in words) files a.status
   -- a generated session always opens
   pub generated : (n : ℕ) → command_in words ≡ Some (made n) → (a.status ≤ 1) ⊎ (a.status ≡ 6)
-  pub silent : a.status ≤ 1 → a.err ≡ []
-  pub memory : a.status ≡ 6 → IsSaid a memory_line
-  -- no write fails
   pub written : a.status ≢ 4
-  pub statuses : a.status ≤ 6
 
 -- the last of these files has the bytes, which are none where there is no file
 abbrev pub IsLast : List ℕ → SavedFiles → Type 0

@@ -1,10 +1,10 @@
 -- The generated session opens.
-use Rattle.std.proofs.Common.{◌≡◌, ℕ, zero, suc, ◌+◌, ◌<◌, ◌≤◌, List, [], ◌∷◌, false, true, length, map, Option, None, Some, Result, Ok, Err, refl, sym, ap, ◌∙◌, subst, arith}
+use Rattle.std.proofs.Common.{◌≡◌, ℕ, zero, suc, ◌+◌, ◌<◌, ◌≤◌, List, [], ◌∷◌, false, true, length, map, Option, None, Some, Ok, refl, ap, ◌∙◌, arith}
 use Rattle.std.proofs.lemmas.Bool.Decides.{nat_tests}
 use Rattle.std.proofs.lemmas.List.{take_all, length-map}
 use Rattle.std.proofs.lemmas.List.FromFn.{length-range_with_len}
 use Rattle.std.proofs.lemmas.Str.{IsUtf8-from_ascii, is_utf8-from_IsUtf8, chars-IsAscii}
-use Rattle.std.specs.Prelude.{◌==◌, ◌&&◌, Bool, nat_le, nat_lt, if◌then◌else◌, codes, option_map, option_and_then, IfErr}
+use Rattle.std.specs.Prelude.{◌==◌, ◌&&◌, ◌||◌, Bool, nat_le, nat_lt, if◌then◌else◌, codes, option_map, option_and_then}
 use Rattle.std.specs.List.{range_with_len}
 use Rattle.std.specs.Fmt.{digits}
 use Rattle.std.specs.Str.{IsAscii, bytes_eq, is_utf8, chars}
@@ -15,16 +15,14 @@ use Rattle.fill_sheet.specs.Sheet.{read_sheet, row_of, row_records, sheet_of}
 use Rattle.fill_script.specs.Line.{between}
 use Rattle.fill_script.specs.Number.{number_in}
 use Rattle.fill_script.specs.Script.{read_script}
-use Rattle.fill_open.specs.Command.{CommandData, command_in, made, made_of, replay, replay_of}
+use Rattle.fill_open.specs.Apply.{Names, named}
+use Rattle.fill_open.specs.Command.{apply, command_in, keys, made, made_of, replay, with_name}
 use Rattle.fill_open.specs.Made.{character, pattern, first_letter, made_cell, made_output, made_session, made_sheet}
 use Rattle.fill_open.specs.MadeReady.{made_row, made_rows, made_script, made_ready}
-use Rattle.fill_open.specs.Opened.{Held, Opened, Passed}
-use Rattle.fill_open.specs.Steps.{asked_opens, made_opens, opened}
-use Rattle.fill_open.specs.Stops.{Refuses}
+use Rattle.fill_open.specs.Opened.{Passed}
+use Rattle.fill_open.specs.Steps.{made_opens}
 use Rattle.fill_open.specs.declared.generator.Sign.{Sign}
 use Rattle.fill_open.specs.declared.generator.Sign.TheVariants.{Capital, Small, Space}
-use Rattle.fill_open.specs.declared.stop.Stop.{Stop}
-use Rattle.fill_open.specs.declared.stop.Stop.TheVariants as stop
 use Rattle.fill_open.proofs.MadeRecords.{each_output, made_record, records_are}
 
 -- all characters are ASCII
@@ -106,33 +104,31 @@ spelled_in_range : (o : Option ℕ) (n : ℕ) → option_map made (option_and_th
 spelled_in_range None n is = cc
 spelled_in_range (Some k) n is = in_range k n is
 
-replay_is_not_made : (empty : Bool) (name : List ℕ) (n : ℕ) → (if empty then None else Some (replay name)) ≡ Some (made n) → ⊥
-replay_is_not_made true name n is = cc
-replay_is_not_made false name n is = cc
+named_is_not_made : (empty replays lists : Bool) (name : List ℕ) (n : ℕ) →
+    (if empty then None else (if replays then Some (replay name) else if lists then Some (keys name) else None)) ≡ Some (made n) → ⊥
+named_is_not_made true replays lists name n is = cc
+named_is_not_made false true lists name n is = cc
+named_is_not_made false false true name n is = cc
+named_is_not_made false false false name n is = cc
 
-word_in_range : (replays makes : Bool) (argument : List ℕ) (n : ℕ) → (if replays then replay_of argument else if makes then made_of argument else None) ≡ Some (made n) → (1 ≤ n) × (n ≤ 2000)
-word_in_range true makes argument n is = absurd (replay_is_not_made (length argument == 0) argument n is)
-word_in_range false true argument n is = spelled_in_range (number_in argument) n is
-word_in_range false false argument n is = cc
+word_in_range : (makes : Bool) (word argument : List ℕ) (n : ℕ) → (if makes then made_of argument else with_name word argument) ≡ Some (made n) → (1 ≤ n) × (n ≤ 2000)
+word_in_range true word argument n is = spelled_in_range (number_in argument) n is
+word_in_range false word argument n is = absurd (named_is_not_made (length argument == 0) (bytes_eq word (codes "replay")) (bytes_eq word (codes "keys")) argument n is)
+
+apply_is_not_made : (applies empty : Bool) (names : Names) (n : ℕ) → (if applies then (if empty then None else Some (apply names)) else None) ≡ Some (made n) → ⊥
+apply_is_not_made true true names n is = cc
+apply_is_not_made true false names n is = cc
+apply_is_not_made false empty names n is = cc
 
 made_in_range : (words : List (List ℕ)) (n : ℕ) → command_in words ≡ Some (made n) → (1 ≤ n) × (n ≤ 2000)
 made_in_range [] n is = cc
 made_in_range (word ∷ []) n is = cc
-made_in_range (word ∷ argument ∷ []) n is = word_in_range (bytes_eq word (codes "replay")) (bytes_eq word (codes "made")) argument n is
-made_in_range (word ∷ argument ∷ next ∷ more) n is = cc
+made_in_range (word ∷ argument ∷ []) n is = word_in_range (bytes_eq word (codes "made")) word argument n is
+made_in_range (word ∷ a ∷ b ∷ []) n is = cc
+made_in_range (word ∷ a ∷ b ∷ c ∷ []) n is =
+    absurd (apply_is_not_made (bytes_eq word (codes "apply")) ((length a == 0 || length b == 0) || length c == 0) (named a b c) n is)
+made_in_range (word ∷ a ∷ b ∷ c ∷ next ∷ more) n is = cc
 
--- words that are its command open it, whatever files there are
-pub generated_opens : (words : List (List ℕ)) (held : Held) (n : ℕ) → command_in words ≡ Some (made n) → opened words held ≡ Passed (made_ready n)
-generated_opens words held n is =
-    let range = made_in_range words n is in
-    subst (λ (c : Option CommandData). (asked_opens c held).outcome ≡ Passed (made_ready n)) (sym is) (made_opens_ready n range.0 range.1)
-
--- where checks pass, nothing stops but out of memory
-only_memory : {A : Type 0} (o : Opened A) (x : A) (why : Stop) → o ≡ Passed x → Refuses o why → why ≡ stop.NoMemory
-only_memory o x (stop.Unread name) passed refuses = absurd refuses
-only_memory o x (stop.Refused line) passed refuses = cc
-only_memory o x stop.NoMemory passed refuses = refl
-
-pub memory_alone : {A B : Type 0} (result : Result A Stop) (o : Opened B) (x : B) → o ≡ Passed x → IfErr result (Refuses o) → IfErr result (λ why. why ≡ stop.NoMemory)
-memory_alone (Ok ready) o x passed refuses = tt
-memory_alone (Err why) o x passed refuses = only_memory o x why passed refuses
+-- words that are its command open it
+pub generated_opens : (words : List (List ℕ)) (n : ℕ) → command_in words ≡ Some (made n) → (made_opens n).outcome ≡ Passed (made_ready n)
+generated_opens words n is = let range = made_in_range words n is in made_opens_ready n range.0 range.1

@@ -1,10 +1,9 @@
 pub mod Made
 pub mod MadeReady
 pub mod Opened
-pub mod Command
 pub mod Lines
 pub mod Stops
 pub mod Steps
 pub mod Apply
 pub mod Keys
-pub mod Asked
+pub mod Command

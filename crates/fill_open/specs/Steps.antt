@@ -1,4 +1,4 @@
--- The steps of a command: which files it reads, in what order they are checked, and what they open.
+-- The steps of a session: which files it reads, in what order they are checked, and what they open.
 use Rattle.std.specs.Prelude.{ℕ, nat_lt, Bool, if◌then◌else◌, List, [], ◌∷◌, length, codes, Option, Some, None, encode_utf8_all}
 use Rattle.fill_text.specs.Data.{SheetData, TableData}
 use Rattle.fill_sheet.specs.Sheet.{read_sheet}
@@ -7,10 +7,9 @@ use Rattle.fill_script.specs.Script.{read_script}
 use Rattle.fill_script.specs.declared.script.Script.{Script}
 use Rattle.fill_script.specs.declared.script.TableLine.{TableLine}
 use Rattle.fill_script.specs.declared.script.TableLine.TheVariants.{Table, Key}
-use Rattle.fill_open.specs.Command.{CommandData, replay, made, command_in}
 use Rattle.fill_open.specs.Lines.{long_line, script_line, sheet_line, table_line, key_line}
 use Rattle.fill_open.specs.Made.{made_session, made_sheet}
-use Rattle.fill_open.specs.Opened.{Held, Opened, Opening, NotACommand, Unread, Refused, Passed, at_once, and_then, checked}
+use Rattle.fill_open.specs.Opened.{Held, Opened, Opening, Unread, Refused, Passed, at_once, and_then, checked}
 use Rattle.fill_open.specs.declared.session.Ready.{Ready}
 
 -- a file has more bytes than one may have
@@ -80,20 +79,3 @@ made_opens n =
     and_then (at_once (script_in made_name made_session)) (λ script.
     and_then (at_once (sheet_in script (made_sheet n))) (λ sheet.
     at_once (Passed (record { script = script; sheet = sheet; tables = [] }))))
-
--- the steps of a command, in their order
-abbrev pub command_opens : CommandData → Held → Opening Ready
-command_opens (replay name) held = replay_opens held name
-command_opens (made n) held = made_opens n
-
--- the steps of what words ask for
-abbrev pub asked_opens : Option CommandData → Held → Opening Ready
-asked_opens None held = at_once NotACommand
-asked_opens (Some command) held = command_opens command held
-
-abbrev pub opening : List (List ℕ) → Held → Opening Ready
-opening words held = asked_opens (command_in words) held
-
--- how far the steps of these words come
-abbrev pub opened : List (List ℕ) → Held → Opened Ready
-opened words held = (opening words held).outcome

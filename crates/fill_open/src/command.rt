@@ -1,7 +1,7 @@
 //! Commands.
 ghost use Rattle.std.specs.Prelude.{◌≡◌, IfSome, map, option_map, string_bytes};
 ghost use Rattle.fill_script.specs.Line.{number_between};
-ghost use Rattle.fill_open.specs.Command.{IsCommand, command_data, command_in, command_with};
+ghost use Rattle.fill_open.specs.Command.{IsCommand, command_data, command_in, with_argument, with_names};
 
 use fill_script::number_in;
 
@@ -9,9 +9,24 @@ use fill_script::number_in;
 #[derive(Clone, Copy, Debug, PartialEq, Eq)]
 pub enum Command<'a> {
     /// Replay the session in the file of this name.
-    Replay { session: &'a str },
+    Replay {
+        session: &'a str,
+    },
     /// Replay the generated session over this many lines.
-    Made { n: u32 },
+    Made {
+        n: u32,
+    },
+    /// Run the conditional program that a report shows on the rows of a sheet, with the header line, the inputs, the tables
+    /// and the keys of a session.
+    Apply {
+        session: &'a str,
+        program: &'a str,
+        sheet: &'a str,
+    },
+    /// List the keys of the table in the file of this name.
+    Keys {
+        file: &'a str,
+    },
 }
 
 /// The most lines that a generated session has.
@@ -19,34 +34,66 @@ const MOST_LINES: u32 = 2_000;
 
 /// The command of these words, those after the program's name.
 ///
-/// `replay` goes with a name that is not empty, and `made` with a number from 1 to 2,000 in plain decimal.
+/// `replay` and `keys` go with a name that is not empty, `made` with a number from 1 to 2,000 in plain decimal, and
+/// `apply` with three names that are not empty.
 pub fn command_of(words: &[String]) -> Option<Command<'_>>
     ensures is { option_map command_data result ≡ command_in (map string_bytes words.now) }
     ensures proper { IfSome result (λ command. IsCommand (command_data command)) }
 {
     match words {
-        [word, argument] => command_with(word.as_str(), argument.as_str()),
+        [word, argument] => with_argument(word.as_str(), argument.as_str()),
+        [word, session, program, sheet] => with_names(
+            word.as_str(),
+            session.as_str(),
+            program.as_str(),
+            sheet.as_str(),
+        ),
         _ => None,
     }
 }
 
 /// The command of a word and its argument.
-fn command_with<'a>(word: &str, argument: &'a str) -> Option<Command<'a>>
-    ensures is { option_map command_data result ≡ command_with word.now argument.now }
+fn with_argument<'a>(word: &str, argument: &'a str) -> Option<Command<'a>>
+    ensures is { option_map command_data result ≡ with_argument word.now argument.now }
     ensures proper { IfSome result (λ command. IsCommand (command_data command)) }
 {
-    if word == "replay" {
-        if argument.is_empty() {
-            None
-        } else {
-            Some(Command::Replay { session: argument })
-        }
-    } else if word == "made" {
+    if word == "made" {
         let n = lines_in(argument.as_bytes())?;
-        Some(Command::Made { n })
+        return Some(Command::Made { n });
+    }
+    if argument.is_empty() {
+        return None;
+    }
+    if word == "replay" {
+        Some(Command::Replay { session: argument })
+    } else if word == "keys" {
+        Some(Command::Keys { file: argument })
     } else {
         None
     }
+}
+
+/// The command of a word and three names.
+fn with_names<'a>(
+    word: &str,
+    session: &'a str,
+    program: &'a str,
+    sheet: &'a str,
+) -> Option<Command<'a>>
+    ensures is { option_map command_data result ≡ with_names word.now session.now program.now sheet.now }
+    ensures proper { IfSome result (λ command. IsCommand (command_data command)) }
+{
+    if word != "apply" {
+        return None;
+    }
+    if session.is_empty() || program.is_empty() || sheet.is_empty() {
+        return None;
+    }
+    Some(Command::Apply {
+        session,
+        program,
+        sheet,
+    })
 }
 
 /// The number of lines that these bytes spell.

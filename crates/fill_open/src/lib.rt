@@ -2,7 +2,6 @@
 #![tactic(auto)]
 
 mod apply;
-mod asked;
 mod command;
 mod file;
 mod generator;
@@ -16,10 +15,9 @@ mod stop;
 mod tables;
 
 pub use apply::{Application, open_application};
-pub use asked::{ApplicationNames, application_of, keys_file_of};
 pub use command::{Command, command_of};
 pub use generator::{MadeFiles, made};
 pub use keys::open_keys;
 pub use laws::generated_session_opens;
-pub use session::{Ready, open_session};
+pub use session::{Ready, open_made, open_replay};
 pub use stop::Stop;

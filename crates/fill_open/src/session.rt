@@ -1,16 +1,15 @@
-//! The session of a command.
-ghost use Rattle.std.specs.Prelude.{◌≡◌, ◌≤◌, ℕ, IfOk, IfErr};
+//! Sessions.
+ghost use Rattle.std.specs.Prelude.{◌≡◌, ◌≤◌, IfOk, IfErr};
 ghost use Rattle.fill_edge.specs.Outside.{NoneFell};
 ghost use Rattle.fill_script.specs.Script.{IsScript};
-ghost use Rattle.fill_open.specs.Command.{IsCommand, command_data, made};
 ghost use Rattle.fill_open.specs.Opened.{Told, Passed};
-ghost use Rattle.fill_open.specs.Steps.{command_opens, made_opens, replay_opens};
+ghost use Rattle.fill_open.specs.Steps.{made_opens, replay_opens};
 ghost use Rattle.fill_open.specs.Stops.{Refuses, Stops};
 
 use crate::script::{open_script, script_in};
 use crate::sheet::{open_sheet, sheet_in};
 use crate::tables::open_tables;
-use crate::{Command, Stop, made};
+use crate::{Stop, made};
 use fill_edge::Cabinet;
 use fill_script::Script;
 use fill_sheet::Sheet;
@@ -26,32 +25,11 @@ pub struct Ready {
     pub tables: Tables,
 }
 
-/// Opens the session of a command.
+/// Opens the session in the file of a name.
 ///
 /// The files are read and checked in this order: the session, the sheet, and then for each `table` line its file. The
-/// first thing that fails decides. For a generated session nothing is read, and it always opens unless memory runs out.
-pub fn open_session<C: Cabinet>(
-    alloc: Global,
-    cabinet: &mut C,
-    command: &Command<'_>,
-) -> Result<Ready, Stop>
-    requires { IsCommand (command_data command.now) }
-    ensures ready { IfOk result (λ ready. Told (C.files cabinet.old) (λ held. (command_opens (command_data command.now) held).outcome ≡ Passed ready)) }
-    ensures proper { IfOk result (λ ready. IsScript ready.script) }
-    ensures stopped { IfErr result (Stops (command_opens (command_data command.now)) (C.files cabinet.old) (C.faults cabinet.old) (C.faults cabinet.new)) }
-    ensures files { C.files cabinet.new ≡ C.files cabinet.old }
-    ensures later { NoneFell (C.faults cabinet.old) (C.faults cabinet.new) }
-    ensures made { (n : ℕ) → command_data command.now ≡ made n → (cabinet.new ≡ cabinet.old) × IfErr result (λ stop. stop ≡ Stop.NoMemory) }
-    ensures made_ready { (n : ℕ) → command_data command.now ≡ made n → IfOk result (λ ready. (made_opens n).outcome ≡ Passed ready) }
-{
-    match command {
-        Command::Replay { session } => open_replay(alloc, cabinet, session),
-        Command::Made { n } => open_made(alloc, *n),
-    }
-}
-
-/// The session in the file of a name.
-fn open_replay<C: Cabinet>(alloc: Global, cabinet: &mut C, session: &str) -> Result<Ready, Stop>
+/// first thing that fails decides.
+pub fn open_replay<C: Cabinet>(alloc: Global, cabinet: &mut C, session: &str) -> Result<Ready, Stop>
     ensures ready { IfOk result (λ ready. Told (C.files cabinet.old) (λ held. (replay_opens held session.now).outcome ≡ Passed ready)) }
     ensures proper { IfOk result (λ ready. IsScript ready.script) }
     ensures stopped { IfErr result (Stops (λ held. replay_opens held session.now) (C.files cabinet.old) (C.faults cabinet.old) (C.faults cabinet.new)) }
@@ -77,8 +55,8 @@ fn open_replay<C: Cabinet>(alloc: Global, cabinet: &mut C, session: &str) -> Res
     })
 }
 
-/// The generated session over so many lines.
-fn open_made(alloc: Global, n: u32) -> Result<Ready, Stop>
+/// Opens the generated session over so many lines. Nothing is read, and it always opens unless memory runs out.
+pub fn open_made(alloc: Global, n: u32) -> Result<Ready, Stop>
     requires first { 1 ≤ n }
     requires last { n ≤ 2000 }
     ensures ready { IfOk result (λ ready. (made_opens n).outcome ≡ Passed ready) }

@@ -3,7 +3,7 @@
 
 ghost use Rattle.std.specs.Prelude.{◌≡◌};
 
-use fill_command::{MEMORY_LINE, run, say};
+use fill_command::{Ending, run};
 use fill_edge::{FolderCabinet, Ledger, StdSink, Steps};
 use std::alloc::AllocError;
 use std::marker::Brand;
@@ -50,8 +50,7 @@ fn main(rt: HostRuntime) -> ExitCode {
         Ok(words) => ExitCode::from(start::<Brand>(rt, &words, Blank::new(1))),
         Err(AllocError) => {
             let mut err = StdSink::new(rt.stderr());
-            say(&mut err, MEMORY_LINE);
-            ExitCode::from(6)
+            ExitCode::from(Ending::NoMemory.tell(&mut err))
         }
     }
 }

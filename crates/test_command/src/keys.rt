@@ -1,6 +1,6 @@
 //! The keys of a table file, and the words that ask for them.
 use fill_edge::MemoryCabinet;
-use fill_open::{Stop, keys_file_of, open_keys};
+use fill_open::{Stop, open_keys};
 use fill_text::{List, NoMemory};
 use std::alloc::Global;
 use std::test::Fail;
@@ -110,47 +110,5 @@ fn files_without_keys(rt: HostRuntime) -> Result<(), Fail> {
         assert!(rt; ends(alloc, bytes, failing, &[], line)?, "{line}");
     }
     assert!(rt; rows_end(alloc, 2_001, "flashfill: t.csv: more than 2000 records\n")?);
-    Ok(())
-}
-
-/// Puts a word at the end of the words.
-fn push_word(alloc: Global, words: &mut Vec<String>, word: &str) -> Result<(), NoMemory> {
-    words.push(String::from_str(alloc, word)?)?;
-    Ok(())
-}
-
-/// Whether a word and a name ask for the keys of this file, and no fewer and no more words do.
-fn ask_for(
-    alloc: Global,
-    words: &mut Vec<String>,
-    word: &str,
-    file: &str,
-    wanted: Option<&str>,
-) -> Result<bool, NoMemory> {
-    push_word(alloc, words, word)?;
-    let one = keys_file_of(words).is_none();
-    push_word(alloc, words, file)?;
-    let two = keys_file_of(words) == wanted;
-    push_word(alloc, words, "")?;
-    Ok(one && two && keys_file_of(words).is_none())
-}
-
-/// The same from no words on.
-fn asks_for(alloc: Global, word: &str, file: &str, wanted: Option<&str>) -> Result<bool, NoMemory> {
-    let mut words = Vec::new(alloc);
-    ask_for(alloc, &mut words, word, file, wanted)
-}
-
-#[test]
-fn words_ask_for_keys_or_not(rt: HostRuntime) -> Result<(), Fail> {
-    let alloc = rt.alloc();
-    let table: [(&str, &str, Option<&str>); 3] = [
-        ("keys", "t.csv", Some("t.csv")),
-        ("keys", "", None),
-        ("key", "t.csv", None),
-    ];
-    for (word, file, wanted) in table {
-        assert!(rt; asks_for(alloc, word, file, wanted)?, "{word}");
-    }
     Ok(())
 }

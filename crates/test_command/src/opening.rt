@@ -47,7 +47,7 @@ fn is_told(alloc: Global, stop: &Stop, expected: &str) -> Result<bool, NoMemory>
 
 /// Whether this line says why the session `s.csv` is not ready; it is empty where the session is.
 fn ends_with(alloc: Global, cabinet: &mut MemoryCabinet, line: &str) -> Result<bool, NoMemory> {
-    match open_session(alloc, cabinet, &Command::Replay { session: "s.csv" }) {
+    match open_replay(alloc, cabinet, "s.csv") {
         Ok(_) => Ok(line.is_empty()),
         Err(stop) => is_told(alloc, &stop, line),
     }
@@ -307,28 +307,21 @@ fn a_failed_read_is_told(rt: HostRuntime) -> Result<(), Fail> {
     Ok(())
 }
 
-/// Whether the generated session over so many lines is ready where the first read fails.
-fn is_generated(alloc: Global, cabinet: &mut MemoryCabinet, n: u32) -> Result<bool, NoMemory> {
+/// Whether the generated session over so many lines is ready.
+fn generates(alloc: Global, n: u32) -> bool {
     if n < 1 || 2_000 < n {
-        return Ok(false);
+        return false;
     }
-    cabinet.fail_at(1)?;
-    match open_session(alloc, cabinet, &Command::Made { n }) {
-        Ok(ready) => Ok(ready.sheet.rows() == n),
-        Err(_) => Ok(false),
+    match open_made(alloc, n) {
+        Ok(ready) => ready.sheet.rows() == n,
+        Err(_) => false,
     }
-}
-
-/// The same where there is no file.
-fn generates(alloc: Global, n: u32) -> Result<bool, NoMemory> {
-    let mut cabinet = MemoryCabinet::new(alloc, 1);
-    is_generated(alloc, &mut cabinet, n)
 }
 
 #[test]
-fn a_generated_session_reads_nothing(rt: HostRuntime) -> Result<(), Fail> {
+fn a_generated_session_is_ready(rt: HostRuntime) -> Result<(), Fail> {
     for n in [1, 500, 2_000] {
-        assert!(rt; generates(rt.alloc(), n)?, "{n}");
+        assert!(rt; generates(rt.alloc(), n), "{n}");
     }
     Ok(())
 }
@@ -370,7 +363,7 @@ fn asks_for(
 #[test]
 fn words_are_a_command_or_none(rt: HostRuntime) -> Result<(), Fail> {
     let alloc = rt.alloc();
-    let rows: [(&str, &str, Option<Command<'_>>); 9] = [
+    let rows: [(&str, &str, Option<Command<'_>>); 12] = [
         (
             "replay",
             "s.csv",
@@ -384,6 +377,9 @@ fn words_are_a_command_or_none(rt: HostRuntime) -> Result<(), Fail> {
         ("made", "", None),
         ("replay", "", None),
         ("play", "s.csv", None),
+        ("keys", "t.csv", Some(Command::Keys { file: "t.csv" })),
+        ("keys", "", None),
+        ("key", "t.csv", None),
     ];
     for (word, argument, command) in rows {
         assert!(rt; asks_for(alloc, word, argument, command)?, "{word}");

@@ -1,6 +1,6 @@
 use Rattle.std.proofs.Common.{◌≤◌}
 use Rattle.fill_open.specs.Apply.{application_data}
-use Rattle.fill_command.specs.Applied.{WritesRows}
+use Rattle.fill_command.specs.Output.{WritesRows}
 use Rattle.fill_command.proofs.applied.write_applied.Given as goal
 
 -- the rows so far

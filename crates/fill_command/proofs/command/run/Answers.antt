@@ -1,44 +1,41 @@
-use Rattle.std.proofs.Common.{inl, inr}
+use Rattle.std.proofs.Common.{ℕ, Option, Some, ◌≡◌, ◌⊎◌, refl, subst, sym}
 use Rattle.std.specs.Prelude.{map, string_bytes}
-use Rattle.fill_open.specs.Command.{command_data}
-use Rattle.fill_command.proofs.Endings.{not_both}
+use Rattle.std.proofs.KnownBytes.{Keeps-refl}
+use Rattle.fill_open.specs.Command.{CommandData, command_data, command_in, made}
+use Rattle.fill_open.specs.MadeReady.{made_ready}
+use Rattle.fill_command.specs.Run.{Gives, IsOfSession, RunEnds, world}
+use Rattle.fill_command.specs.declared.ending.Ending.TheVariants as ending
+use Rattle.fill_command.proofs.Endings.{ends_give, made_ends}
 use Rattle.fill_command.proofs.command.run.Goals as goal
 
-pub returns-clause-done : goal.returns-clause-done
-returns-clause-done g c = λ _ status. (c.replay.ensures.ends (map string_bytes c.args.words.now) c.in-Some.ensures.is).done status
+pub returns-in_default-clause-ends : goal.returns-in_default-clause-ends
+returns-in_default-clause-ends g c =
+    let a = world (g.C.Cabinet.files c.args.cabinet.now) (g.C.Cabinet.faults c.args.cabinet.now) (g.O.Sink.written c.args.out.now) (g.O.Sink.faults c.args.out.now) c.args.steps.now in
+    (ending.NoCommand, c.tell.ensures.status, c.tell.ensures.said, subst (λ (o : Option CommandData). RunEnds o a a ending.NoCommand) c.in_default.ensures.is (refl, (Keeps-refl a.out, refl)))
 
-pub returns-clause-refusing : goal.returns-clause-refusing
-returns-clause-refusing g c = λ _ status. (c.replay.ensures.ends (map string_bytes c.args.words.now) c.in-Some.ensures.is).refusing status
+pub returns-clause-ends : goal.returns-clause-ends
+returns-clause-ends g c =
+    let a = world (g.C.Cabinet.files c.args.cabinet.now) (g.C.Cabinet.faults c.args.cabinet.now) (g.O.Sink.written c.args.out.now) (g.O.Sink.faults c.args.out.now) c.args.steps.now in
+    let b = world (g.C.Cabinet.files c.run_command.new.cabinet) (g.C.Cabinet.faults c.run_command.new.cabinet) (g.O.Sink.written c.run_command.new.out) (g.O.Sink.faults c.run_command.new.out) c.run_command.new.steps in
+    (c.run_command.result, c.tell-2.ensures.status, c.tell-2.ensures.said, subst (λ (o : Option CommandData). RunEnds o a b c.run_command.result) c.in-Some.ensures.is c.run_command.ensures.ends)
 
-pub returns-clause-unread : goal.returns-clause-unread
-returns-clause-unread g c = λ _ status. (c.replay.ensures.ends (map string_bytes c.args.words.now) c.in-Some.ensures.is).unread status
+pub returns-clause-gives : goal.returns-clause-gives
+returns-clause-gives g c =
+    let a = world (g.C.Cabinet.files c.args.cabinet.now) (g.C.Cabinet.faults c.args.cabinet.now) (g.O.Sink.written c.args.out.now) (g.O.Sink.faults c.args.out.now) c.args.steps.now in
+    let b = world (g.C.Cabinet.files c.run_command.new.cabinet) (g.C.Cabinet.faults c.run_command.new.cabinet) (g.O.Sink.written c.run_command.new.out) (g.O.Sink.faults c.run_command.new.out) c.run_command.new.steps in
+    let command = command_data c.in-Some.command in
+    let gives = ends_give c.saved_programs_are_one.ensures command a b c.run_command.result c.run_command.ensures.ends in
+    subst (λ (o : Option CommandData). Gives o a.files c.tell-2.result) c.in-Some.ensures.is (subst (λ (r : ℕ). Gives (Some command) a.files r) (sym c.tell-2.ensures.status) gives)
 
-pub returns-clause-part : goal.returns-clause-part
-returns-clause-part g c = λ _ status. (c.replay.ensures.ends (map string_bytes c.args.words.now) c.in-Some.ensures.is).part status
+pub returns-clause-generated : goal.returns-clause-generated
+returns-clause-generated g c = λ n of.
+    let a = world (g.C.Cabinet.files c.args.cabinet.now) (g.C.Cabinet.faults c.args.cabinet.now) (g.O.Sink.written c.args.out.now) (g.O.Sink.faults c.args.out.now) c.args.steps.now in
+    let b = world (g.C.Cabinet.files c.run_command.new.cabinet) (g.C.Cabinet.faults c.run_command.new.cabinet) (g.O.Sink.written c.run_command.new.out) (g.O.Sink.faults c.run_command.new.out) c.run_command.new.steps in
+    let words = map string_bytes c.args.words.now in
+    let is : Some (command_data c.in-Some.command) ≡ command_in words = c.in-Some.ensures.is in
+    let same : command_data c.in-Some.command ≡ made n = cc in
+    let ends = rw same at c.run_command.ensures.ends in
+    (rw (sym c.tell-2.ensures.status) at (made_ends n (made_ready n) (c.generated_session_opens.ensures words n of) a b c.run_command.result ends), c.run_command.ensures.generated n same)
 
-pub returns-clause-refused : goal.returns-clause-refused
-returns-clause-refused g c = λ _ status. (c.replay.ensures.ends (map string_bytes c.args.words.now) c.in-Some.ensures.is).refused status
-
-pub returns-clause-memory : goal.returns-clause-memory
-returns-clause-memory g c = λ _ status. (c.replay.ensures.ends (map string_bytes c.args.words.now) c.in-Some.ensures.is).memory status
-
-pub returns-clause-always_unread : goal.returns-clause-always_unread
-returns-clause-always_unread g c = (c.replay.ensures.ends (map string_bytes c.args.words.now) c.in-Some.ensures.is).always_unread
-
-pub returns-clause-always_refused : goal.returns-clause-always_refused
-returns-clause-always_refused g c = (c.replay.ensures.ends (map string_bytes c.args.words.now) c.in-Some.ensures.is).always_refused
-
-pub returns-clause-always_ready : goal.returns-clause-always_ready
-returns-clause-always_ready g c = (c.replay.ensures.ends (map string_bytes c.args.words.now) c.in-Some.ensures.is).always_ready
-
-pub returns-clause-no_command : goal.returns-clause-no_command
-returns-clause-no_command g c = λ two. absurd ((c.replay.ensures.ends (map string_bytes c.args.words.now) c.in-Some.ensures.is).asked two)
-
-pub returns-clause-usage_said : goal.returns-clause-usage_said
-returns-clause-usage_said g c = λ two. absurd ((c.replay.ensures.ends (map string_bytes c.args.words.now) c.in-Some.ensures.is).asked two)
-
-pub returns-clause-quiet : goal.returns-clause-quiet
-returns-clause-quiet g c = λ how. elim how [ inl two ↦ absurd ((c.replay.ensures.ends (map string_bytes c.args.words.now) c.in-Some.ensures.is).asked two) | inr other ↦ (c.replay.ensures.ends (map string_bytes c.args.words.now) c.in-Some.ensures.is).quiet other ]
-
-pub returns-clause-application : goal.returns-clause-application
-returns-clause-application g c = λ names asked. absurd (not_both (map string_bytes c.args.words.now) (command_data c.in-Some.command) names c.in-Some.ensures.is asked)
+pub returns-clause-steps : goal.returns-clause-steps
+returns-clause-steps g c = subst (λ (o : Option CommandData). IsOfSession o ⊎ (c.run_command.new.steps ≡ c.args.steps.now)) c.in-Some.ensures.is c.run_command.ensures.steps

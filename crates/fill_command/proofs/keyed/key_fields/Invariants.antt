@@ -1,5 +1,5 @@
 use Rattle.std.proofs.Common.{◌≡◌, take}
-use Rattle.fill_command.specs.Keys.{key_record}
+use Rattle.fill_command.specs.Output.{key_record}
 use Rattle.fill_command.proofs.keyed.key_fields.Given as goal
 
 -- the columns so far

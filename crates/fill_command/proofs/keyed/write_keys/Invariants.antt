@@ -1,6 +1,6 @@
 use Rattle.std.proofs.Common.{◌≤◌, take}
 use Rattle.std.specs.Io.KnownBytes.{Appends}
-use Rattle.fill_command.specs.Keys.{keys_text}
+use Rattle.fill_command.specs.Output.{keys_text}
 use Rattle.fill_command.proofs.keyed.write_keys.Given as goal
 
 -- the keys so far

@@ -1,19 +1,15 @@
-use Rattle.std.proofs.Common.{Err, ap, ◌∙◌}
-use Rattle.fill_command.proofs.Sessions.{report_done, report_memory, report_part, report_refusing}
+use Rattle.std.proofs.Common.{inl, inr, refl}
+use Rattle.std.proofs.KnownBytes.{Keeps-refl}
 use Rattle.fill_command.proofs.replay.report.Goals as goal
 
-pub returns-in-Ok-false-clause-ends : goal.returns-in-Ok-false-clause-ends
-returns-in-Ok-false-clause-ends g c =
-    report_done c.args.session.now.spaces.ground c.args.entries.now _ _ _ _ (rw (c.in-Ok-false.field-0-test) at c.in-Ok-false.ensures.whole)
+pub returns-in-Err-clause-memory : goal.returns-in-Err-clause-memory
+returns-in-Err-clause-memory g c = λ e. inl (Keeps-refl (g.O.Sink.written c.args.out.now), refl)
 
-pub returns-in-Ok-true-clause-ends : goal.returns-in-Ok-true-clause-ends
-returns-in-Ok-true-clause-ends g c =
-    report_refusing c.args.session.now.spaces.ground c.args.entries.now _ _ _ _ (rw (c.in-Ok-true.field-0-test) at c.in-Ok-true.ensures.whole)
+pub returns-clause-whole : goal.returns-clause-whole
+returns-clause-whole g c = rw (c.in-Ok.ensures.ground, c.as_slice.ensures) at c.write_report.ensures.whole
 
-pub returns-in-Err-Fault-clause-ends : goal.returns-in-Err-Fault-clause-ends
-returns-in-Err-Fault-clause-ends g c =
-    report_part c.args.session.now.spaces.ground c.args.entries.now _ _ _ _ (c.write_report.ensures.part (c.in-Err-Fault.is ∙ ap Err c.in-Err-Fault.field-0-is))
+pub returns-clause-part : goal.returns-clause-part
+returns-clause-part g c = λ e. rw (c.in-Ok.ensures.ground, c.as_slice.ensures) at (c.write_report.ensures.part e)
 
-pub returns-in-Err-NoMemory-clause-ends : goal.returns-in-Err-NoMemory-clause-ends
-returns-in-Err-NoMemory-clause-ends g c =
-    report_memory c.args.session.now.spaces.ground c.args.entries.now _ _ _ _ (c.write_report.ensures.memory (c.in-Err-NoMemory.is ∙ ap Err c.in-Err-NoMemory.field-0-is))
+pub returns-clause-memory : goal.returns-clause-memory
+returns-clause-memory g c = λ e. inr (rw (c.in-Ok.ensures.ground, c.as_slice.ensures) at (c.write_report.ensures.memory e))
