@@ -1,5 +1,5 @@
 -- A dialogue about the rows in doubt: what is asked, and what the lines of the answers make of it.
-use Rattle.std.specs.Prelude.{◌≡◌, ◌⊎◌, ℕ, List, [], ◌∷◌, MatchOption, Option, None, Some}
+use Rattle.std.specs.Prelude.{◌≡◌, ◌⊎◌, ℕ, List, [], ◌∷◌, ◌++◌, map, MatchOption, Option, None, Some}
 use Rattle.fill_tree.specs.declared.user.Example.{Example}
 use Rattle.fill_space.specs.declared.ground.Ground.{Ground}
 use Rattle.fill_session.specs.Suggested.{Asked, SuggestionIs}
@@ -10,10 +10,10 @@ use Rattle.fill_ask.specs.Lines.{AreLinesOf}
 use Rattle.fill_ask.specs.Replies.{replied, reply_in, rows_of, typed_with}
 
 -- what is asked after these replies: the row to look at next once all is learned that is typed so far, beside the rows that
--- were replied to; none where no other row is in doubt
+-- were replied to and those whose text is not learned from; none where no other row is in doubt
 abbrev pub QuestionIs : Ground → List Example → List Kept → Option Asked → Type 0
 QuestionIs g words kept found = (examples : List Example) × (refused : List Refused)
-    × AreLearned (typed_with words kept) g examples refused × SuggestionIs g examples (rows_of kept) found
+    × AreLearned (typed_with words kept) g examples refused × SuggestionIs g examples (rows_of kept ++ map (λ r. r.row) refused) found
 
 -- the replies once these lines are heard: each replies to the question of its time; the dialogue is over where nothing is left to
 -- ask, and where a line ends it

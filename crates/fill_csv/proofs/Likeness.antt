@@ -6,7 +6,7 @@ use Rattle.fill_text.specs.Data.{SheetData, nth}
 use Rattle.fill_records.specs.Records.{records_of}
 use Rattle.fill_records.specs.Texts.{first_bad, text_in}
 use Rattle.fill_sheet.specs.Columns.{rising, used}
-use Rattle.fill_sheet.specs.Sheet.{decided, headers, read_sheet, row_of, row_records, row_sheet}
+use Rattle.fill_sheet.specs.Sheet.{decided, headers, read_up_to, row_of, row_records, row_sheet}
 use Rattle.fill_sheet.specs.declared.error.SheetError.{SheetError}
 use Rattle.fill_tree.specs.Guard.{SwitchIs}
 use Rattle.fill_tree.specs.Switch.{SwitchTree}
@@ -29,12 +29,12 @@ use Rattle.fill_words.specs.Words.{AskedData}
 use Rattle.fill_csv.specs.Alike.{learned}
 use Rattle.fill_csv.specs.Ends.{rows_of}
 use Rattle.fill_csv.specs.Ground.{ground_of}
-use Rattle.fill_csv.specs.Opening.{SheetRead, choice_of, examples_in, from_bytes, from_sheet, output_of, records_in, sheet_in, sheet_opens, with_choice, with_examples, with_rows, with_tables}
+use Rattle.fill_csv.specs.Opening.{SheetRead, choice_of, examples_in, from_bytes, from_sheet, most_records, output_of, records_in, sheet_in, sheet_opens, with_choice, with_examples, with_rows, with_tables}
 use Rattle.fill_csv.proofs.Switching.{takes_branch}
 
 -- the sheet is that of its bytes in the chosen columns
 abbrev IsSheetOf : AskedData → SheetRead → Type 0
-IsSheetOf asked read = read_sheet asked.header read.choice.from (output_of asked.replace read.choice.to) read.bytes ≡ Ok read.sheet
+IsSheetOf asked read = read_up_to most_records asked.header read.choice.from (output_of asked.replace read.choice.to) read.bytes ≡ Ok read.sheet
 
 -- where steps pass, the first of them did, and so did the others
 passed_through : {A B : Type 0} (rest : A → Opening B) (o : Opened A) (y : B) → (further rest o).outcome ≡ Passed y → (x : A) × (o ≡ Passed x) × ((rest x).outcome ≡ Passed y)
@@ -66,8 +66,8 @@ of_rows asked bytes choice (Ok sheet) read is = of_examples asked bytes choice s
 of_rows asked bytes choice (Err e) read is = cc
 
 of_choice : (asked : AskedData) (bytes : List ℕ) (c : Result ChoiceData Refusal) (read : SheetRead) → with_choice asked bytes c ≡ Passed read
-    → (choice : ChoiceData) × IsReadOf asked bytes choice (read_sheet asked.header choice.from (output_of asked.replace choice.to) bytes) read
-of_choice asked bytes (Ok choice) read is = (choice, of_rows asked bytes choice (read_sheet asked.header choice.from (output_of asked.replace choice.to) bytes) read is)
+    → (choice : ChoiceData) × IsReadOf asked bytes choice (read_up_to most_records asked.header choice.from (output_of asked.replace choice.to) bytes) read
+of_choice asked bytes (Ok choice) read is = (choice, of_rows asked bytes choice (read_up_to most_records asked.header choice.from (output_of asked.replace choice.to) bytes) read is)
 of_choice asked bytes (Err e) read is = cc
 
 -- what was opened: the sheet, and the tables
@@ -83,8 +83,8 @@ opened_is asked held read is =
     let tables = passed_through (λ tables. at_once (Passed (with_tables first.0 tables))) (lookups_open held [] asked.lookups).outcome read first.2 in
     let same : with_tables first.0 tables.0 ≡ read = (let whole : Passed (with_tables first.0 tables.0) ≡ Passed read = tables.2 in cc) in
     let sheet : IsSheetOf asked first.0 =
-    ap (λ (b : List ℕ). read_sheet asked.header first.0.choice.from (output_of asked.replace first.0.choice.to) b) (sym found.1.bytes_are)
-    ∙ ap (λ (c : ChoiceData). read_sheet asked.header c.from (output_of asked.replace c.to) bytes.0) (sym found.1.choice_is) ∙ found.1.sheet in
+    ap (λ (b : List ℕ). read_up_to most_records asked.header first.0.choice.from (output_of asked.replace first.0.choice.to) b) (sym found.1.bytes_are)
+    ∙ ap (λ (c : ChoiceData). read_up_to most_records asked.header c.from (output_of asked.replace c.to) bytes.0) (sym found.1.choice_is) ∙ found.1.sheet in
     record {
       sheet = subst (IsSheetOf asked) same sheet;
       tables = tables.1 ∙ ap (λ (x : SheetRead). Passed x.tables) same;
@@ -94,20 +94,20 @@ nth-map : {A B : Type 0} (f : A → B) (xs : List A) (n : ℕ) → nth (map f xs
 nth-map f xs zero = refl
 nth-map f xs (suc i) = slice_get-map f xs i
 
-decided_ok : (bad : Option (ℕ × ℕ)) (more : Bool) (made sheet : SheetData) → decided bad more made ≡ Ok sheet → made ≡ sheet
-decided_ok (Some bad) more made sheet is = cc
-decided_ok None true made sheet is = cc
-decided_ok None false made sheet is = cc
+decided_ok : (most : ℕ) (bad : Option (ℕ × ℕ)) (more : Bool) (made sheet : SheetData) → decided most bad more made ≡ Ok sheet → made ≡ sheet
+decided_ok most (Some bad) more made sheet is = cc
+decided_ok most None true made sheet is = cc
+decided_ok most None false made sheet is = cc
 
 -- the sheet has a row for each record
 sheet_is : (asked : AskedData) (read : SheetRead) → IsSheetOf asked read
-    → record { inputs = rising read.choice.from; rows = map (row_of (rising read.choice.from) (output_of asked.replace read.choice.to)) (row_records asked.header (records_of read.bytes)) } ≡ read.sheet
-unfolding read_sheet
+    → record { inputs = rising read.choice.from; rows = map (row_of (rising read.choice.from) (output_of asked.replace read.choice.to)) (row_records most_records asked.header (records_of read.bytes)) } ≡ read.sheet
+unfolding read_up_to
 sheet_is asked read is =
     let output = output_of asked.replace read.choice.to in
     let records = records_of read.bytes in
-    decided_ok (first_bad (used read.choice.from output) (headers asked.header + 1) (row_records asked.header records)) (nat_lt 20000 (length records))
-    (record { inputs = rising read.choice.from; rows = map (row_of (rising read.choice.from) output) (row_records asked.header records) }) read.sheet is
+    decided_ok most_records (first_bad (used read.choice.from output) (headers asked.header + 1) (row_records most_records asked.header records)) (nat_lt most_records (length records))
+    (record { inputs = rising read.choice.from; rows = map (row_of (rising read.choice.from) output) (row_records most_records asked.header records) }) read.sheet is
 
 row_is : (asked : AskedData) (read : SheetRead) (row : ℕ) (fields : Fields) → IsSheetOf asked read → nth (rows_of asked read) row ≡ Some fields
     → nth read.sheet.rows row ≡ Some (row_of (rising read.choice.from) (output_of asked.replace read.choice.to) fields)

@@ -21,7 +21,7 @@ use Rattle.fill_lookups.specs.Lines.{memory_line}
 use Rattle.fill_csv.specs.Lines.{output_line, unread_line, unsaved_line}
 use Rattle.fill_csv.specs.Asking.{AreTyped, Heard}
 use Rattle.fill_csv.specs.Ground.{ground_of}
-use Rattle.fill_csv.specs.Opening.{SheetRead, header_of, mark_of, records_in, sheet_opens}
+use Rattle.fill_csv.specs.Opening.{SheetRead, header_of, mark_of, most_records, records_in, sheet_opens}
 use Rattle.fill_csv.specs.Saved.{IsSavedText, StoreAt, lacks_rule, saving_of, stored}
 use Rattle.fill_files.specs.Saves.{SavedFiles}
 
@@ -60,7 +60,7 @@ head_of asked read = mark_of read.bytes ++ report_text (heads_of (form_of asked 
 
 -- the records of rows
 abbrev pub rows_of : AskedData → SheetRead → List Fields
-rows_of asked read = row_records asked.header (records_of read.bytes)
+rows_of asked read = row_records most_records asked.header (records_of read.bytes)
 
 -- the words open this sheet
 abbrev pub Opens : AskedData → Files → SheetRead → Type 0

@@ -3,7 +3,7 @@ use Rattle.std.specs.Prelude.{ℕ, ◌+◌, ◌-◌, ◌&&◌, List, [], ◌∷�
 use Rattle.std.specs.Str.{bytes_eq, chars}
 use Rattle.fill_text.specs.Data.{SheetData, TableData}
 use Rattle.fill_records.specs.Records.{records_of}
-use Rattle.fill_sheet.specs.Sheet.{headers, read_sheet}
+use Rattle.fill_sheet.specs.Sheet.{headers, read_up_to}
 use Rattle.fill_sheet.specs.declared.error.SheetError.{SheetError}
 use Rattle.fill_open.specs.Opened.{Held, Opened, Opening, NotACommand, Unread, Refused, Passed, at_once, and_then}
 use Rattle.fill_columns.specs.Columns.{names_of, width}
@@ -23,9 +23,13 @@ pub record SheetRead : Type 0 where
   pub typed : List Example
   pub tables : List TableData
 
--- the records that are read: a sheet has 20,000 at most
+-- how many records a sheet may have: more than there can be in a file of 16 MiB
+abbrev pub most_records : ℕ
+most_records = 16777216
+
+-- the records that are read
 abbrev pub records_in : List ℕ → List (List (List ℕ))
-records_in bytes = take 20000 (records_of bytes)
+records_in bytes = take most_records (records_of bytes)
 
 -- the record that names the columns, where there is one
 abbrev pub header_of : Bool → List (List (List ℕ)) → Option (List (List ℕ))
@@ -84,7 +88,7 @@ with_rows asked bytes choice (Ok sheet) = with_examples bytes choice sheet (exam
 with_rows asked bytes choice (Err e) = Refused (sheet_line asked.file e)
 
 abbrev pub rows_in : AskedData → List ℕ → ChoiceData → Opened SheetRead
-rows_in asked bytes choice = with_rows asked bytes choice (read_sheet asked.header choice.from (output_of asked.replace choice.to) bytes)
+rows_in asked bytes choice = with_rows asked bytes choice (read_up_to most_records asked.header choice.from (output_of asked.replace choice.to) bytes)
 
 abbrev pub with_choice : AskedData → List ℕ → Result ChoiceData Refusal → Opened SheetRead
 with_choice asked bytes (Ok choice) = rows_in asked bytes choice

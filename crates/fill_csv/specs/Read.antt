@@ -6,7 +6,7 @@ use Rattle.fill_sheet.specs.Columns.{IsColumn}
 use Rattle.fill_sheet.specs.Sheet.{headers, row_records}
 use Rattle.fill_columns.specs.Choice.{choice_data}
 use Rattle.fill_words.specs.Words.{AskedData, lookup_data}
-use Rattle.fill_csv.specs.Opening.{SheetRead, records_in}
+use Rattle.fill_csv.specs.Opening.{SheetRead, most_records, records_in}
 use Rattle.fill_csv.specs.Saved.{FrameData}
 use Rattle.fill_csv.specs.Ends.{Opens}
 use Rattle.fill_csv.specs.Pages.{PageData, page_of}
@@ -25,7 +25,7 @@ frame_data f = record { names = f.names; inputs = f.inputs.items; output = f.out
 -- its parts are those of its bytes: the records that were read, one for each row of the sheet, and columns that rules may have
 pub record AreParts (asked : AskedData) (r : Code) : Type 0 where
   pub records : r.records ≡ records_in r.bytes
-  pub rows : length r.sheet.rows ≡ length (row_records asked.header (records_of r.bytes))
+  pub rows : length r.sheet.rows ≡ length (row_records most_records asked.header (records_of r.bytes))
   pub inputs : All IsColumn r.choice.from.items
   pub column : IsColumn r.choice.to
 

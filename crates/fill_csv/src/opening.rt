@@ -5,11 +5,11 @@ ghost use Rattle.fill_open.specs.Opened.{Told, Passed};
 ghost use Rattle.fill_open.specs.Stops.{Refuses as IsRefusedBy, Stops};
 ghost use Rattle.fill_records.specs.Records.{records_of};
 ghost use Rattle.fill_sheet.specs.Columns.{AreInputs, IsOutput};
-ghost use Rattle.fill_sheet.specs.Sheet.{read_sheet, row_records};
+ghost use Rattle.fill_sheet.specs.Sheet.{read_up_to, row_records};
 ghost use Rattle.fill_words.specs.Words.{IsLookup, data_of, lookup_data, target_data};
 ghost use Rattle.fill_columns.specs.Choice.{Refuses, choice_data};
 ghost use Rattle.fill_columns.specs.Columns.{names_of};
-ghost use Rattle.fill_csv.specs.Opening.{choice_for, choice_of, header_of, output_of, records_in, rows_in, sheet_in, sheet_opens, with_choice};
+ghost use Rattle.fill_csv.specs.Opening.{choice_for, choice_of, header_of, most_records, output_of, records_in, rows_in, sheet_in, sheet_opens, with_choice};
 ghost use Rattle.fill_csv.specs.Read.{AreParts, read_data};
 
 use crate::lines::{choice_line, sheet_line};
@@ -26,8 +26,8 @@ use fill_tree::Example;
 use fill_words::{Asked, Target};
 use std::alloc::Global;
 
-/// The most records that are read, the header among them.
-const MOST_RECORDS: usize = 20_000;
+/// The most records that are read, the header among them: more than there can be in a file of 16 MiB.
+const MOST_RECORDS: u32 = 16_777_216;
 
 /// A sheet that was read.
 #[derive(Drop)]
@@ -82,7 +82,7 @@ fn sheet_in(alloc: Global, asked: &Asked, bytes: List<u8>) -> Result<SheetRead, 
     ensures parts { IfOk result (AreParts (data_of asked.now)) }
     ensures stopped { IfErr result (IsRefusedBy (sheet_in (data_of asked.now) bytes)) }
 {
-    let records = match read_records(alloc, bytes.as_slice(), MOST_RECORDS) {
+    let records = match read_records(alloc, bytes.as_slice(), MOST_RECORDS as usize) {
         Ok(records) => records,
         Err(NoMemory) => return Err(Stop::NoMemory),
     };
@@ -157,7 +157,7 @@ fn rows_in(alloc: Global, asked: &Asked, choice: &Choice, bytes: &[u8]) -> Resul
     requires output { IsOutput choice.now.from.items (Some choice.now.to) }
     ensures ready { IfOk result (λ made. rows_in (data_of asked.now) bytes.now (choice_data choice.now)
         ≡ Passed (record { bytes = bytes.now; choice = choice_data choice.now; sheet = made.sheet; typed = made.typed; tables = [] })) }
-    ensures whole { IfOk result (λ made. length made.sheet.rows ≡ length (row_records asked.now.header (records_of bytes.now))) }
+    ensures whole { IfOk result (λ made. length made.sheet.rows ≡ length (row_records most_records asked.now.header (records_of bytes.now))) }
     ensures stopped { IfErr result (IsRefusedBy (rows_in (data_of asked.now) bytes.now (choice_data choice.now))) }
 {
     let sheet = match read_rows(alloc, asked, choice, bytes) {
@@ -174,11 +174,18 @@ fn rows_in(alloc: Global, asked: &Asked, choice: &Choice, bytes: &[u8]) -> Resul
 fn read_rows(alloc: Global, asked: &Asked, choice: &Choice, bytes: &[u8]) -> Result<Sheet, Stop>
     requires inputs { AreInputs choice.now.from.items }
     requires output { IsOutput choice.now.from.items (Some choice.now.to) }
-    ensures ready { IfOk result (λ sheet. read_sheet asked.now.header choice.now.from.items (output_of asked.now.replace choice.now.to) bytes.now ≡ Ok sheet) }
+    ensures ready { IfOk result (λ sheet. read_up_to most_records asked.now.header choice.now.from.items (output_of asked.now.replace choice.now.to) bytes.now ≡ Ok sheet) }
     ensures stopped { IfErr result (IsRefusedBy (rows_in (data_of asked.now) bytes.now (choice_data choice.now))) }
 {
     let output = output_of(asked.replace, choice.to);
-    match Sheet::read(alloc, bytes, asked.header, &choice.from, output) {
+    match Sheet::read_up_to(
+        alloc,
+        MOST_RECORDS,
+        bytes,
+        asked.header,
+        &choice.from,
+        output,
+    ) {
         Ok(sheet) => Ok(sheet),
         Err(e) => Err(refused(sheet_line(alloc, asked.file.as_str(), e))),
     }

@@ -11,7 +11,7 @@ use Rattle.std.specs.Str.{IsAscii, bytes_eq, is_utf8, chars}
 use Rattle.csv.proofs.OnLiterals.{csv_on_literals}
 use Rattle.fill_records.specs.Records.{records_of}
 use Rattle.fill_records.specs.Texts.{first_bad}
-use Rattle.fill_sheet.specs.Sheet.{read_sheet, row_of, row_records, sheet_of}
+use Rattle.fill_sheet.specs.Sheet.{read_sheet, read_up_to, row_of, row_records, sheet_of}
 use Rattle.fill_script.specs.Line.{between}
 use Rattle.fill_script.specs.Number.{number_in}
 use Rattle.fill_script.specs.Script.{read_script}
@@ -65,14 +65,14 @@ rows_are (line ∷ more) = rw (row_is line, rows_are more) refl
 
 -- records that are no more than a sheet may have, and none of them bad, are its rows
 all_are_rows : (records : List (List (List ℕ))) → length records ≤ 20000 → first_bad (1 ∷ 2 ∷ []) 1 records ≡ None
-    → sheet_of false (1 ∷ []) (Some 2) records ≡ Ok (record { inputs = 1 ∷ []; rows = map (row_of (1 ∷ []) (Some 2)) records })
+    → sheet_of 20000 false (1 ∷ []) (Some 2) records ≡ Ok (record { inputs = 1 ∷ []; rows = map (row_of (1 ∷ []) (Some 2)) records })
 all_are_rows records few none =
-    let all : row_records false records ≡ records = take_all 20000 records few in
+    let all : row_records 20000 false records ≡ records = take_all 20000 records few in
     let fits : nat_lt 20000 (length records) ≡ false = grind (arith, nat_tests) in
     rw (all, fits, none) refl
 
 sheet_reads : (n : ℕ) → 1 ≤ n → n ≤ 2000 → read_sheet false (1 ∷ []) (Some 2) (made_sheet n) ≡ Ok (made_rows n)
-unfolding read_sheet
+unfolding read_up_to
 sheet_reads n some few =
     let lines = range_with_len 1 n in
     let size : length (map made_record lines) ≡ n = length-map lines made_record ∙ length-range_with_len 1 n in

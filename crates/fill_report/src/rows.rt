@@ -112,7 +112,7 @@ impl Counts {
 
     /// Counts one more row.
     fn add(&mut self, state: RowState)
-        requires { IsWithin self.old 20000 }
+        requires { IsWithin self.old 16777216 }
         ensures { (states : List RowState) → AreCounts self.old states → AreCounts self.new (states ++ state ∷ []) }
     {
         match state {
@@ -134,7 +134,7 @@ fn counted_answer(
     counts: &mut Counts,
 ) -> Result<Answer, NoMemory>
     requires there { above < length session.now.spaces.ground.sheet.rows }
-    requires few { above < 20000 }
+    requires few { above < 16777216 }
     requires shapes { ShapesStand session.now.spaces.arena shapes.old }
     requires counts { CountRows session.now.spaces.ground session.now.examples above counts.old }
     ensures shapes { ShapesStand session.now.spaces.arena shapes.new }
@@ -155,7 +155,7 @@ pub(crate) fn counted_record(
     counts: &mut Counts,
 ) -> Result<Record, NoMemory>
     requires there { above < length session.now.spaces.ground.sheet.rows }
-    requires few { above < 20000 }
+    requires few { above < 16777216 }
     requires shapes { ShapesStand session.now.spaces.arena shapes.old }
     requires counts { CountRows session.now.spaces.ground session.now.examples above counts.old }
     ensures shapes { ShapesStand session.now.spaces.arena shapes.new }

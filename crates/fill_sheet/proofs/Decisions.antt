@@ -15,39 +15,39 @@ use Rattle.fill_sheet.proofs.Strict.{rising-strict}
 use Rattle.fill_records.proofs.Texts.{texts_from_no_bad}
 
 -- the records of the rows in which a bad field is looked for
-abbrev pub bad_in : Bool → List ℕ → Option ℕ → List (List (List ℕ)) → Option (ℕ × ℕ)
-bad_in header inputs output records = first_bad (used inputs output) (headers header + 1) (row_records header records)
+abbrev pub bad_in : ℕ → Bool → List ℕ → Option ℕ → List (List (List ℕ)) → Option (ℕ × ℕ)
+bad_in most header inputs output records = first_bad (used inputs output) (headers header + 1) (row_records most header records)
 
-pub sheet_of-bad : (header : Bool) (inputs : List ℕ) (output : Option ℕ) (records : List (List (List ℕ))) (number column : ℕ)
-    → bad_in header inputs output records ≡ Some (number, column) → sheet_of header inputs output records ≡ Err (NotUtf8 number column)
-sheet_of-bad header inputs output records number column bad = rw bad refl
+pub sheet_of-bad : (most : ℕ) (header : Bool) (inputs : List ℕ) (output : Option ℕ) (records : List (List (List ℕ))) (number column : ℕ)
+    → bad_in most header inputs output records ≡ Some (number, column) → sheet_of most header inputs output records ≡ Err (NotUtf8 number column)
+sheet_of-bad most header inputs output records number column bad = rw bad refl
 
-pub sheet_of-many : (header : Bool) (inputs : List ℕ) (output : Option ℕ) (records : List (List (List ℕ)))
-    → bad_in header inputs output records ≡ None → 20000 < length records → sheet_of header inputs output records ≡ Err (TooManyRows 20000)
-sheet_of-many header inputs output records none many = let more : nat_lt 20000 (length records) ≡ true = grind (arith, nat_tests) in rw (none, more) refl
+pub sheet_of-many : (most : ℕ) (header : Bool) (inputs : List ℕ) (output : Option ℕ) (records : List (List (List ℕ)))
+    → bad_in most header inputs output records ≡ None → most < length records → sheet_of most header inputs output records ≡ Err (TooManyRows most)
+sheet_of-many most header inputs output records none many = let more : nat_lt most (length records) ≡ true = grind (arith, nat_tests) in rw (none, more) refl
 
-pub sheet_of-rows : (header : Bool) (inputs : List ℕ) (output : Option ℕ) (records : List (List (List ℕ)))
-    → bad_in header inputs output records ≡ None → length records ≤ 20000
-    → sheet_of header inputs output records ≡ Ok (record { inputs = rising inputs; rows = map (row_of (rising inputs) output) (row_records header records) })
-sheet_of-rows header inputs output records none few = let more : nat_lt 20000 (length records) ≡ false = grind (arith, nat_tests) in rw (none, more) refl
+pub sheet_of-rows : (most : ℕ) (header : Bool) (inputs : List ℕ) (output : Option ℕ) (records : List (List (List ℕ)))
+    → bad_in most header inputs output records ≡ None → length records ≤ most
+    → sheet_of most header inputs output records ≡ Ok (record { inputs = rising inputs; rows = map (row_of (rising inputs) output) (row_records most header records) })
+sheet_of-rows most header inputs output records none few = let more : nat_lt most (length records) ≡ false = grind (arith, nat_tests) in rw (none, more) refl
 
 same_test : (a b n : ℕ) → (n < a → n < b) → (n < b → n < a) → nat_lt n a ≡ nat_lt n b
 same_test a b n there back = grind (arith, nat_tests)
 
 -- one record more than a sheet may have is enough to decide
-pub sheet_of-take : (header : Bool) (inputs : List ℕ) (output : Option ℕ) (records : List (List (List ℕ))) → sheet_of header inputs output (take 20001 records) ≡ sheet_of header inputs output records
-sheet_of-take header inputs output records =
-    let front : take 20000 (take 20001 records) ≡ take 20000 records = take-take 20000 20001 records (omega arith) in
-    let size = length-take 20001 records in
-    let test : nat_lt 20000 (length (take 20001 records)) ≡ nat_lt 20000 (length records) = same_test (length (take 20001 records)) (length records) 20000 (λ lt. omega arith) (λ lt. omega arith) in
+pub sheet_of-take : (most : ℕ) (header : Bool) (inputs : List ℕ) (output : Option ℕ) (records : List (List (List ℕ))) → sheet_of most header inputs output (take (most + 1) records) ≡ sheet_of most header inputs output records
+sheet_of-take most header inputs output records =
+    let front : take most (take (most + 1) records) ≡ take most records = take-take most (most + 1) records (omega arith) in
+    let size = length-take (most + 1) records in
+    let test : nat_lt most (length (take (most + 1) records)) ≡ nat_lt most (length records) = same_test (length (take (most + 1) records)) (length records) most (λ lt. omega arith) (λ lt. omega arith) in
     rw (front, test) refl
 
 pub headers-few : (header : Bool) → headers header ≤ 1
 headers-few true = omega arith
 headers-few false = omega arith
 
-pub row_records-few : (header : Bool) (records : List (List (List ℕ))) → length (row_records header records) ≤ 20000
-row_records-few header records = omega (arith, length-drop (headers header) (take 20000 records), length-take 20000 records)
+pub row_records-few : (most : ℕ) (header : Bool) (records : List (List (List ℕ))) → length (row_records most header records) ≤ most
+row_records-few most header records = omega (arith, length-drop (headers header) (take most records), length-take most records)
 
 -- the columns that are read are columns
 used-columns : (inputs : List ℕ) (output : Option ℕ) → All IsColumn inputs → IsOutput inputs output → All IsColumn (used inputs output)
@@ -64,27 +64,27 @@ pub rising-columns : (inputs : List ℕ) → All IsColumn inputs → All IsColum
 rising-columns inputs columns = All-permutation IsColumn inputs (rising inputs) (rising-permutation inputs) columns
 
 -- where no field is bad, each field that a row is made of is text
-pub texts-of-rows : (header : Bool) (inputs : List ℕ) (output : Option ℕ) (records : List (List (List ℕ))) → bad_in header inputs output records ≡ None
-    → All (IsText (rising inputs ++ option_to_list output)) (row_records header records)
-texts-of-rows header inputs output records none k d lt =
-    let text = texts_from_no_bad (used inputs output) (headers header + 1) (row_records header records) none k d lt in
+pub texts-of-rows : (most : ℕ) (header : Bool) (inputs : List ℕ) (output : Option ℕ) (records : List (List (List ℕ))) → bad_in most header inputs output records ≡ None
+    → All (IsText (rising inputs ++ option_to_list output)) (row_records most header records)
+texts-of-rows most header inputs output records none k d lt =
+    let text = texts_from_no_bad (used inputs output) (headers header + 1) (row_records most header records) none k d lt in
     let out = option_to_list output in
     let all = inputs ++ out in
     let moved = IsPermutation-trans (used inputs output) all (rising inputs ++ out) (IsPermutation-sym all (rising all) (rising-permutation all)) (IsPermutation-append_left out inputs (rising inputs) (rising-permutation inputs)) in
-    All-permutation (λ column. IsTrue (is_utf8 (field_of column (get_or (row_records header records) k d)))) (used inputs output) (rising inputs ++ out) moved text
+    All-permutation (λ column. IsTrue (is_utf8 (field_of column (get_or (row_records most header records) k d)))) (used inputs output) (rising inputs ++ out) moved text
 
 -- the sheet that is made is one
-pub made-sheet : (header : Bool) (inputs : List ℕ) (output : Option ℕ) (records : List (List (List ℕ))) → AreInputs inputs
-    → IsSheet (record { inputs = rising inputs; rows = map (row_of (rising inputs) output) (row_records header records) })
-made-sheet header inputs output records are =
-    let fewer = row_records-few header records in
-    let rows = length-map (row_records header records) (row_of (rising inputs) output) in
+pub made-sheet : (most : ℕ) (header : Bool) (inputs : List ℕ) (output : Option ℕ) (records : List (List (List ℕ))) → most ≤ 16777216 → AreInputs inputs
+    → IsSheet (record { inputs = rising inputs; rows = map (row_of (rising inputs) output) (row_records most header records) })
+made-sheet most header inputs output records few are =
+    let fewer = row_records-few most header records in
+    let rows = length-map (row_records most header records) (row_of (rising inputs) output) in
     let size = length_permutation inputs (rising inputs) (rising-permutation inputs) in
     record {
       some = omega (arith, are.some, size);
       few = omega (arith, are.few, size);
       columns = rising-columns inputs are.columns;
       rises = rising-strict inputs are.distinct;
-      full = All-map (λ row. length row.cells ≡ length (rising inputs)) (row_of (rising inputs) output) (row_records header records) (λ k d lt. length-map (rising inputs) (text_in (get_or (row_records header records) k d)));
-      limited = omega (arith, rows, fewer);
+      full = All-map (λ row. length row.cells ≡ length (rising inputs)) (row_of (rising inputs) output) (row_records most header records) (λ k d lt. length-map (rising inputs) (text_in (get_or (row_records most header records) k d)));
+      limited = omega (arith, rows, fewer, few);
     }

@@ -25,25 +25,30 @@ row_of inputs output fields = record { cells = map (text_in fields) inputs; give
 abbrev pub headers : Bool → ℕ
 headers header = if header then 1 else 0
 
--- the records of the rows: those among the first 20,000, without the header
-abbrev pub row_records : Bool → List (List (List ℕ)) → List (List (List ℕ))
-row_records header records = drop (headers header) (take 20000 records)
+-- the records of the rows: those among the first ones, as many as a sheet may have, without the header
+abbrev pub row_records : ℕ → Bool → List (List (List ℕ)) → List (List (List ℕ))
+row_records most header records = drop (headers header) (take most records)
 
--- a bad field refuses the sheet, and else more records than 20,000 do
-abbrev pub decided : Option (ℕ × ℕ) → Bool → SheetData → Result SheetData SheetError
-decided (Some bad) more sheet = Err (NotUtf8 bad.0 bad.1)
-decided None true sheet = Err (TooManyRows 20000)
-decided None false sheet = Ok sheet
+-- a bad field refuses the sheet, and else more records than it may have do
+abbrev pub decided : ℕ → Option (ℕ × ℕ) → Bool → SheetData → Result SheetData SheetError
+decided most (Some bad) more sheet = Err (NotUtf8 bad.0 bad.1)
+decided most None true sheet = Err (TooManyRows most)
+decided most None false sheet = Ok sheet
 
--- the sheet of these records
-abbrev pub sheet_of : Bool → List ℕ → Option ℕ → List (List (List ℕ)) → Result SheetData SheetError
-sheet_of header inputs output records =
-    decided (first_bad (used inputs output) (headers header + 1) (row_records header records)) (nat_lt 20000 (length records))
-    (record { inputs = rising inputs; rows = map (row_of (rising inputs) output) (row_records header records) })
+-- the sheet of these records, which may be so many
+abbrev pub sheet_of : ℕ → Bool → List ℕ → Option ℕ → List (List (List ℕ)) → Result SheetData SheetError
+sheet_of most header inputs output records =
+    decided most (first_bad (used inputs output) (headers header + 1) (row_records most header records)) (nat_lt most (length records))
+    (record { inputs = rising inputs; rows = map (row_of (rising inputs) output) (row_records most header records) })
 
--- the sheet of a file's bytes, with a header or without, the input columns in any order, and the output column
-unfoldable pub read_sheet : Bool → List ℕ → Option ℕ → List ℕ → Result SheetData SheetError
-read_sheet header inputs output bytes = sheet_of header inputs output (records_of bytes)
+-- the sheet of a file's bytes, which may have so many records, with a header or without, the input columns in any order,
+-- and the output column
+unfoldable pub read_up_to : ℕ → Bool → List ℕ → Option ℕ → List ℕ → Result SheetData SheetError
+read_up_to most header inputs output bytes = sheet_of most header inputs output (records_of bytes)
+
+-- a sheet of 20,000 records at most
+abbrev pub read_sheet : Bool → List ℕ → Option ℕ → List ℕ → Result SheetData SheetError
+read_sheet header inputs output bytes = read_up_to 20000 header inputs output bytes
 
 -- what is true of each sheet
 pub record IsSheet (sheet : SheetData) : Type 0 where
@@ -52,7 +57,7 @@ pub record IsSheet (sheet : SheetData) : Type 0 where
   pub columns : All IsColumn sheet.inputs
   pub rises : IsStrictlyIncreasing sheet.inputs
   pub full : All (λ row. length row.cells ≡ length sheet.inputs) sheet.rows
-  pub limited : length sheet.rows ≤ 20000
+  pub limited : length sheet.rows ≤ 16777216
 
 -- the sheet whose one row has these cells in the input columns, and no given text
 abbrev pub row_sheet : List ℕ → List (List ℕ) → SheetData

@@ -10,14 +10,11 @@ use fill_records::Record;
 use fill_text::{NoMemory, Text};
 use std::alloc::Global;
 
-/// How many records a sheet's file may have, the header among them.
-pub(crate) const LIMIT: usize = 20_000;
-
-/// The records of the rows, of a file's first ones.
-pub(crate) fn row_records(header: bool, records: &[Record]) -> &[Record]
-    ensures { result.now ≡ row_records header records.now }
+/// The records of the rows, of a file's first ones: `most` at most, the header among them.
+pub(crate) fn row_records(most: usize, header: bool, records: &[Record]) -> &[Record]
+    ensures { result.now ≡ row_records most header records.now }
 {
-    let end = records.len().min(LIMIT);
+    let end = records.len().min(most);
     let start = if header { end.min(1) } else { 0 };
     &records[start..end]
 }

@@ -3,16 +3,19 @@ ghost use Rattle.std.specs.Prelude.{◌≡◌, ◌≢◌, ◌≤◌, ◌==◌, l
 ghost use Rattle.std.specs.List.Sorted.{IsPermutation};
 ghost use Rattle.fill_text.specs.Data.{cell_at};
 ghost use Rattle.fill_sheet.specs.Columns.{AreInputs, IsOutput};
-ghost use Rattle.fill_sheet.specs.Sheet.{IsSheet, given_at, read_sheet, row_sheet, sheet_of};
+ghost use Rattle.fill_sheet.specs.Sheet.{IsSheet, given_at, read_sheet, read_up_to, row_sheet, sheet_of};
 
 use crate::SheetError;
 use crate::columns::{rising, used};
-use crate::reading::{LIMIT, first_number, row_records, rows_of};
+use crate::reading::{first_number, row_records, rows_of};
 use crate::row::Row;
 use fill_records::{Record, first_bad, read_records};
 use fill_text::{NoMemory, Text};
 use std::alloc::Global;
 use std::marker::Model;
+
+/// How many records the file of a sheet may have where nothing else is said, the header among them.
+const MOST_RECORDS: u32 = 20_000;
 
 /// A sheet: rows of texts in a few input columns, some with a given text for the output.
 #[derive(Debug, Drop)]
@@ -33,7 +36,7 @@ impl Model for Sheet {
 }
 
 impl Sheet {
-    /// The sheet of a CSV file's bytes.
+    /// The sheet of a CSV file's bytes, which may have 20,000 records.
     ///
     /// A row is a record, but for the first one where `header` is true, which is not looked at. Only the fields in the
     /// inputs and the output are read; one that a record lacks is the empty text.
@@ -51,35 +54,56 @@ impl Sheet {
         ensures inputs { IfOk result (λ sheet. IsPermutation inputs.now sheet.inputs) }
         ensures shape { IfOk result IsSheet }
     {
-        let records = read_records(alloc, bytes, LIMIT + 1)?;
-        Sheet::of_records(alloc, records.as_slice(), header, inputs, output)
+        Sheet::read_up_to(alloc, MOST_RECORDS, bytes, header, inputs, output)
+    }
+
+    /// As `read`, of a file that may have `most` records, the header among them.
+    pub fn read_up_to(
+        alloc: Global,
+        most: u32,
+        bytes: &[u8],
+        header: bool,
+        inputs: &[u32],
+        output: Option<u32>,
+    ) -> Result<Sheet, SheetError>
+        requires most { most ≤ 16777216 }
+        requires inputs { AreInputs inputs.now }
+        requires output { IsOutput inputs.now output }
+        ensures ok { IfOk result (λ sheet. read_up_to most header inputs.now output bytes.now ≡ Ok sheet) }
+        ensures err { IfErr result (λ e. e ≢ SheetError.NoMemory → read_up_to most header inputs.now output bytes.now ≡ Err e) }
+        ensures inputs { IfOk result (λ sheet. IsPermutation inputs.now sheet.inputs) }
+        ensures shape { IfOk result IsSheet }
+    {
+        let records = read_records(alloc, bytes, most as usize + 1)?;
+        Sheet::of_records(alloc, most, records.as_slice(), header, inputs, output)
     }
 
     /// The sheet of a file's records, or of the first of them, more than a sheet may have.
     fn of_records(
         alloc: Global,
+        most: u32,
         records: &[Record],
         header: bool,
         inputs: &[u32],
         output: Option<u32>,
     ) -> Result<Sheet, SheetError>
+        requires most { most ≤ 16777216 }
         requires inputs { AreInputs inputs.now }
         requires output { IsOutput inputs.now output }
-        ensures ok { IfOk result (λ sheet. sheet_of header inputs.now output records.now ≡ Ok sheet) }
-        ensures err { IfErr result (λ e. e ≢ SheetError.NoMemory → sheet_of header inputs.now output records.now ≡ Err e) }
+        ensures ok { IfOk result (λ sheet. sheet_of most header inputs.now output records.now ≡ Ok sheet) }
+        ensures err { IfErr result (λ e. e ≢ SheetError.NoMemory → sheet_of most header inputs.now output records.now ≡ Err e) }
         ensures inputs { IfOk result (λ sheet. IsPermutation inputs.now sheet.inputs) }
         ensures shape { IfOk result IsSheet }
     {
         let columns = used(alloc, inputs, output)?;
         let inputs = rising(alloc, inputs)?;
-        let rows = row_records(header, records);
+        let most_records = most as usize;
+        let rows = row_records(most_records, header, records);
         if let Some((number, column)) = first_bad(rows, first_number(header), &columns) {
             return Err(SheetError::NotUtf8 { number, column });
         }
-        if records.len() > LIMIT {
-            return Err(SheetError::TooManyRows {
-                limit: LIMIT as u32,
-            });
+        if records.len() > most_records {
+            return Err(SheetError::TooManyRows { limit: most });
         }
         let rows = rows_of(alloc, rows, &inputs, output)?;
         Ok(Sheet { inputs, rows })
@@ -99,7 +123,7 @@ impl Sheet {
     /// The number of rows.
     pub fn rows(&self) -> u32
         ensures count { result ≡ length self.now.rows }
-        ensures limited { result ≤ 20000 }
+        ensures limited { result ≤ 16777216 }
         ensures shape { IsSheet self.now }
     {
         self.rows.len() as u32

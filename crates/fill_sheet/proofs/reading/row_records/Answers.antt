@@ -10,4 +10,4 @@ returns c =
       | then-header w ↦ rw (w.start-is, w.if-header.true) w.min-start.ensures
       | else-header w ↦ rw (w.start-is, w.if-header.false) (omega arith)
     ] in
-    range-drop-take c.args.records.now (headers c.args.header) 20000 c.if-header.start c.min-end.result c.min-end.ensures start
+    range-drop-take c.args.records.now (headers c.args.header) c.args.most c.if-header.start c.min-end.result c.min-end.ensures start
