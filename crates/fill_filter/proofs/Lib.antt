@@ -2,5 +2,4 @@ mod Names
 mod RowFields
 mod Cells
 mod Runs
-mod Texts
 mod Loading

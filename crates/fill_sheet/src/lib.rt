@@ -7,7 +7,9 @@ mod reading;
 mod report;
 mod row;
 mod sheet;
+mod text;
 
 pub use error::SheetError;
 pub use report::put_record;
 pub use sheet::Sheet;
+pub use text::{push_end, push_field, push_sep};

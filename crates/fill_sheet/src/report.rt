@@ -1,8 +1,8 @@
 //! The records of reports.
-ghost use Rattle.std.specs.Prelude.{◌≡◌, ◌<◌, ◌++◌, length, map, IfOk, OnOk, OnErr};
+ghost use Rattle.std.specs.Prelude.{◌≡◌, ◌<◌, ◌++◌, length, IfOk, OnOk, OnErr};
 ghost use Rattle.fill_sheet.specs.Report.{record_text};
 
-use csv::WriterBuilder;
+use crate::text::{push_end, push_field, push_sep};
 use fill_text::{List, NoMemory};
 use std::alloc::Global;
 
@@ -12,25 +12,19 @@ pub fn put_record(alloc: Global, to: &mut List<u8>, fields: &List<List<u8>>) -> 
     ensures ok { OnOk result (to.new ≡ to.old ++ record_text fields.now) }
     ensures err { OnErr result (to.new ≡ to.old) }
 {
-    let mut slices: Vec<&[u8]> = Vec::with_capacity(alloc, fields.len())?;
-    for field in fields.as_slice() {
-        slices.push(field.as_slice())?;
-    }
-    let text = record_bytes(alloc, &slices)?;
+    let text = record_bytes(alloc, fields.as_slice())?;
     to.append(&text)
 }
 
 /// The bytes of a record.
-#[tactic(auto, unfolding(crate::specs::Report::record_text))]
-fn record_bytes(alloc: Global, fields: &[&[u8]]) -> Result<Vec<u8>, NoMemory>
-    ensures { IfOk result (λ text. text.items ≡ record_text (map (λ f. f.now) fields.now)) }
+fn record_bytes(alloc: Global, fields: &[List<u8>]) -> Result<Vec<u8>, NoMemory>
+    ensures { IfOk result (λ text. text.items ≡ record_text fields.now) }
 {
-    let mut writer = WriterBuilder::new().from_writer(Vec::new(alloc));
-    if writer.write_fields(fields).is_err() {
-        return Err(NoMemory);
+    let mut text = Vec::new(alloc);
+    for i in 0..fields.len() {
+        push_sep(i, &mut text)?;
+        push_field(fields[i].as_slice(), &mut text)?;
     }
-    match writer.into_inner() {
-        Ok(text) => Ok(text),
-        Err(_) => Err(NoMemory),
-    }
+    push_end(&mut text)?;
+    Ok(text)
 }

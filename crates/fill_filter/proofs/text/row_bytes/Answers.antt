@@ -2,7 +2,7 @@ use Rattle.std.proofs.Common.{◌<◌, ◌≤◌, arith, length}
 use Rattle.csv.specs.Records.{fields_of}
 use Rattle.fill_columns.specs.Fields.{with_field}
 use Rattle.fill_filter.proofs.RowFields.{length-with_field}
-use Rattle.fill_filter.proofs.Texts.{row_more, row_whole}
+use Rattle.fill_sheet.proofs.Texts.{row_more, row_whole}
 use Rattle.fill_filter.proofs.text.row_bytes.Goals as goal
 
 pub loop-i-preserved : goal.loop-i-preserved

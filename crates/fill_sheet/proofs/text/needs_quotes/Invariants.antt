@@ -2,7 +2,7 @@ use Rattle.std.proofs.Common.{◌≡◌, drop}
 use Rattle.std.specs.List.{list_any}
 use Rattle.csv.specs.Quoting.{needs_byte}
 use Rattle.csv.specs.Writing.{default_writer}
-use Rattle.fill_filter.proofs.text.needs_quotes.Given as goal
+use Rattle.fill_sheet.proofs.text.needs_quotes.Given as goal
 
 abbrev pub invariant-loop-byte : goal.invariant-loop-byte
 invariant-loop-byte l = list_any (needs_byte default_writer) l.field ≡ list_any (needs_byte default_writer) (drop l.byte-index l.field)
