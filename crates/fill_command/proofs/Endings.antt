@@ -1,5 +1,5 @@
 -- How the run of a command ends, and what that says of its status.
-use Rattle.std.proofs.Common.{◌≡◌, ◌∙◌, ◌≤◌, ◌⊎◌, ℕ, List, [], inl, inr, None, Some, Bool, false, true, Result, Ok, Err, Contains, ap, arith, refl, subst, sym}
+use Rattle.std.proofs.Common.{◌≡◌, ◌∙◌, ◌≤◌, ◌⊎◌, ℕ, List, [], inl, inr, Option, None, Some, Bool, false, true, Result, Ok, Err, Contains, ap, arith, refl, subst, sym}
 use Rattle.std.specs.Prelude.{◌↔◌, IfOk, IsErrOf, IsTrue, string_bytes}
 use Rattle.fill_edge.specs.Outside.{Files, Rose}
 use Rattle.fill_open.specs.Command.{CommandData, made}
@@ -17,7 +17,7 @@ use Rattle.fill_report.specs.declared.halt.Halt.TheVariants as halt
 use Rattle.fill_command.specs.Asked.{Asked, IsRefused, Opens, StepsEnd, files_of}
 use Rattle.fill_command.specs.Ending.{IsOfStop, halt_ending, report_ending, status_of}
 use Rattle.fill_command.specs.Output.{WritesAll, WritesFirst}
-use Rattle.fill_command.specs.Run.{Ends, Gives, IsQuiet, MayGive, World}
+use Rattle.fill_command.specs.Run.{Ends, Gives, IsQuiet, MayGive, RunEnds, World}
 use Rattle.fill_command.specs.declared.ending.Ending.{Ending}
 use Rattle.fill_command.specs.declared.ending.Ending.TheVariants as ending
 use Rattle.fill_command.proofs.Steps.{Stopped, one_end}
@@ -58,6 +58,17 @@ module _ (command : CommandData) (a b : World) where
 -- no refusal is in records of which none is one
 pub none_refused : IsTrue false ↔ (1 ≤ 0)
 none_refused = grind arith
+
+-- a run ends with 2 only where the words are no command
+pub no_command : (command : Option CommandData) (a b : World) (e : Ending) → RunEnds command a b e → status_of e ≡ 2 → command ≡ None
+no_command None a b e h is = refl
+no_command (Some command) a b ending.Done h is = absurd (omega (arith, is))
+no_command (Some command) a b ending.Refusing h is = absurd (omega (arith, is))
+no_command (Some command) a b ending.NoCommand h is = absurd h
+no_command (Some command) a b (ending.Unread line) h is = absurd (omega (arith, is))
+no_command (Some command) a b ending.Unwritten h is = absurd (omega (arith, is))
+no_command (Some command) a b (ending.Refused line) h is = absurd (omega (arith, is))
+no_command (Some command) a b ending.NoMemory h is = absurd (omega (arith, is))
 
 -- an unread file, and want of memory, may come whatever the steps end with
 three_given : {A : Type 0} (o : Opened A) → MayGive o 3

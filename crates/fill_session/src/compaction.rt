@@ -1,5 +1,5 @@
 //! Compaction: the spaces forget what neither what is present nor a state of the history needs.
-ghost use Rattle.std.specs.Prelude.{◌≡◌, ◌++◌, length, IfOk};
+ghost use Rattle.std.specs.Prelude.{◌≡◌, ◌≢◌, ◌++◌, length, IfOk, IsTrue};
 ghost use Rattle.fill_split.specs.Standing.{kept_of};
 ghost use Rattle.fill_session.specs.Renewed.{AllReplaced, AreRenewed, all_moves, spaces_of};
 ghost use Rattle.fill_session.specs.State.{AreHeld, IsHeld, seen_as};
@@ -15,13 +15,14 @@ use std::alloc::Global;
 /// How far the spaces may grow past twice their size after the last compaction, in sets and graphs.
 const SLACK: u128 = 1024;
 
-/// Whether the spaces, of this size, are to be compacted after an edit, which may have made the history forget undone
-/// states. They had the last size after the last compaction.
+/// Whether the spaces, of this size, are to be compacted after an edit, which may have made the history forget a state.
+/// They had the last size after the last compaction.
 ///
-/// A correction and a retraction leave spaces behind once the history forgets the state before them, and an added example
-/// where undone states are forgotten. Where it makes the history forget its oldest state, that state's spaces stay until a
-/// later compaction, as those do that a cleared session leaves behind.
-pub(crate) fn is_due(edit: &Edit, forgets: bool, size: u128, last: u128) -> bool {
+/// A correction and a retraction leave spaces behind once the history forgets the state before them, and any edit does where
+/// it makes the history forget one. Clearing takes no memory, so what it leaves behind stays until a later edit.
+pub(crate) fn is_due(edit: &Edit, forgets: bool, size: u128, last: u128) -> bool
+    ensures { IsTrue result → edit.now ≢ Edit.Clear }
+{
     let leaves = match edit {
         Edit::Correct { .. } | Edit::Retract { .. } => true,
         Edit::Add { .. } => forgets,

@@ -36,6 +36,7 @@ pub(crate) fn present_after<L: Ledger>(
     ensures made { IfOk result (λ made. IsHeld spaces.new made.examples made.folds made.branches × (made.examples ≡ changed present.now.examples edit.now)) }
     ensures refused { IfErr result (λ reason. reason ≢ EditError.NoMemory → FateIs spaces.old.ground (changed present.now.examples edit.now) (Some reason)) }
     ensures cleared { edit.now ≡ Edit.Clear → IsOk result }
+    ensures same { edit.now ≡ Edit.Clear → spaces.new ≡ spaces.old }
     ensures cost { steps.new ≤ steps.old + term spaces.old.ground.sheet present.now.examples edit.now }
 {
     match change_of(present.examples.as_slice(), edit) {

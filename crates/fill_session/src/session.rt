@@ -41,6 +41,9 @@ use std::alloc::Global;
 use std::marker::Model;
 use std::mem;
 
+/// How many states the history keeps.
+const MOST_STATES: usize = 32;
+
 /// Examples over a sheet and tables, the branches that are learned from them, and the edits that can be undone.
 #[derive(Drop)]
 pub struct Session {
@@ -98,6 +101,7 @@ impl Session {
         ensures timeline { timeline self.new ≡ edited_by (timeline self.old) edit.now result }
         ensures certain { (reason : EditError) → first_reason self.old.spaces.ground.sheet self.old.examples edit.now ≡ Some reason → result ≡ Err reason }
         ensures cleared { edit.now ≡ Edit.Clear → result ≡ Ok tt }
+        ensures same { edit.now ≡ Edit.Clear → self.new.spaces ≡ self.old.spaces }
         ensures as_before { OnErr result (IsAsBefore self.old self.new) }
         ensures cost { steps.new ≤ steps.old + term self.old.spaces.ground.sheet self.old.examples edit.now }
     {
@@ -107,7 +111,7 @@ impl Session {
         }
         match present_after(self.alloc, &mut self.spaces, &self.present, edit, steps) {
             Ok(present) => {
-                let forgets = self.history.can_redo();
+                let forgets = self.history.can_redo() || self.history.len() == MOST_STATES;
                 let before = mem::replace(&mut self.present, present);
                 self.history.push(edit, before);
                 if is_due(edit, forgets, self.spaces.size(), self.compacted) {

@@ -1,7 +1,8 @@
 //! FlashFill at the command line: it learns string programs from a few example cells of a sheet.
 #![tactic(auto)]
 
-ghost use Rattle.std.specs.Prelude.{◌≡◌};
+ghost use Rattle.std.specs.Prelude.{◌≡◌, ◌⊎◌, ◌↔◌, ◌≤◌, ℕ, None, Some, map, string_bytes};
+ghost use Rattle.fill_open.specs.Command.{command_in, made};
 
 use fill_command::{Ending, run};
 use fill_edge::{FolderCabinet, Ledger, StdSink, Steps};
@@ -30,11 +31,14 @@ fn words(rt: &HostRuntime) -> Result<Vec<String>, AllocError> {
     }
 }
 
-/// Runs the command over the current folder and the standard streams.
+/// Runs the command over the current folder and the standard streams, and answers the status.
 fn start<L: Ledger>(rt: HostRuntime, words: &[String], blank: Blank) -> u8
     requires name { blank.name ≡ L.name }
     requires parts { blank.parts ≡ L.parts }
     requires one { blank.parts ≡ 1 }
+    // 2 exactly where the words are no command; a generated session gives its report, unless a write fails or memory runs out.
+    ensures usage { (command_in (map string_bytes words.now) ≡ None) ↔ (result ≡ 2) }
+    ensures generated { (n : ℕ) → command_in (map string_bytes words.now) ≡ Some (made n) → (result ≤ 1) ⊎ (result ≡ 4) ⊎ (result ≡ 6) }
 {
     let alloc = rt.alloc();
     let mut out = StdSink::new(rt.stdout());

@@ -366,6 +366,27 @@ impl Work for Corrections {
     }
 }
 
+/// The same after the session is cleared, for a text that is added.
+fn fills_again(alloc: Global, session: &mut Session, number: u32) -> Result<bool, NoMemory> {
+    let digits = format!(in alloc; "{number}")?;
+    Ok(make(session, &Edit::Clear).is_none()
+        && stays_small(alloc, session, Kind::Add, digits.as_str())?)
+}
+
+/// A session that is cleared and filled again 400 times, where the spaces stay small.
+struct Refills;
+
+impl Work for Refills {
+    fn goes(&self, alloc: Global, session: &mut Session) -> Result<bool, NoMemory> {
+        for number in 100..500 {
+            if !fills_again(alloc, session, number)? {
+                return Ok(false);
+            }
+        }
+        Ok(true)
+    }
+}
+
 #[test]
 fn many_corrections_leave_small_spaces(rt: HostRuntime) -> Result<(), Fail> {
     let settings = Settings {
@@ -374,5 +395,16 @@ fn many_corrections_leave_small_spaces(rt: HostRuntime) -> Result<(), Fail> {
         profile: Profile::FIRST,
     };
     assert!(rt; goes_under(rt.alloc(), "Ab\n", settings, &Corrections)?);
+    Ok(())
+}
+
+#[test]
+fn a_session_filled_again_and_again_leaves_small_spaces(rt: HostRuntime) -> Result<(), Fail> {
+    let settings = Settings {
+        depth: 0,
+        constants: Constants::Any,
+        profile: Profile::FIRST,
+    };
+    assert!(rt; goes_under(rt.alloc(), "Ab\n", settings, &Refills)?);
     Ok(())
 }
