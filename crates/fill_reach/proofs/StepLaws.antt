@@ -1,5 +1,5 @@
 -- What is put to a list step by step.
-use Rattle.std.proofs.Common.{◌≡◌, ◌≢◌, ◌⊎◌, ◌↔◌, ℕ, ◌+◌, ◌-◌, ◌<◌, ◌≤◌, ◌^◌, List, [], ◌∷◌, ◌++◌, length, drop, map, get_or, slice_get, slice_range, set, Some, option_map, Bool, false, IsTrue, All, Contains, inl, inr, refl, sym, ap, subst, ◌∙◌, arith}
+use Rattle.std.proofs.Common.{◌≡◌, ◌≢◌, ◌⊎◌, ◌↔◌, ℕ, ◌+◌, ◌-◌, ◌<◌, ◌≤◌, ◌^◌, List, [], ◌∷◌, ◌++◌, length, drop, map, get_or, slice_get, slice_range, set, Some, option_map, Bor, Bool, false, IsTrue, All, Contains, inl, inr, refl, sym, ap, subst, ◌∙◌, arith}
 use Rattle.std.specs.declared.cmp.Ordering.TheVariants.{Less, Equal}
 use Rattle.std.specs.Ordering.{nat_cmp, ordering_then}
 use Rattle.std.specs.Cmp.{nat_cmp_is}
@@ -339,3 +339,16 @@ left_more old rows n x left k r le = get_or-set_other rows n k x r (omega arith)
 pub none_more : (text cell : List ℕ) (n : ℕ) → slice_range text n (n + length cell) ≢ cell → ((a : ℕ) → a < n → slice_range text a (a + length cell) ≢ cell)
     → (a : ℕ) → a < n + 1 → slice_range text a (a + length cell) ≢ cell
 none_more text cell n here before a lt = elim (last_of a n lt) [ inl less ↦ before a less | inr same ↦ subst (λ m. slice_range text m (m + length cell) ≢ cell) (sym same) here ]
+
+-- a text that is there already
+pub gains_there : (old : List (List ℕ)) (t u : List ℕ) → u ≡ t → Contains old u → Gains old old (λ v. v ≡ t)
+gains_there old t u e there = record {
+  exact = λ v. ((λ c. inl c), (λ h. elim h [ inl o ↦ o | inr same ↦ subst (λ w. Contains old w) (e ∙ sym same) there ]));
+  short = λ all. all;
+}
+
+-- an item that is read by its number, and stands for the text
+pub stands_there : (xs : List (Bor (List ℕ))) (k : ℕ) (d : Bor (List ℕ)) (t : List ℕ) → k < length xs → (get_or xs k d).now ≡ t → Contains (map (λ x. x.now) xs) t
+stands_there xs k d t lt e =
+    let at = slice_get-get_or xs k d lt in
+    at_contains (map (λ x. x.now) xs) k t (slice_get-map (λ x. x.now) xs k ∙ ap (option_map (λ (x : Bor (List ℕ)). x.now)) at ∙ ap Some e)

@@ -9,6 +9,11 @@ use fill_sheet::Sheet;
 use fill_tables::Tables;
 use fill_text::{NoMemory, Text};
 use std::alloc::Global;
+use std::collections::BTreeMap;
+
+/// Where texts stand among the texts. It only says where to look, and what is found there is compared. The texts are those of
+/// strangers, so they are kept in order: no choice of texts makes it slow to look for one.
+type Places<'a> = BTreeMap<&'a [char], usize>;
 
 /// The texts that can be known by a depth and by no lesser one, where the rows have their marks.
 pub(crate) fn new_texts<'a>(
@@ -25,22 +30,28 @@ pub(crate) fn new_texts<'a>(
     ensures { IfOk result (λ texts. AreTexts (IsNew sheet.now tables.now row rows.now depth) (map (λ text. text.now) texts.items)) }
 {
     let mut texts = Vec::new(alloc);
+    let mut places = BTreeMap::new(alloc);
     if depth == 0 {
-        push_inputs(&mut texts, row, sheet)?;
+        push_inputs(&mut texts, &mut places, row, sheet)?;
         return Ok(texts);
     }
-    push_cells(&mut texts, depth, rows, tables)?;
+    push_cells(&mut texts, &mut places, depth, rows, tables)?;
     Ok(texts)
 }
 
 /// Puts the cells of the row's input columns to the texts.
-fn push_inputs<'a>(texts: &mut Vec<&'a [char]>, row: u32, sheet: &'a Sheet) -> Result<(), NoMemory>
+fn push_inputs<'a>(
+    texts: &mut Vec<&'a [char]>,
+    places: &mut Places<'a>,
+    row: u32,
+    sheet: &'a Sheet,
+) -> Result<(), NoMemory>
     requires first { 1 ≤ row }
     requires last { row ≤ length sheet.now.rows }
     ensures { OnOk result (Gains (map (λ text. text.now) texts.old.items) (map (λ text. text.now) texts.new.items) (IsInputCell sheet.now row)) }
 {
     for column in sheet.inputs() {
-        push_text(texts, sheet.cell(row, *column))?;
+        push_text(texts, places, sheet.cell(row, *column))?;
     }
     Ok(())
 }
@@ -48,6 +59,7 @@ fn push_inputs<'a>(texts: &mut Vec<&'a [char]>, row: u32, sheet: &'a Sheet) -> R
 /// Puts the cells of the rows of this depth to the texts, those in columns that are free of the key.
 fn push_cells<'a>(
     texts: &mut Vec<&'a [char]>,
+    places: &mut Places<'a>,
     depth: u8,
     rows: &[ReachedRow],
     tables: &'a Tables,
@@ -59,7 +71,7 @@ fn push_cells<'a>(
         if row.depth != depth {
             continue;
         }
-        push_row(texts, *row, tables)?;
+        push_row(texts, places, *row, tables)?;
     }
     Ok(())
 }
@@ -67,6 +79,7 @@ fn push_cells<'a>(
 /// Puts the cells of a row to the texts, those in columns that are free of the key.
 fn push_row<'a>(
     texts: &mut Vec<&'a [char]>,
+    places: &mut Places<'a>,
     row: ReachedRow,
     tables: &'a Tables,
 ) -> Result<(), NoMemory>
@@ -77,20 +90,51 @@ fn push_row<'a>(
         if !is_free(row.table, row.key, column, tables) {
             continue;
         }
-        push_text(texts, tables.cell(row.table, row.row, column))?;
+        push_text(texts, places, tables.cell(row.table, row.row, column))?;
     }
     Ok(())
 }
 
-/// Puts a text to the texts. One that is so long that no place can name its end is refused like one where memory runs out.
-fn push_text<'a>(texts: &mut Vec<&'a [char]>, text: &'a Text) -> Result<(), NoMemory>
+/// Puts a text to the texts, if it is none of them. One that is so long that no place can name its end is refused like one
+/// where memory runs out.
+fn push_text<'a>(
+    texts: &mut Vec<&'a [char]>,
+    places: &mut Places<'a>,
+    text: &'a Text,
+) -> Result<(), NoMemory>
     ensures { OnOk result (Gains (map (λ text. text.now) texts.old.items) (map (λ text. text.now) texts.new.items) (λ v. v ≡ text.now)) }
 {
     if text.len() > i32::MAX as usize {
         return Err(NoMemory);
     }
+    if is_there(texts, places, text.as_slice()) {
+        return Ok(());
+    }
+    keep_place(places, text.as_slice(), texts.len())?;
     texts.push(text.as_slice())?;
     Ok(())
+}
+
+/// Whether the text is one of the texts, where its place was kept.
+fn is_there<'a>(texts: &[&'a [char]], places: &Places<'a>, text: &'a [char]) -> bool
+    ensures { IsTrue result → Contains (map (λ text. text.now) texts.now) text.now }
+{
+    let Some(place) = places.get(&text) else {
+        return false;
+    };
+    let place = *place;
+    if place >= texts.len() {
+        return false;
+    }
+    texts[place] == text
+}
+
+/// Keeps where the text comes to stand among the texts.
+fn keep_place<'a>(places: &mut Places<'a>, text: &'a [char], place: usize) -> Result<(), NoMemory> {
+    match places.insert(text, place) {
+        Ok(_) => Ok(()),
+        Err(_) => Err(NoMemory),
+    }
 }
 
 /// Whether a key cell of the row is a piece of one of the texts.
