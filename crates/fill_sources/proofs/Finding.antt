@@ -1,7 +1,8 @@
 -- What was found of the places of texts stays so as the arena grows and as more is found.
-use Rattle.std.proofs.Common.{◌≡◌, ◌⊎◌, inl, inr, ℕ, zero, suc, ◌<◌, Bool, true, false, cond, List, [], ◌∷◌, length, get_or, replicate, Some, nat_eq, slice_get, slice_set, refl, sym, ◌∙◌, subst}
+use Rattle.std.proofs.Common.{◌≡◌, ◌⊎◌, inl, inr, ℕ, zero, suc, ◌<◌, Bool, true, false, cond, List, [], ◌∷◌, length, get_or, replicate, Some, slice_get, slice_set, refl, sym, ◌∙◌, subst}
 use Rattle.std.proofs.lemmas.Bool.{cases_eq}
-use Rattle.std.specs.HashMap.{get, Updates}
+use Rattle.std.specs.BTreeMap.{get, Updates}
+use Rattle.std.specs.Ordering.{is_eq, nat_cmp}
 use Rattle.fill_arena.specs.Contents.{EachIn, Extends}
 use Rattle.fill_arena.specs.declared.entry.Entry.{Entry}
 use Rattle.fill_arena.proofs.Lists.{extends_on}
@@ -79,7 +80,7 @@ found_put token_set c v xs ys at f h all is = elim h [
 
 -- with one text more
 module _ (c : List Entry) (old new : PlaceMemory) (number : ℕ) (made : Kept) where
-  put_step : (n : ℕ) (k : Kept) (same : Bool) → nat_eq number n ≡ same → get nat_eq new.texts n ≡ cond same (Some made) (get nat_eq old.texts n) → get nat_eq new.texts n ≡ Some k
+  put_step : (n : ℕ) (k : Kept) (same : Bool) → is_eq (nat_cmp number n) ≡ same → get nat_cmp new.texts n ≡ cond same (Some made) (get nat_cmp old.texts n) → get nat_cmp new.texts n ≡ Some k
       → AreFound made.token_set c made.text made.found.items → PlacesStand c old → AreFound k.token_set c k.text k.found.items
   put_step n k true e u h is r =
       let q : Some made ≡ Some k = sym u ∙ h in
@@ -87,5 +88,5 @@ module _ (c : List Entry) (old new : PlaceMemory) (number : ℕ) (made : Kept) w
       subst (λ (f : Kept). AreFound f.token_set c f.text f.found.items) kept is
   put_step n k false e u h is r = r.each n k (sym u ∙ h)
 
-  pub text_put : Updates nat_eq old.texts new.texts number (Some made) → AreFound made.token_set c made.text made.found.items → PlacesStand c old → PlacesStand c new
-  text_put u is r = record { each = λ n k h. put_step n k (nat_eq number n) refl (u.0 n) h is r }
+  pub text_put : Updates nat_cmp old.texts new.texts number (Some made) → AreFound made.token_set c made.text made.found.items → PlacesStand c old → PlacesStand c new
+  text_put u is r = record { each = λ n k h. put_step n k (is_eq (nat_cmp number n)) refl (u.0 n) h is r }

@@ -1,6 +1,9 @@
 -- What was made stays right as the arena grows and as more is kept.
-use Rattle.std.proofs.Common.{◌≡◌, ℕ, Bool, true, false, cond, ◌&&◌, List, Option, Some, nat_eq, refl, sym, ap, ◌∙◌, subst, rules}
-use Rattle.std.specs.Str.{bytes_eq}
+use Rattle.std.proofs.Common.{◌≡◌, ◌<◌, ℕ, Ordering, Less, Equal, Greater, Bool, true, false, cond, List, Option, Some, refl, sym, ap, ◌∙◌, subst, rules}
+use Rattle.std.specs.Cmp.Lexicographic.{slice_cmp}
+use Rattle.std.specs.Ordering.{MatchOrdering, is_eq, nat_cmp, ordering_then}
+use Rattle.std.proofs.lemmas.Cmp.{ranked}
+use Rattle.std.proofs.lemmas.Map.Text.{is_eq-slice_cmp}
 use Rattle.fill_arena.specs.Contents.{Extends}
 use Rattle.fill_arena.specs.declared.entry.Entry.{Entry}
 use Rattle.fill_arena.proofs.Lists.{extends_on}
@@ -23,28 +26,30 @@ right_stays on texts c d o memo r =
 pub known_stays : (on : OnRow) (c d : List Entry) → Extends c d → (k : Known) → AreKnown on c k → AreKnown on d k
 known_stays on c d o k h = record { exact = h.exact; once = h.once; texts = h.texts; memo = right_stays on (texts_of k) c d o k.memo h.memo }
 
-number_same : (x y : ℕ) → nat_eq x y ≡ true → x ≡ y
-number_same x y h = search rules
-
 pub pair_same : (x y : ℕ × ℕ) → pair_eq x y ≡ true → x ≡ y
 pair_same x y h =
     let both : (x.0 ≡ y.0) × (x.1 ≡ y.1) = search rules in
     let a : x ≡ (y.0, x.1) = ap (λ (n : ℕ). (let z : ℕ × ℕ = (n, x.1) in z)) both.0 in
     a ∙ ap (λ (n : ℕ). (let z : ℕ × ℕ = (y.0, n) in z)) both.1
 
-both_true : (a b : Bool) → (a && b) ≡ true → (a ≡ true) × (b ≡ true)
-both_true true true h = (refl, refl)
-both_true true false h = absurd cc
-both_true false b h = absurd cc
+both_tied : (a b : Ordering) → is_eq (ordering_then a b) ≡ true → (is_eq a ≡ true) × (is_eq b ≡ true)
+both_tied Less b h = absurd cc
+both_tied Equal b h = (refl, h)
+both_tied Greater b h = absurd cc
+
+tied_same : (P Q R : Type 0) (o : Ordering) → MatchOrdering o P Q R → is_eq o ≡ true → Q
+tied_same P Q R Less h e = absurd cc
+tied_same P Q R Equal h e = h
+tied_same P Q R Greater h e = absurd cc
 
 abbrev pub text_and_depth : List ℕ × ℕ → List ℕ × ℕ → Bool
-text_and_depth x y = bytes_eq x.0 y.0 && nat_eq x.1 y.1
+text_and_depth x y = is_eq (ordering_then (slice_cmp nat_cmp x.0 y.0) (nat_cmp x.1 y.1))
 
 pub part_same : (x y : List ℕ × ℕ) → text_and_depth x y ≡ true → x ≡ y
 part_same x y h =
-    let both = both_true (bytes_eq x.0 y.0) (nat_eq x.1 y.1) h in
-    let a : x ≡ (y.0, x.1) = ap (λ (w : List ℕ). (let z : List ℕ × ℕ = (w, x.1) in z)) (same_text x.0 y.0 both.0) in
-    a ∙ ap (λ (n : ℕ). (let z : List ℕ × ℕ = (y.0, n) in z)) (number_same x.1 y.1 both.1)
+    let both = both_tied (slice_cmp nat_cmp x.0 y.0) (nat_cmp x.1 y.1) h in
+    let a : x ≡ (y.0, x.1) = ap (λ (w : List ℕ). (let z : List ℕ × ℕ = (w, x.1) in z)) (same_text x.0 y.0 (sym (is_eq-slice_cmp x.0 y.0) ∙ both.0)) in
+    a ∙ ap (λ (n : ℕ). (let z : List ℕ × ℕ = (y.0, n) in z)) (tied_same (x.1 < y.1) (x.1 ≡ y.1) (y.1 < x.1) (nat_cmp x.1 y.1) (ranked x.1 y.1 (nat_cmp x.1 y.1) refl) both.1)
 
 -- a table that tells what is right still does with one row more
 module _ {K A : Type 0} (same : K → K → Bool) (sound : (x y : K) → same x y ≡ true → x ≡ y) (P : K → A → Type 0) (f g : K → Option A) (s : K) (made : A) where

@@ -1,6 +1,7 @@
 -- What is kept of the places of texts from row to row.
-use Rattle.std.specs.Prelude.{◌≡◌, ℕ, List, None, Some, nat_eq, slice_get}
-use Rattle.std.specs.HashMap.{get}
+use Rattle.std.specs.Prelude.{◌≡◌, ℕ, List, None, Some, slice_get}
+use Rattle.std.specs.BTreeMap.{get}
+use Rattle.std.specs.Ordering.{nat_cmp}
 use Rattle.fill_tokens.specs.declared.token_set.TokenSet.{TokenSet}
 use Rattle.fill_arena.specs.Contents.{Extends}
 use Rattle.fill_arena.specs.declared.entry.Entry.{Entry}
@@ -27,4 +28,4 @@ AreRecalled token_set c texts places = (i : ℕ) (t : TextPlaces) (v : List ℕ)
 
 -- all that is kept is so in the arena
 pub record PlacesStand (c : List Entry) (m : PlaceMemory) : Type 0 where
-  pub each : (hash : ℕ) (k : Kept) → get nat_eq m.texts hash ≡ Some k → AreFound k.token_set c k.text k.found.items
+  pub each : (hash : ℕ) (k : Kept) → get nat_cmp m.texts hash ≡ Some k → AreFound k.token_set c k.text k.found.items

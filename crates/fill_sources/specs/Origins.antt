@@ -1,7 +1,8 @@
 -- Where texts come from on a row: input cells, and the cells of rows that lookups reach, in columns that are free of the key.
 use Rattle.std.specs.Prelude.{◌≡◌, ◌↔◌, ◌⊎◌, ℕ, ◌<◌, ◌≤◌, ◌^◌, List, map, Option, Some, Contains, slice_get}
-use Rattle.std.specs.HashMap.{get_by}
-use Rattle.std.specs.Str.{bytes_eq}
+use Rattle.std.specs.BTreeMap.{get_by}
+use Rattle.std.specs.Cmp.Lexicographic.{slice_cmp}
+use Rattle.std.specs.Ordering.{nat_cmp}
 use Rattle.fill_text.specs.Data.{TableData, cell_at, table_cell_at}
 use Rattle.fill_tables.specs.Tables.{AreTables}
 use Rattle.fill_arena.specs.Contents.{In, SomeIn, EachIn}
@@ -20,7 +21,7 @@ texts_in t = map (λ n. n.text.now) t.named.items
 
 -- the number that was kept of a text
 abbrev pub number_in : Texts → List ℕ → Option ℕ
-number_in t v = get_by (λ y. bytes_eq v y.now) t.numbers
+number_in t v = get_by (λ y. slice_cmp nat_cmp v y.now) t.numbers
 
 -- each text has its number, so each stands once, and comes from somewhere
 pub record AreNumbered (t : Texts) : Type 0 where

@@ -1,8 +1,10 @@
 -- What is known of a row, with the sets that were made for it.
 use Rattle.std.specs.Prelude.{◌≡◌, ◌↔◌, ℕ, ◌<◌, List, [], ◌∷◌, Option, Some, Bool, ◌&&◌, nat_eq, Contains, slice_get, All}
 use Rattle.std.specs.Char.{IsScalar}
-use Rattle.std.specs.HashMap.{get, get_by}
-use Rattle.std.specs.Str.{bytes_eq}
+use Rattle.std.specs.BTreeMap.{get_by}
+use Rattle.std.specs.Cmp.Lexicographic.{slice_cmp}
+use Rattle.std.specs.HashMap.{get}
+use Rattle.std.specs.Ordering.{nat_cmp, ordering_then}
 use Rattle.fill_text.specs.Data.{TableData}
 use Rattle.fill_tables.specs.Keys.{IsKeyedRow}
 use Rattle.fill_tree.specs.Tree.{SourceTree, col, select}
@@ -56,7 +58,7 @@ pair_eq x y = nat_eq x.0 y.0 && nat_eq x.1 y.1
 
 -- the set of parts that was kept for a text and a depth
 abbrev pub part_in : Memo → List ℕ × ℕ → Option (Option ℕ)
-part_in memo k = get_by (λ y. bytes_eq k.0 y.0.now && nat_eq k.1 y.1) memo.parts
+part_in memo k = get_by (λ y. ordering_then (slice_cmp nat_cmp k.0 y.0.now) (nat_cmp k.1 y.1)) memo.parts
 
 -- what was made is right
 pub record IsRight (on : OnRow) (texts : List (List ℕ)) (c : List Entry) (memo : Memo) : Type 0 where

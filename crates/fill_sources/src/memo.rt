@@ -14,7 +14,7 @@ use fill_arena::{AtomSet, PlaceSet, SourceSet};
 use fill_places::PlaceIndex;
 use fill_text::{NoMemory, Text};
 use std::alloc::Global;
-use std::collections::HashMap;
+use std::collections::{BTreeMap, HashMap};
 
 /// What was found of the positions of a text.
 #[derive(Drop)]
@@ -26,12 +26,14 @@ pub(crate) struct TextPlaces {
 
 /// The index of places of each text by its number; what was found of the positions of each text by its number; the set of the
 /// sources by the number of the text and the depth; the set of the parts by their value and depth.
+///
+/// Values are texts of strangers, so they are kept in order: no choice of texts makes it slow to look for one.
 #[derive(Drop)]
 pub(crate) struct Memo<'a> {
     indexes: HashMap<usize, PlaceIndex>,
     pub(crate) places: Vec<TextPlaces>,
     sources: HashMap<(usize, u8), Option<SourceSet>>,
-    parts: HashMap<(&'a [char], u8), Option<AtomSet>>,
+    parts: BTreeMap<(&'a [char], u8), Option<AtomSet>>,
 }
 
 impl TextPlaces {
@@ -105,7 +107,7 @@ impl<'a> Memo<'a> {
             indexes: HashMap::new(alloc),
             places,
             sources: HashMap::new(alloc),
-            parts: HashMap::new(alloc),
+            parts: BTreeMap::new(alloc),
         }
     }
 
@@ -182,7 +184,7 @@ impl<'a> Memo<'a> {
         }
     }
 
-    pub(crate) fn part(&self, w: &Text, depth: u8) -> Option<Option<AtomSet>>
+    pub(crate) fn part(&self, w: &'a Text, depth: u8) -> Option<Option<AtomSet>>
         ensures { (on : Row) (texts : Listed (Listed ℕ)) (c : Listed Entry) → IsRight on texts c self.now → IfSome result (IsPartMade on c (w.now, depth)) }
     {
         match self.parts.get(&(w.as_slice(), depth)) {

@@ -1,6 +1,7 @@
 //! What was found of the places of texts, kept from row to row, so that a text that comes again isn't read again.
-ghost use Rattle.std.specs.Prelude.{◌≡◌, ℕ, List as Listed, nat_eq, Some, IfOk, OnOk};
-ghost use Rattle.std.specs.HashMap.{Updates};
+ghost use Rattle.std.specs.Prelude.{◌≡◌, ℕ, List as Listed, Some, IfOk, OnOk};
+ghost use Rattle.std.specs.BTreeMap.{Updates};
+ghost use Rattle.std.specs.Ordering.{nat_cmp};
 ghost use Rattle.fill_arena.specs.declared.entry.Entry.{Entry};
 ghost use Rattle.fill_sources.specs.Found.{AreFound, PlacesStand};
 ghost use Rattle.fill_sources.specs.declared.memory.Kept.{Kept as KeptText};
@@ -9,7 +10,7 @@ use fill_arena::PlaceSet;
 use fill_text::{NoMemory, Text};
 use fill_tokens::TokenSet;
 use std::alloc::Global;
-use std::collections::HashMap;
+use std::collections::BTreeMap;
 
 /// How many texts are kept at most.
 const MOST: usize = 1024;
@@ -44,10 +45,11 @@ pub(crate) struct Kept {
 /// The sets of the places of positions of texts, as far as they were found on earlier rows. It is of one arena, in which
 /// these sets are.
 ///
-/// Texts are kept by their hash; of those with one hash, the last one is kept.
+/// Texts are kept by their hash; of those with one hash, the last one is kept. The texts are those of strangers, so the
+/// hashes are kept in order: no choice of texts makes it slow to look for one.
 #[derive(Drop)]
 pub struct PlaceMemory {
-    pub(crate) texts: HashMap<u64, Kept>,
+    pub(crate) texts: BTreeMap<u64, Kept>,
     /// How many characters the texts have together, at most: those of a text that is kept again count again.
     size: usize,
 }
@@ -58,7 +60,7 @@ impl PlaceMemory {
         ensures { (c : Listed Entry) → PlacesStand c result }
     {
         PlaceMemory {
-            texts: HashMap::new(alloc),
+            texts: BTreeMap::new(alloc),
             size: 0,
         }
     }
@@ -99,7 +101,7 @@ impl PlaceMemory {
         self.make_room(alloc, text.len());
         match put_kept(alloc, &mut self.texts, text, token_set, found) {
             Ok(()) => {}
-            Err(NoMemory) => self.texts = HashMap::new(alloc),
+            Err(NoMemory) => self.texts = BTreeMap::new(alloc),
         }
     }
 
@@ -112,19 +114,19 @@ impl PlaceMemory {
             self.size = size;
             return;
         }
-        self.texts = HashMap::new(alloc);
+        self.texts = BTreeMap::new(alloc);
         self.size = more;
     }
 }
 
 fn put_kept(
     alloc: Global,
-    texts: &mut HashMap<u64, Kept>,
+    texts: &mut BTreeMap<u64, Kept>,
     text: &Text,
     token_set: TokenSet,
     found: &[Found],
 ) -> Result<(), NoMemory>
-    ensures { OnOk result ((hash : ℕ) × (k : KeptText) × Updates nat_eq texts.old texts.new hash (Some k) × (k.text ≡ text.now) × (k.token_set ≡ token_set) × (k.found.items ≡ found.now)) }
+    ensures { OnOk result ((hash : ℕ) × (k : KeptText) × Updates nat_cmp texts.old texts.new hash (Some k) × (k.text ≡ text.now) × (k.token_set ≡ token_set) × (k.found.items ≡ found.now)) }
 {
     let hash = hash_of(text);
     let text = text.copy()?;

@@ -7,7 +7,7 @@ ghost use Rattle.fill_sources.specs.declared.texts.Named.{Named as NamedText};
 use fill_reach::ReachedRow;
 use fill_text::{List, NoMemory, Text};
 use std::alloc::Global;
-use std::collections::HashMap;
+use std::collections::BTreeMap;
 
 /// Where a text comes from.
 #[derive(Clone, Copy)]
@@ -26,10 +26,12 @@ pub(crate) struct Named<'a> {
 }
 
 /// Texts, each once, and the number of each.
+///
+/// The texts are those of strangers, so they are kept in order: no choice of texts makes it slow to look for one.
 #[derive(Drop)]
 pub(crate) struct Texts<'a> {
     pub(crate) named: Vec<Named<'a>>,
-    numbers: HashMap<&'a [char], usize>,
+    numbers: BTreeMap<&'a [char], usize>,
 }
 
 impl<'a> Texts<'a> {
@@ -40,12 +42,12 @@ impl<'a> Texts<'a> {
     {
         Texts {
             named: Vec::new(alloc),
-            numbers: HashMap::new(alloc),
+            numbers: BTreeMap::new(alloc),
         }
     }
 
     /// The number of a text, if it is one of these.
-    fn number(&self, text: &Text) -> Option<usize>
+    fn number(&self, text: &'a Text) -> Option<usize>
         ensures { result ≡ number_in self.now text.now }
     {
         match self.numbers.get(&text.as_slice()) {
