@@ -21,6 +21,10 @@ pub on_ok : {A E : Type 0} {P Q : Type 0} (r : Result A E) → OnOk r P → (P �
 on_ok (Ok x) h f = f h
 on_ok (Err e) h f = h
 
+pub on_two : {A E : Type 0} {P Q R : Type 0} (r : Result A E) → OnOk r P → OnOk r Q → (P → Q → R) → OnOk r R
+on_two (Ok x) h g f = f h g
+on_two (Err e) h g f = h
+
 pub match_true : (P Q : Type 0) (b : Bool) → MatchBool b P Q → b ≡ true → P
 match_true P Q true h e = h
 match_true P Q false h e = absurd (false≢true e)

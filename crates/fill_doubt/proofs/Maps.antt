@@ -31,6 +31,9 @@ pub pushed_right : {X : Type 0} (P : X → Type 0) (xs new : List X) (x : X) →
 pushed_right {X} P xs new x is here are i y at =
     ⊎_elim (λ l. are i y l.1) (λ r. subst (λ z. P z) r.1 here) (get_pushed xs x i y (subst (λ (zs : List X). slice_get zs i ≡ Some y) is at))
 
+pub apart : (a b : ℕ) → (a < b) ⊎ (b < a) → a ≢ b
+apart a b o e = ⊎_elim (λ l. omega arith) (λ l. omega arith) o
+
 pub set_right : {X : Type 0} (P : X → Type 0) (xs : List X) (n : ℕ) (x : X) → n < length xs → P x → ((i : ℕ) (y : X) → slice_get xs i ≡ Some y → P y) → (i : ℕ) (y : X) → slice_get (set xs n x) i ≡ Some y → P y
 set_right {X} P xs n x within here are i y at = ⊎_elim
     (λ same.
@@ -38,6 +41,3 @@ set_right {X} P xs n x within here are i y at = ⊎_elim
     let e : x ≡ y = (let q : Some x ≡ Some y = sym (set_same xs n x within) ∙ there in cc) in
     subst (λ z. P z) e here)
     (λ o. are i y (sym (set_other xs n i x (apart i n o)) ∙ at)) (cases_order i n)
-  where
-    apart : (a b : ℕ) → (a < b) ⊎ (b < a) → a ≢ b
-    apart a b o e = ⊎_elim (λ l. omega arith) (λ l. omega arith) o

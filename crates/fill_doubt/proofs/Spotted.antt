@@ -1,5 +1,5 @@
 -- What is found of a set's places in the shape of a text, and what it tells of the text.
-use Rattle.std.proofs.Common.{◌≡◌, ◌↔◌, ◌⊎◌, inl, inr, ⊎_elim, ℕ, ℤ, ◌+◌, ◌<◌, List, length, get_or, Option, None, Some, MatchOption, slice_get, refl, sym, subst, arith}
+use Rattle.std.proofs.Common.{◌≡◌, ◌↔◌, ◌⊎◌, inl, inr, ⊎_elim, ℕ, ℤ, ◌+◌, ◌<◌, List, length, get_or, Bool, false, Option, None, Some, MatchOption, slice_get, refl, sym, subst, arith}
 use Rattle.std.proofs.lemmas.Bool.{cases_lt}
 use Rattle.std.proofs.lemmas.Option.{slice_get-get_or}
 use Rattle.fill_tokens.specs.Value.{HasValue}
@@ -15,8 +15,10 @@ use Rattle.fill_eval.proofs.Values.{has, never}
 use Rattle.fill_shapes.specs.Stretched.{IsStretched}
 use Rattle.fill_doubt.specs.Answers.{Gains, PositionsHave}
 use Rattle.fill_doubt.specs.Gives.{PlaceGives}
+use Rattle.fill_doubt.specs.Placed.{ArePlaced}
 use Rattle.fill_doubt.specs.Shapes.{AreAsked, AreCarried, carried}
 use Rattle.fill_doubt.specs.Spots.{AreSpotsOf, IsShaped, OtherStands, ShapedGives}
+use Rattle.fill_doubt.specs.declared.answers.Positions.{Positions}
 use Rattle.fill_doubt.specs.declared.spots.Spots.{Spots}
 use Rattle.fill_doubt.proofs.Answered.{answer_one, place_answer, place_is, place_none}
 use Rattle.fill_doubt.proofs.Filled.{place_items}
@@ -100,3 +102,8 @@ module _ (law : AreValuesStretched) (w t bounds : List ℕ) (is : IsStretched w 
           let g = (are.others (Some h.0)).1 (h.0, h.1, refl, not) in
           inr (g.0, g.1, subst (λ p. IsValue (HasValue p t) o) (sym g.2) h.2)) (either h.0)),
     )
+
+    -- what is carried over and what is asked are positions of the places
+    pub spots_placed : (few : Bool) (found : Positions) → ((o : Option ℕ) → PositionsHave found o → AreCarried bounds (PositionsHave f.shaped) o ⊎ AreAsked t f.others.items o)
+        → (few ≡ false → (o : Option ℕ) → AreCarried bounds (PositionsHave f.shaped) o ⊎ AreAsked t f.others.items o → PositionsHave found o) → ArePlaced c s t few found
+    spots_placed few found sound all = record { sound = λ o h. (spots_give o).0 (sound o h); all = λ no o g. all no o ((spots_give o).1 g) }

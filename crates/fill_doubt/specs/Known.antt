@@ -18,7 +18,7 @@ use Rattle.fill_eval.specs.Piece.{IsWithin}
 use Rattle.fill_doubt.specs.Answers.{TextsHave, PiecesHave}
 use Rattle.fill_doubt.specs.Gives.{SourceGives, AtomGives}
 use Rattle.fill_doubt.specs.Rows.{Choice, RowText}
-use Rattle.fill_doubt.specs.Shapes.{IsShapeOf, ShapesStand}
+use Rattle.fill_doubt.specs.Shapes.{IsReadAt, IsShapeOf, ShapesStand}
 use Rattle.fill_doubt.specs.declared.answers.Texts.{Texts}
 use Rattle.fill_doubt.specs.declared.answers.Pieces.{Pieces}
 use Rattle.fill_doubt.specs.declared.known.Known.{Known}
@@ -81,7 +81,7 @@ RowAnswers on is o = (cs : Atoms) × ConditionsFit cs on.arena.now is
 pub record AreKnown (on : OnRow) (known : Known) : Type 0 where
   pub sources : (s : ℕ) (f : Texts) → get nat_eq known.sources s ≡ Some f → (o : Option (List ℕ)) → TextsHave f o ↔ SourceAnswers on s o
   pub parts : (s : ℕ) (f : Pieces) → get nat_eq known.parts s ≡ Some f → EachIn IsWithin f.pieces.items × ((o : Option (List ℕ)) → PiecesHave f o ↔ PartAnswers on s o)
-  pub texts : (i : ℕ) (x : Shaped) → slice_get known.texts.items i ≡ Some x → IsShapeOf x
+  pub texts : (i : ℕ) (x : Shaped) → slice_get known.texts.items i ≡ Some x → IsShapeOf x × IsReadAt known.shapes x.shape.text x.number
   pub shapes : ShapesStand on.arena.now known.shapes
 
 -- the text is the one of this number among those whose shapes were found

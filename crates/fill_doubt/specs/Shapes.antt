@@ -16,8 +16,15 @@ pub record ShapesStand (c : List Entry) (shapes : Shapes) : Type 0 where
   pub each : (i : ℕ) (x : Read) → slice_get shapes.reads.items i ≡ Some x → IsReadIn c x
 
 -- the shape is the one of this number among those that were read
+abbrev pub HasText : List Read → List ℕ → ℕ → Type 0
+HasText reads w n = (x : Read) × (slice_get reads n ≡ Some x) × (x.text ≡ w)
+
 abbrev pub IsReadAt : Shapes → List ℕ → ℕ → Type 0
-IsReadAt shapes w n = (x : Read) × (slice_get shapes.reads.items n ≡ Some x) × (x.text ≡ w)
+IsReadAt shapes w n = HasText shapes.reads.items w n
+
+-- each shape that was read keeps its number
+abbrev pub KeepsReads : Shapes → Shapes → Type 0
+KeepsReads old new = (w : List ℕ) (n : ℕ) → IsReadAt old w n → IsReadAt new w n
 
 -- the shape is that of the text
 abbrev pub IsShapeOf : Shaped → Type 0

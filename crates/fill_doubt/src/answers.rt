@@ -178,6 +178,14 @@ impl Positions {
         }
     }
 
+    /// Forgets all answers, and keeps the memory that they took.
+    pub(crate) fn clear(&mut self)
+        ensures { (o : Option ℕ) → ¬ (PositionsHave self.new o) }
+    {
+        self.positions.clear();
+        self.none = false;
+    }
+
     fn has(&self, position: usize) -> bool
         ensures { IsTrue result ↔ PositionsHave self.now (Some position) }
     {

@@ -1,5 +1,5 @@
 //! What was found in the shape of a text, carried over to the text.
-ghost use Rattle.std.specs.Prelude.{◌≡◌, ◌⊎◌, ◌<◌, ℕ, Option, false, length, slice_get, IfOk, OnOk};
+ghost use Rattle.std.specs.Prelude.{◌≡◌, ◌⊎◌, ◌<◌, ℕ, Option, false, length, slice_get, OnOk};
 ghost use Rattle.fill_arena.specs.Contents.{EachIn, SomeIn};
 ghost use Rattle.fill_tokens.specs.Value.{HasValue};
 ghost use Rattle.fill_tree.specs.Value.{IsValue};
@@ -11,27 +11,25 @@ use crate::shaped::Shaped;
 use crate::spots::Spots;
 use fill_text::{NoMemory, Text};
 use fill_tokens::{Place, place_value};
-use std::alloc::Global;
 
-/// The positions of the set's places in the text: two answers where few will do, and else all of them.
+/// The positions of the set's places in the text, and nothing else: two answers where few will do, and else all of them.
 pub(crate) fn carry(
-    alloc: Global,
     spots: &Spots,
     shaped: &Shaped,
     few: bool,
-) -> Result<Positions, NoMemory>
+    found: &mut Positions,
+) -> Result<(), NoMemory>
     requires { EachIn (λ i. i < length shaped.now.shape.bounds.items) spots.now.shaped.positions.items }
-    ensures sound { IfOk result (λ found. (o : Option ℕ) → PositionsHave found o →
+    ensures sound { OnOk result ((o : Option ℕ) → PositionsHave found.new o →
         AreCarried shaped.now.shape.bounds.items (PositionsHave spots.now.shaped) o ⊎ AreAsked shaped.now.text.now spots.now.others.items o) }
-    ensures all { IfOk result (λ found. few ≡ false → (o : Option ℕ) →
-        AreCarried shaped.now.shape.bounds.items (PositionsHave spots.now.shaped) o ⊎ AreAsked shaped.now.text.now spots.now.others.items o → PositionsHave found o) }
+    ensures all { OnOk result (few ≡ false → (o : Option ℕ) →
+        AreCarried shaped.now.shape.bounds.items (PositionsHave spots.now.shaped) o ⊎ AreAsked shaped.now.text.now spots.now.others.items o → PositionsHave found.new o) }
 {
-    let mut found = Positions::new(alloc);
+    found.clear();
     found.put_none(spots.shaped.none);
     let positions = spots.shaped.positions.as_slice();
-    put_bounds(&mut found, positions, shaped.shape.bounds.as_slice(), few)?;
-    put_asked(&mut found, spots.others.as_slice(), shaped.text, few)?;
-    Ok(found)
+    put_bounds(found, positions, shaped.shape.bounds.as_slice(), few)?;
+    put_asked(found, spots.others.as_slice(), shaped.text, few)
 }
 
 fn may_stop(few: bool, found: &Positions) -> bool

@@ -7,7 +7,7 @@ ghost use Rattle.fill_doubt.specs.Known.{AreKnown, IsTextAt, PartAnswers, Source
 ghost use Rattle.fill_doubt.specs.Shapes.{ShapesStand};
 ghost use Rattle.fill_doubt.specs.declared.row.OnRow.{OnRow};
 
-use crate::answers::{Pieces, Texts};
+use crate::answers::{Pieces, Positions, Texts};
 use crate::shaped::Shaped;
 use crate::shapes::Shapes;
 use fill_arena::{AtomSet, SourceSet};
@@ -17,13 +17,15 @@ use std::alloc::Global;
 use std::collections::HashMap;
 
 /// The answers of sets, those of a set of atoms without its constants, the row's texts with their
-/// shapes, and what was found of shapes.
+/// shapes, and what was found of shapes; with room for the positions between which pieces stand.
 #[derive(Drop)]
 pub(crate) struct Known<'a> {
     sources: HashMap<SourceSet, Texts<'a>>,
     parts: HashMap<AtomSet, Pieces<'a>>,
     pub(crate) texts: Vec<Shaped<'a>>,
     pub(crate) shapes: Shapes,
+    pub(crate) lefts: Positions,
+    pub(crate) rights: Positions,
 }
 
 impl<'a> Known<'a> {
@@ -35,6 +37,8 @@ impl<'a> Known<'a> {
             parts: HashMap::new(alloc),
             texts: Vec::new(alloc),
             shapes,
+            lefts: Positions::new(alloc),
+            rights: Positions::new(alloc),
         }
     }
 
@@ -91,7 +95,7 @@ impl<'a> Known<'a> {
         }
         let n = self.texts.len();
         let shape = Shape::of(alloc, text)?;
-        let number = self.shapes.number_of(alloc, 0, &shape.text)?;
+        let number = self.shapes.number_of(alloc, &shape.text)?;
         let shaped = Shaped {
             text,
             shape,

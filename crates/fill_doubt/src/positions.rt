@@ -1,12 +1,12 @@
 //! The positions that the places of a set have in a text, and the pieces between two sets' positions.
-ghost use Rattle.std.specs.Prelude.{◌≡◌, ◌↔◌, ◌<◌, ◌≤◌, ℕ, Option, Some, false, IsTrue, IfOk, OnOk, length};
+ghost use Rattle.std.specs.Prelude.{◌≡◌, ◌↔◌, ◌≤◌, ℕ, Some, IsTrue, OnOk, length};
 ghost use Rattle.fill_arena.specs.Contents.{EachIn, IsPlaceSet};
 ghost use Rattle.fill_eval.specs.Piece.{IsWithin};
 ghost use Rattle.fill_doubt.specs.Answers.{AreBetween, AreBetweenFrom, Gains, Lack, PiecesHave, PositionsHave, between};
-ghost use Rattle.fill_doubt.specs.Gives.{PlaceGives};
 ghost use Rattle.fill_doubt.specs.Known.{AreKnown};
+ghost use Rattle.fill_doubt.specs.Placed.{ArePlaced};
 ghost use Rattle.fill_doubt.specs.Read.{IsReadIn};
-ghost use Rattle.fill_doubt.specs.Shapes.{IsShapeOf, ShapesStand};
+ghost use Rattle.fill_doubt.specs.Shapes.{IsReadAt, IsShapeOf, KeepsReads, ShapesStand};
 
 use crate::answers::{Pieces, Positions};
 use crate::carry::{carry, put_asked};
@@ -16,104 +16,108 @@ use crate::row::OnRow;
 use crate::shaped::Shaped;
 use crate::shapes::Shapes;
 use crate::spots::Spots;
-use fill_arena::{Arena, PlaceSet};
+use fill_arena::PlaceSet;
 use fill_eval::Piece;
 use fill_shapes::laws::values_are_stretched;
 use fill_text::{NoMemory, Text};
-use std::alloc::Global;
 
 /// How many characters a text has at most whose shape is looked at. A longer one has few twins, and lists of all that its
 /// tokens span would take more memory than the text.
 const LONG: usize = 8_192;
 
-/// Positions of the set's places in the text: two answers where few will do, and else all of them. What they take is found
-/// once for all texts of a shape; of a long text each place is asked, and nothing is kept.
-pub(crate) fn positions_of<'a>(
+/// The positions that the places of two sets have in the text, those of the left set and those of the right one: two answers
+/// where few will do, and else all of them. What they take is found once for all texts of a shape; of a long text each place
+/// is asked, and nothing is kept.
+pub(crate) fn find_positions<'a>(
     on: &OnRow<'a>,
     known: &mut Known<'a>,
-    s: PlaceSet,
     text: &'a Text,
+    lefts: PlaceSet,
+    rights: PlaceSet,
     few: bool,
-) -> Result<Positions, NoMemory>
-    requires set { IsPlaceSet on.now.arena.now s }
+) -> Result<(), NoMemory>
+    requires lefts { IsPlaceSet on.now.arena.now lefts }
+    requires rights { IsPlaceSet on.now.arena.now rights }
     requires known { AreKnown on.now known.old }
     ensures known { OnOk result (AreKnown on.now known.new) }
-    ensures sound { IfOk result (λ found. (o : Option ℕ) → PositionsHave found o → PlaceGives on.now.arena.now s text.now o) }
-    ensures all { IfOk result (λ found. few ≡ false → (o : Option ℕ) → PlaceGives on.now.arena.now s text.now o → PositionsHave found o) }
+    ensures lefts { OnOk result (ArePlaced on.now.arena.now lefts text.now few known.new.lefts) }
+    ensures rights { OnOk result (ArePlaced on.now.arena.now rights text.now few known.new.rights) }
 {
     if text.len() > LONG {
-        return long_positions(on, s, text, few);
+        long_positions(on, lefts, text, few, &mut known.lefts)?;
+        return long_positions(on, rights, text, few, &mut known.rights);
     }
     let n = known.number_of(on.alloc, text)?;
+    let shaped = &known.texts[n];
+    shape_positions(on, lefts, few, shaped, &mut known.shapes, &mut known.lefts)?;
     shape_positions(
-        on.alloc,
-        on.arena,
-        s,
+        on,
+        rights,
         few,
-        &known.texts[n],
+        shaped,
         &mut known.shapes,
+        &mut known.rights,
     )
 }
 
-/// The same of a long text, by asking one place after the other.
+/// The positions in a long text, by asking one place after the other.
 fn long_positions(
     on: &OnRow<'_>,
     s: PlaceSet,
     text: &Text,
     few: bool,
-) -> Result<Positions, NoMemory>
+    found: &mut Positions,
+) -> Result<(), NoMemory>
     requires set { IsPlaceSet on.now.arena.now s }
-    ensures sound { IfOk result (λ found. (o : Option ℕ) → PositionsHave found o → PlaceGives on.now.arena.now s text.now o) }
-    ensures all { IfOk result (λ found. few ≡ false → (o : Option ℕ) → PlaceGives on.now.arena.now s text.now o → PositionsHave found o) }
+    ensures { OnOk result (ArePlaced on.now.arena.now s text.now few found.new) }
 {
-    let mut found = Positions::new(on.alloc);
-    put_asked(&mut found, on.arena.places(s), text, few)?;
-    Ok(found)
+    found.clear();
+    put_asked(found, on.arena.places(s), text, few)
 }
 
 fn shape_positions(
-    alloc: Global,
-    arena: &Arena,
+    on: &OnRow<'_>,
     s: PlaceSet,
     few: bool,
     shaped: &Shaped,
     shapes: &mut Shapes,
-) -> Result<Positions, NoMemory>
-    requires set { IsPlaceSet arena.now s }
+    found: &mut Positions,
+) -> Result<(), NoMemory>
+    requires set { IsPlaceSet on.now.arena.now s }
     requires shape { IsShapeOf shaped.now }
-    requires stand { ShapesStand arena.now shapes.old }
-    ensures stand { OnOk result (ShapesStand arena.now shapes.new) }
-    ensures sound { IfOk result (λ found. (o : Option ℕ) → PositionsHave found o → PlaceGives arena.now s shaped.now.text.now o) }
-    ensures all { IfOk result (λ found. few ≡ false → (o : Option ℕ) → PlaceGives arena.now s shaped.now.text.now o → PositionsHave found o) }
+    requires there { IsReadAt shapes.old shaped.now.shape.text shaped.now.number }
+    requires stand { ShapesStand on.now.arena.now shapes.old }
+    ensures stand { OnOk result (ShapesStand on.now.arena.now shapes.new) }
+    ensures there { OnOk result (KeepsReads shapes.old shapes.new) }
+    ensures found { OnOk result (ArePlaced on.now.arena.now s shaped.now.text.now few found.new) }
 {
-    let n = shapes.number_of(alloc, shaped.number, &shaped.shape.text)?;
-    read_positions(alloc, arena, s, few, shaped, &mut shapes.reads[n])
+    let n = shaped.number;
+    read_positions(on, s, few, shaped, &mut shapes.reads[n], found)
 }
 
 fn read_positions(
-    alloc: Global,
-    arena: &Arena,
+    on: &OnRow<'_>,
     s: PlaceSet,
     few: bool,
     shaped: &Shaped,
     read: &mut Read,
-) -> Result<Positions, NoMemory>
-    requires set { IsPlaceSet arena.now s }
+    found: &mut Positions,
+) -> Result<(), NoMemory>
+    requires set { IsPlaceSet on.now.arena.now s }
     requires shape { IsShapeOf shaped.now }
     requires text { read.old.text ≡ shaped.now.shape.text }
-    requires read { IsReadIn arena.now read.old }
-    ensures read { OnOk result (IsReadIn arena.now read.new) }
-    ensures sound { IfOk result (λ found. (o : Option ℕ) → PositionsHave found o → PlaceGives arena.now s shaped.now.text.now o) }
-    ensures all { IfOk result (λ found. few ≡ false → (o : Option ℕ) → PlaceGives arena.now s shaped.now.text.now o → PositionsHave found o) }
+    requires read { IsReadIn on.now.arena.now read.old }
+    ensures read { OnOk result (IsReadIn on.now.arena.now read.new) }
+    ensures text { read.new.text ≡ read.old.text }
+    ensures found { OnOk result (ArePlaced on.now.arena.now s shaped.now.text.now few found.new) }
 {
     values_are_stretched();
     if let Some(spots) = read.spots_of(s) {
-        return carry(alloc, spots, shaped, few);
+        return carry(spots, shaped, few, found);
     }
-    let spots = Spots::of(alloc, arena, s, &read.text, &mut read.cuts)?;
-    let found = carry(alloc, &spots, shaped, few)?;
-    read.keep(s, spots)?;
-    Ok(found)
+    let spots = Spots::of(on.alloc, on.arena, s, &read.text, &mut read.cuts)?;
+    carry(&spots, shaped, few, found)?;
+    read.keep(s, spots)
 }
 
 /// Whether a left place without a value goes with some right one, or the other way round.

@@ -39,7 +39,8 @@ impl Read {
     }
 
     pub(crate) fn keep(&mut self, s: PlaceSet, found: Spots) -> Result<(), NoMemory>
-        ensures { OnOk result ((c : Items Kept) → IsReadIn c self.old → AreSpotsOf c s self.old.text found → IsReadIn c self.new) }
+        ensures text { self.new.text ≡ self.old.text }
+        ensures read { OnOk result ((c : Items Kept) → IsReadIn c self.old → AreSpotsOf c s self.old.text found → IsReadIn c self.new) }
     {
         match self.spots.insert(s, found) {
             Ok(_) => Ok(()),

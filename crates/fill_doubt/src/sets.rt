@@ -14,7 +14,7 @@ ghost use Rattle.fill_doubt.specs.Rows.{RowText, RowsHave};
 
 use crate::answers::{Pieces, Texts};
 use crate::known::Known;
-use crate::positions::{positions_of, put_between};
+use crate::positions::{find_positions, put_between};
 use crate::row::OnRow;
 use crate::rows::{Rows, look_up, no_conditions, put_in_front};
 use fill_arena::{AtomItem, AtomSet, ConditionItem, PlaceSet, SelectItem, SourceItem, SourceSet};
@@ -320,9 +320,8 @@ fn put_pieces<'a>(
     ensures some { OnOk result (GainsSome (PiecesHave found.old) (PiecesHave found.new) (SubGives on.now.arena.now lefts rights text.now)) }
     ensures all { OnOk result (few ≡ false → Gains (PiecesHave found.old) (PiecesHave found.new) (SubGives on.now.arena.now lefts rights text.now)) }
 {
-    let lefts = positions_of(on, known, lefts, text, few)?;
-    let rights = positions_of(on, known, rights, text, few)?;
-    put_between(found, text, &lefts, &rights)
+    find_positions(on, known, text, lefts, rights, few)?;
+    put_between(found, text, &known.lefts, &known.rights)
 }
 
 /// The texts of the atoms of a set.

@@ -1,7 +1,7 @@
 //! What was found of the shapes of texts, kept from row to row.
-ghost use Rattle.std.specs.Prelude.{◌≡◌, ◌++◌, ◌∷◌, [], List as Items, IsTrue, IfOk, IfSome, OnOk};
+ghost use Rattle.std.specs.Prelude.{◌≡◌, ◌++◌, ◌∷◌, [], List as Items, IfOk, IfSome, OnOk};
 ghost use Rattle.fill_arena.specs.declared.entry.Entry.{Entry as Kept};
-ghost use Rattle.fill_doubt.specs.Shapes.{IsReadAt, ShapesStand};
+ghost use Rattle.fill_doubt.specs.Shapes.{IsReadAt, KeepsReads, ShapesStand};
 
 use crate::read::Read;
 use fill_text::{NoMemory, Text};
@@ -45,40 +45,23 @@ impl Shapes {
         self.size = 0;
     }
 
-    /// Whether the shape with this text is the one of the number.
-    fn is_at(&self, n: usize, w: &Text) -> bool
-        ensures { IsTrue result → IsReadAt self.now w.now n }
-    {
-        if n >= self.reads.len() {
-            return false;
-        }
-        self.reads[n].text.same(w)
-    }
-
     fn find(&self, w: &Text) -> Option<usize>
         ensures { IfSome result (IsReadAt self.now w.now) }
     {
         for i in 0..self.reads.len() {
-            if self.is_at(i, w) {
+            if self.reads[i].text.same(w) {
                 return Some(i);
             }
         }
         None
     }
 
-    /// The number of the shape with this text, which it may have had before.
-    pub(crate) fn number_of(
-        &mut self,
-        alloc: Global,
-        before: usize,
-        w: &Text,
-    ) -> Result<usize, NoMemory>
+    /// The number of the shape with this text.
+    pub(crate) fn number_of(&mut self, alloc: Global, w: &Text) -> Result<usize, NoMemory>
         ensures stand { OnOk result ((c : Items Kept) → ShapesStand c self.old → ShapesStand c self.new) }
+        ensures kept { OnOk result (KeepsReads self.old self.new) }
         ensures there { IfOk result (IsReadAt self.new w.now) }
     {
-        if self.is_at(before, w) {
-            return Ok(before);
-        }
         if let Some(n) = self.find(w) {
             return Ok(n);
         }
@@ -87,6 +70,7 @@ impl Shapes {
 
     fn add(&mut self, alloc: Global, w: &Text) -> Result<usize, NoMemory>
         ensures stand { OnOk result ((c : Items Kept) → ShapesStand c self.old → ShapesStand c self.new) }
+        ensures kept { OnOk result (KeepsReads self.old self.new) }
         ensures there { IfOk result (IsReadAt self.new w.now) }
     {
         let read = Read::new(alloc, w.copy()?)?;

@@ -1,5 +1,5 @@
 use Rattle.std.proofs.Common.{◌≡◌, length, refl, arith}
-use Rattle.fill_doubt.specs.Shapes.{IsShapeOf}
+use Rattle.fill_doubt.specs.Shapes.{IsReadAt, IsShapeOf}
 use Rattle.fill_doubt.specs.declared.shaped.Shaped.{Shaped}
 use Rattle.fill_doubt.proofs.Cut.{last_at}
 use Rattle.fill_doubt.proofs.Maps.{pushed_right}
@@ -11,7 +11,8 @@ returns-clause-known c = λ on are.
     record {
       sources = are.sources;
       parts = are.parts;
-      texts = pushed_right IsShapeOf c.args.self.now.texts.items c.put_text.new.texts.items x c.in_ok-put_text.ensures c.in_ok-shape.ensures are.texts;
+      texts = pushed_right (λ (y : Shaped). IsShapeOf y × IsReadAt c.number_of.new.self y.shape.text y.number) c.args.self.now.texts.items c.put_text.new.texts.items x c.in_ok-put_text.ensures
+          (c.in_ok-shape.ensures, c.in_ok-number.ensures.there) (λ i y at. ((are.texts i y at).0, c.in_ok-number.ensures.kept y.shape.text y.number (are.texts i y at).1));
       shapes = c.in_ok-number.ensures.stand on.arena.now are.shapes;
     }
 

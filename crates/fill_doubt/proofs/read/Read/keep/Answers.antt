@@ -4,8 +4,8 @@ use Rattle.fill_doubt.specs.Spots.{AreSpotsOf}
 use Rattle.fill_doubt.proofs.Maps.{put_right}
 use Rattle.fill_doubt.proofs.read.Read.keep.Goals as goal
 
-pub returns-in-Ok : goal.returns-in-Ok
-returns-in-Ok c = λ entries are exact.
+pub returns-in-Ok-clause-read : goal.returns-in-Ok-clause-read
+returns-in-Ok-clause-read c = λ entries are exact.
     let u = c.in-Ok.ensures.updates in
     record {
       cuts = are.cuts;
