@@ -3,7 +3,8 @@ ghost use Rattle.std.specs.Prelude.{◌≤◌};
 
 use crate::session::{Kind, Work, accepted, goes, replay};
 use fill_session::Session;
-use fill_text::NoMemory;
+use fill_text::{List, NoMemory};
+use fill_tree::Program;
 use std::alloc::Global;
 use std::test::Fail;
 
@@ -47,5 +48,44 @@ fn finds(alloc: Global, text: &str, k: u32, count: usize) -> Result<bool, NoMemo
 fn the_first_programs_of_a_branch(rt: HostRuntime) -> Result<(), Fail> {
     assert!(rt; finds(rt.alloc(), "Smith", 3, 3)?);
     assert!(rt; finds(rt.alloc(), "", 20, 1)?);
+    Ok(())
+}
+
+/// The first program of the first branch, where there is one.
+fn first(alloc: Global, session: &Session) -> Result<List<Program>, NoMemory> {
+    if session.branches().len() == 0 {
+        return Ok(List::new(alloc));
+    }
+    session.best(alloc, 1, 1)
+}
+
+/// Whether the first branch, if there is one, explains its examples by the first of these programs.
+fn explains(session: &Session, programs: &[Program]) -> bool {
+    match programs.first() {
+        Some(program) => session.branches().len() > 0 && session.represents(1, program),
+        None => false,
+    }
+}
+
+/// A text for the first row and the one that it is corrected to, which the program of the first does not explain.
+struct Explained;
+
+impl Work for Explained {
+    fn goes(&self, alloc: Global, session: &mut Session) -> Result<bool, NoMemory> {
+        if !replay(alloc, session, &[accepted(Kind::Add, 1, "Smith")])? {
+            return Ok(false);
+        }
+        let programs = first(alloc, session)?;
+        if !explains(session, programs.as_slice()) {
+            return Ok(false);
+        }
+        let edits = [accepted(Kind::Correct, 1, "John")];
+        Ok(replay(alloc, session, &edits)? && !explains(session, programs.as_slice()))
+    }
+}
+
+#[test]
+fn a_program_explains_its_example_and_no_other_text(rt: HostRuntime) -> Result<(), Fail> {
+    assert!(rt; goes(rt.alloc(), "John Smith\n", &Explained)?);
     Ok(())
 }

@@ -369,8 +369,10 @@ impl Work for Corrections {
 /// The same after the session is cleared, for a text that is added.
 fn fills_again(alloc: Global, session: &mut Session, number: u32) -> Result<bool, NoMemory> {
     let digits = format!(in alloc; "{number}")?;
-    Ok(make(session, &Edit::Clear).is_none()
-        && stays_small(alloc, session, Kind::Add, digits.as_str())?)
+    Ok(
+        make(session, &Edit::Clear).is_none()
+            && stays_small(alloc, session, Kind::Add, digits.as_str())?,
+    )
 }
 
 /// A session that is cleared and filled again 400 times, where the spaces stay small.

@@ -8,6 +8,13 @@ const MONTHS: &[u8] =
 
 const PRICES: &[u8] = b"pen,2011,$1\npen,2012,$2\ncup,2011,$5\ncup,2012,$7\n";
 
+/// Three tables, each of which leads on to the next one.
+const FIRST: &[u8] = b"p,q\n";
+
+const SECOND: &[u8] = b"q,r\n";
+
+const THIRD: &[u8] = b"r,Monday\n";
+
 /// A sheet, the whole session over it, and its status and report.
 type Row = (&'static [u8], &'static str, u8, &'static [u8]);
 
@@ -18,6 +25,9 @@ fn holds(alloc: Global, (sheet, session, status, report): Row, most: usize) -> R
         ("s.csv", session.as_bytes()),
         ("months.csv", MONTHS),
         ("prices.csv", PRICES),
+        ("t1.csv", FIRST),
+        ("t2.csv", SECOND),
+        ("t3.csv", THIRD),
     ];
     let given = Given {
         read: most,
@@ -251,6 +261,55 @@ fn tables_are_looked_up(rt: HostRuntime) -> Result<(), Fail> {
     for row in rows {
         assert!(rt; holds(rt.alloc(), row, PLENTY)?, "{}", row.1);
         assert!(rt; holds(rt.alloc(), row, 1)?, "{}", row.1);
+    }
+    Ok(())
+}
+
+#[test]
+fn profiles_differ_in_tokens_depth_and_placing(rt: HostRuntime) -> Result<(), Fail> {
+    let rows: [Row; 6] = [
+        // A token that the first profile has not, and the same session under the first.
+        (
+            b"+a b\n #cc d\n",
+            "sheet,sheet.csv\ninputs,1\nprofile,2\nbegin\nadd,1,+a\nadd,2,#cc\nprograms\n",
+            0,
+            b"ok,add,1\nok,add,2\nbranch,1,else,\"Concat(Sub(Col(1),Pos([],[NonSpace],1),Pos([],[Space],-1)))\"\n",
+        ),
+        (
+            b"+a b\n #cc d\n",
+            "sheet,sheet.csv\ninputs,1\nprofile,1\nbegin\nadd,1,+a\nadd,2,#cc\nprograms\n",
+            0,
+            b"ok,add,1\nok,add,2\nbranch,1,\"!Match(1,[Space],2)\",\"Concat(Sub(Col(1),CPos(0),Pos([],[Space],1)))\"\nbranch,2,else,\"Concat(Sub(Col(1),Pos([],[Hash],1),Pos([],[Space],-1)))\"\n",
+        ),
+        // Three lookups one in another, and two at most.
+        (
+            b"p\n",
+            "sheet,sheet.csv\ninputs,1\nprofile,2\ndepth,3\ntable,a,t1.csv\nkey,a,1\ntable,b,t2.csv\nkey,b,1\ntable,c,t3.csv\nkey,c,1\nbegin\nadd,1,Monday\nprograms\n",
+            0,
+            b"ok,add,1\nbranch,1,else,\"Concat(Whole(Select(2,3,1,Whole(Select(2,2,1,Whole(Select(2,1,1,Whole(Col(1)))))))))\"\n",
+        ),
+        (
+            b"p\n",
+            "sheet,sheet.csv\ninputs,1\nprofile,2\ndepth,2\ntable,a,t1.csv\nkey,a,1\ntable,b,t2.csv\nkey,b,1\ntable,c,t3.csv\nkey,c,1\nbegin\nadd,1,Monday\nprograms\n",
+            0,
+            b"ok,add,1\nbranch,1,else,Concat(Const('Monday'))\n",
+        ),
+        // An example in the branch where it weighs least, and in the first that takes it.
+        (
+            b"A-\nk\nz\n",
+            "sheet,sheet.csv\ninputs,1\nprofile,2\nbegin\nadd,1,z\nadd,2,k\nadd,3,z\nprograms\n",
+            0,
+            b"ok,add,1\nok,add,2\nok,add,3\nbranch,1,\"Match(1,[Upper],1)\",Concat(Const('z'))\nbranch,2,else,Concat(Whole(Col(1)))\n",
+        ),
+        (
+            b"A-\nk\nz\n",
+            "sheet,sheet.csv\ninputs,1\nprofile,1\nbegin\nadd,1,z\nadd,2,k\nadd,3,z\nprograms\n",
+            1,
+            b"ok,add,1\nok,add,2\nrefused,add,3,no guard for branch 1\nbranch,1,\"Match(1,[Upper],1)\",Concat(Const('z'))\nbranch,2,else,Concat(Whole(Col(1)))\n",
+        ),
+    ];
+    for row in rows {
+        assert!(rt; holds(rt.alloc(), row, PLENTY)?, "{}", row.1);
     }
     Ok(())
 }
