@@ -54,7 +54,7 @@ impl Spoken {
         alloc: Global,
         session: &Session,
     ) -> Result<Vec<String>, NoMemory> {
-        match session.switch(alloc)? {
+        match session.switch()? {
             Some(switch) => Ok(rule_lines(alloc, &switch, self.names())?),
             None => Ok(Vec::new(alloc)),
         }
@@ -73,10 +73,10 @@ impl Spoken {
         requires last { row ≤ length session.now.spaces.ground.sheet.rows }
     {
         let mut line = String::new(alloc);
-        let Some(objection) = session.object(alloc, row)? else {
+        let Some(objection) = session.object(row)? else {
             return Ok(line);
         };
-        let answer = session.answer(alloc, row)?;
+        let answer = session.answer(row)?;
         put_answers(&mut line, &answer.text, &objection.text)?;
         if with_rule {
             line.push_str(" by: ")?;

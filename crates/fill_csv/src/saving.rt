@@ -195,7 +195,7 @@ pub(crate) fn saved_text(
     let Some(frame) = saving else {
         return Ok(None);
     };
-    match session.switch(alloc)? {
+    match session.switch()? {
         Some(switch) => Ok(Some(text_of(alloc, frame, switch)?)),
         None => Ok(None),
     }

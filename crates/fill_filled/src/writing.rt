@@ -121,7 +121,7 @@ fn write_row<O: Sink>(
     ensures memory { IsErrOf result Halt.NoMemory → out.new ≡ out.old }
     ensures later { O.faults out.old ≤ O.faults out.new }
 {
-    let answer = sheet.session.answer_with(alloc, shapes, row)?;
+    let answer = sheet.session.answer_with(shapes, row)?;
     let fields = row_fields(alloc, sheet, row, &answer)?;
     summary.add(row, state_of(sheet, row, &answer));
     let mut line = List::new(alloc);

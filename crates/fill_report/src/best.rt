@@ -95,7 +95,7 @@ pub(crate) fn write_best<O: Sink>(
     if !has_branch(session.branches(), branch) {
         return write_made(no_branch_record(alloc, branch), true, out);
     }
-    match session.best(alloc, branch, k) {
+    match session.best(branch, k) {
         Ok(programs) => write_programs(alloc, branch, programs.as_slice(), out),
         Err(NoMemory) => Err(Halt::NoMemory),
     }

@@ -58,7 +58,7 @@ fn object_record(alloc: Global, session: &Session, row: u32) -> Result<Record, N
     requires last { row ≤ length session.now.spaces.ground.sheet.rows }
     ensures { IfOk result (IsObjectRecord session.now.spaces.ground session.now.examples row) }
 {
-    match session.object(alloc, row) {
+    match session.object(row) {
         Ok(Some(objection)) => objection_record(alloc, row, &objection),
         Ok(None) => agreed_record(alloc, row),
         Err(NoMemory) => Err(NoMemory),

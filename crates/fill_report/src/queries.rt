@@ -101,7 +101,7 @@ fn switch_field(alloc: Global, switch: &Option<Switch>) -> Result<List<u8>, NoMe
 pub(crate) fn switch_record(alloc: Global, session: &Session) -> Result<Record, NoMemory>
     ensures { IfOk result (IsSwitchRecord session.now.spaces.ground session.now.examples) }
 {
-    let switch = session.switch(alloc)?;
+    let switch = session.switch()?;
     let text = switch_field(alloc, &switch)?;
     Record::of(alloc, b"switch")?.with(text.as_slice())
 }

@@ -87,7 +87,7 @@ pub(crate) fn row_record(alloc: Global, session: &Session, row: u32) -> Result<R
     requires last { row ≤ length session.now.spaces.ground.sheet.rows }
     ensures { IfOk result (IsRowRecord session.now.spaces.ground session.now.examples row) }
 {
-    let answer = session.answer(alloc, row)?;
+    let answer = session.answer(row)?;
     record_of(alloc, row, &answer)
 }
 
@@ -127,7 +127,6 @@ impl Counts {
 
 /// The answer on row `above + 1`; adds its state to `counts`.
 fn counted_answer(
-    alloc: Global,
     shapes: &mut Shapes,
     session: &Session,
     above: u32,
@@ -141,7 +140,7 @@ fn counted_answer(
     ensures answer { IfOk result (AnswerIs session.now.spaces.ground session.now.examples (above + 1)) }
     ensures counts { OnOk result (CountRows session.now.spaces.ground session.now.examples (above + 1) counts.new) }
 {
-    let answer = session.answer_with(alloc, shapes, above + 1)?;
+    let answer = session.answer_with(shapes, above + 1)?;
     counts.add(RowState::of(&answer));
     Ok(answer)
 }
@@ -162,7 +161,7 @@ pub(crate) fn counted_record(
     ensures made { IfOk result (IsRowRecord session.now.spaces.ground session.now.examples (above + 1)) }
     ensures counts { OnOk result (CountRows session.now.spaces.ground session.now.examples (above + 1) counts.new) }
 {
-    let answer = counted_answer(alloc, shapes, session, above, counts)?;
+    let answer = counted_answer(shapes, session, above, counts)?;
     record_of(alloc, above + 1, &answer)
 }
 
@@ -174,7 +173,7 @@ fn count_states(alloc: Global, session: &Session) -> Result<Counts, NoMemory>
     let mut counts = Counts::NONE;
     let rows = session.sheet().rows();
     for above in 0..rows {
-        counted_answer(alloc, &mut shapes, session, above, &mut counts)?;
+        counted_answer(&mut shapes, session, above, &mut counts)?;
     }
     Ok(counts)
 }

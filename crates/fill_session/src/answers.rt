@@ -52,7 +52,7 @@ pub(crate) fn answer_on(
         Some(k) => {
             let program = &shown[k].program;
             let text = program_value(alloc, program, row, spaces.sheet(), spaces.tables())?;
-            let state = state_of(alloc, shapes, spaces, examples, folds[k].kept, row)?;
+            let state = state_of(shapes, spaces, examples, folds[k].kept, row)?;
             Ok(Answer {
                 branch: k as u32 + 1,
                 text,
@@ -86,7 +86,7 @@ pub(crate) fn objector_on(
         Some(k) => {
             let program = &shown[k].program;
             let text = program_value(alloc, program, row, spaces.sheet(), spaces.tables())?;
-            spaces.object(alloc, folds[k].kept, row, text.as_ref())
+            spaces.object(folds[k].kept, row, text.as_ref())
         }
         None => Ok(None),
     }
@@ -122,7 +122,6 @@ fn takes(sheet: &Sheet, guard: Option<Guard>, row: u32) -> bool
 
 /// What is known of the answer on a row of the branch of this space.
 fn state_of(
-    alloc: Global,
     shapes: &mut Shapes,
     spaces: &Spaces,
     examples: &[Example],
@@ -139,7 +138,7 @@ fn state_of(
     if is_given(examples, row) {
         return Ok(State::Given);
     }
-    if spaces.doubt_with(alloc, shapes, space, row)? {
+    if spaces.doubt_with(shapes, space, row)? {
         Ok(State::Doubt)
     } else {
         Ok(State::Sure)

@@ -187,7 +187,7 @@ fn program_of(
     let folds = before.folds.branches();
     match program_before(alloc, folds, before.branches.as_slice(), space) {
         Ok(Some(program)) => Ok(program),
-        Ok(None) => spaces.least(alloc, space),
+        Ok(None) => spaces.least(space),
         Err(want) => Err(want),
     }
 }

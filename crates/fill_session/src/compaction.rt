@@ -84,7 +84,7 @@ pub(crate) fn compact(
 {
     renewed_folds_stand::<Spaces>();
     let mut live = live_spaces(alloc, present, history)?.into_vec();
-    spaces.compact(alloc, live.as_mut_slice())?;
+    spaces.compact(live.as_mut_slice())?;
     let (own, others) = live.as_slice().split_at(present.folds.kept().len());
     present.folds.renew(own);
     renew_states(history, others);

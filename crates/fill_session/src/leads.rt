@@ -32,14 +32,14 @@ pub(crate) fn leads_of(alloc: Global, session: &Session) -> Result<Vec<Lead>, No
     let count = session.branches().len() as u32;
     for k in 0..count {
         let space = session.space(k + 1);
-        let lead = lead_of(alloc, session.spaces(), space)?;
+        let lead = lead_of(session.spaces(), space)?;
         leads.push(lead)?;
     }
     Ok(leads)
 }
 
 /// The lead of a space.
-fn lead_of(alloc: Global, spaces: &Spaces, space: Space) -> Result<Lead, NoMemory>
+fn lead_of(spaces: &Spaces, space: Space) -> Result<Lead, NoMemory>
     requires { (l : Listed Example) × SpaceStands spaces.now space l }
     ensures space { IfOk result (λ lead. lead.space ≡ space) }
     ensures stands { IfOk result (LeadStands spaces.now) }
@@ -47,8 +47,8 @@ fn lead_of(alloc: Global, spaces: &Spaces, space: Space) -> Result<Lead, NoMemor
     spaces.arena().keeps_made();
     spaces.settings().profile.prices.keep_small();
     costs_are_present();
-    let guide = spaces.guide(alloc, space)?;
-    let candidates = spaces.best(alloc, space, CANDIDATES)?;
+    let guide = spaces.guide(space)?;
+    let candidates = spaces.best(space, CANDIDATES)?;
     Ok(Lead {
         space,
         guide,

@@ -244,7 +244,7 @@ impl Session {
 
     /// The first `k` programs that explain the examples of a branch, by the order of programs; all of them where they are
     /// fewer. The first one is the branch's own. Branches count from 1.
-    pub fn best(&self, alloc: Global, branch: u32, k: u32) -> Result<List<Program>, NoMemory>
+    pub fn best(&self, branch: u32, k: u32) -> Result<List<Program>, NoMemory>
         requires first { 1 ≤ branch }
         requires last { branch ≤ length self.now.branches }
         requires some { 1 ≤ k }
@@ -254,26 +254,21 @@ impl Session {
         ensures chosen { IfOk result (λ made. (list : Listed Example) → IsBranch self.now.spaces.ground self.now.examples branch list →
             BeginsWithChosen self.now.spaces.ground list (map program_tree made)) }
     {
-        self.spaces.best(alloc, self.space(branch), k)
+        self.spaces.best(self.space(branch), k)
     }
 
     /// The answer on a row of the sheet. Rows count from 1.
-    pub fn answer(&self, alloc: Global, row: u32) -> Result<Answer, NoMemory>
+    pub fn answer(&self, row: u32) -> Result<Answer, NoMemory>
         requires first { 1 ≤ row }
         requires last { row ≤ length self.now.spaces.ground.sheet.rows }
         ensures { IfOk result (AnswerIs self.now.spaces.ground self.now.examples row) }
     {
-        let mut shapes = Shapes::new(alloc);
-        self.answer_with(alloc, &mut shapes, row)
+        let mut shapes = Shapes::new(self.alloc);
+        self.answer_with(&mut shapes, row)
     }
 
     /// As [`Session::answer`], with what was found of the shapes of texts before, as long as the session stays as it is.
-    pub fn answer_with(
-        &self,
-        alloc: Global,
-        shapes: &mut Shapes,
-        row: u32,
-    ) -> Result<Answer, NoMemory>
+    pub fn answer_with(&self, shapes: &mut Shapes, row: u32) -> Result<Answer, NoMemory>
         requires first { 1 ≤ row }
         requires last { row ≤ length self.now.spaces.ground.sheet.rows }
         requires shapes { ShapesStand self.now.spaces.arena shapes.old }
@@ -282,7 +277,7 @@ impl Session {
     {
         let present = &self.present;
         answer_on(
-            alloc,
+            self.alloc,
             shapes,
             &self.spaces,
             present.examples.as_slice(),
@@ -294,7 +289,7 @@ impl Session {
 
     /// Who objects on a row to what is answered there: of the programs that explain the examples of the row's branch the
     /// least one that answers otherwise, with its value. Rows count from 1.
-    pub fn object(&self, alloc: Global, row: u32) -> Result<Option<Objection>, NoMemory>
+    pub fn object(&self, row: u32) -> Result<Option<Objection>, NoMemory>
         requires first { 1 ≤ row }
         requires last { row ≤ length self.now.spaces.ground.sheet.rows }
         ensures objector { IfOk result (λ found. ObjectorIs self.now.spaces.ground self.now.examples row (option_map objection_tree found)) }
@@ -302,7 +297,7 @@ impl Session {
         ensures few { IfOk result (λ found. IfSome found (λ o. program_cost self.now.spaces.ground.settings.profile.prices (program_tree o.program) < 2 ^ 64)) }
     {
         self.spaces.tables().keeps_keys();
-        objector_on(alloc, &self.spaces, &self.present, row)
+        objector_on(self.alloc, &self.spaces, &self.present, row)
     }
 
     /// Which row to look at next: first the rows in doubt without an answer, then that whose objector comes first by the
@@ -321,10 +316,10 @@ impl Session {
     }
 
     /// The conditional program; none where there is no branch.
-    pub fn switch(&self, alloc: Global) -> Result<Option<Switch>, NoMemory>
+    pub fn switch(&self) -> Result<Option<Switch>, NoMemory>
         ensures { IfOk result (λ made. (branches : Listed BranchData) × AreBranches self.now.spaces.ground self.now.examples branches
             × (option_map switch_tree made ≡ switch_of branches)) }
     {
-        switch_from(alloc, self.present.branches.as_slice())
+        switch_from(self.alloc, self.present.branches.as_slice())
     }
 }

@@ -168,7 +168,7 @@ fn searched_on(
     ensures few { IfOk result (λ found. IfSome found (IsFew asking.now.session.now.spaces.ground.settings.profile.prices)) }
 {
     asking.session.spaces().tables().keeps_keys();
-    let answer = asking.session.answer_with(asking.alloc, shapes, row)?;
+    let answer = asking.session.answer_with(shapes, row)?;
     if !is_asked(&answer, asking.silent) {
         return Ok(None);
     }
@@ -249,15 +249,11 @@ fn objector_within(
     ensures few { IfOk result (λ found. IfSome found (λ o. program_cost asking.now.session.now.spaces.ground.settings.profile.prices (program_tree o.program) < 2 ^ 64)) }
 {
     let Some(limit) = limit else {
-        return asking.session.object(asking.alloc, row);
+        return asking.session.object(row);
     };
     let lead = &asking.leads[answer.branch as usize - 1];
-    asking.session.spaces().object_within(
-        asking.alloc,
-        &lead.guide,
-        lead.space,
-        row,
-        answer.text.as_ref(),
-        limit,
-    )
+    asking
+        .session
+        .spaces()
+        .object_within(&lead.guide, lead.space, row, answer.text.as_ref(), limit)
 }

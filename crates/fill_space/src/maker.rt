@@ -87,7 +87,7 @@ impl Maker for Spaces {
         self.arena.keeps_made();
         let prices = &self.ground.settings.profile.prices;
         prices.keep_small();
-        let program = self.least(self.alloc, kept)?;
+        let program = self.least(kept)?;
         let Some(cost) = program.cost(prices) else {
             unreachable!()
         };

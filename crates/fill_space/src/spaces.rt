@@ -109,12 +109,12 @@ impl Spaces {
     }
 
     /// The chosen program of the examples that the space stands for.
-    pub fn least(&self, alloc: Global, s: Space) -> Result<Program, NoMemory>
+    pub fn least(&self, s: Space) -> Result<Program, NoMemory>
         requires { (l : Listed Example) × SpaceStands self.now s l }
         ensures { IfOk result (λ p. (l : Listed Example) → SpaceStands self.now s l → ChosenOn self.now.ground l (program_tree p)) }
     {
         fill_rank::least(
-            alloc,
+            self.alloc,
             &self.ground.settings.profile.prices,
             &self.arena,
             s.graph(),
@@ -123,21 +123,20 @@ impl Spaces {
 
     /// The first `k` programs that explain the examples that the space stands for, by the order of programs; all of them
     /// where they are fewer.
-    pub fn best(&self, alloc: Global, s: Space, k: u32) -> Result<List<Program>, NoMemory>
+    pub fn best(&self, s: Space, k: u32) -> Result<List<Program>, NoMemory>
         requires stands { (l : Listed Example) × SpaceStands self.now s l }
         requires some { 1 ≤ k }
         requires few { k ≤ 20 }
         ensures { IfOk result (λ made. (l : Listed Example) → SpaceStands self.now s l → AreBestOn self.now.ground l k (map program_tree made)) }
     {
         let prices = &self.ground.settings.profile.prices;
-        fill_best::best(alloc, prices, &self.arena, s.graph(), k)
+        fill_best::best(self.alloc, prices, &self.arena, s.graph(), k)
     }
 
     /// Of the programs that explain the examples of the space the least one whose answer on a row is not the one that was
     /// said (a text or none), with its value. Rows count from 1.
     pub fn object(
         &self,
-        alloc: Global,
         s: Space,
         row: u32,
         said: Option<&Text>,
@@ -151,7 +150,7 @@ impl Spaces {
     {
         let ground = &self.ground;
         fill_object::object(
-            alloc,
+            self.alloc,
             &ground.settings.profile.prices,
             &self.arena,
             s.graph(),
@@ -163,19 +162,18 @@ impl Spaces {
     }
 
     /// What leads the search for objections in a space, on any row.
-    pub fn guide(&self, alloc: Global, s: Space) -> Result<Guide, NoMemory>
+    pub fn guide(&self, s: Space) -> Result<Guide, NoMemory>
         requires { (l : Listed Example) × SpaceStands self.now s l }
         ensures { IfOk result (GuideStands self.now s) }
     {
         let prices = &self.ground.settings.profile.prices;
-        fill_object::guide_of(alloc, prices, &self.arena, s.graph())
+        fill_object::guide_of(self.alloc, prices, &self.arena, s.graph())
     }
 
     /// As [`Spaces::object`], if the program costs no more than the limit; none where each program that answers otherwise
     /// costs more. The guide is that of the space.
     pub fn object_within(
         &self,
-        alloc: Global,
         guide: &Guide,
         s: Space,
         row: u32,
@@ -192,7 +190,7 @@ impl Spaces {
     {
         let ground = &self.ground;
         let on = OnRow {
-            alloc,
+            alloc: self.alloc,
             prices: &ground.settings.profile.prices,
             arena: &self.arena,
             row,
@@ -211,24 +209,18 @@ impl Spaces {
     }
 
     /// Whether two programs that explain the examples of the space answer differently on a row. Rows count from 1.
-    pub fn doubt(&self, alloc: Global, s: Space, row: u32) -> Result<bool, NoMemory>
+    pub fn doubt(&self, s: Space, row: u32) -> Result<bool, NoMemory>
         requires stands { (l : Listed Example) × SpaceStands self.now s l }
         requires first { 1 ≤ row }
         requires last { row ≤ length self.now.ground.sheet.rows }
         ensures { IfOk result (λ b. (l : Listed Example) → SpaceStands self.now s l → IsTrue b ↔ IsDoubtful self.now.ground l row) }
     {
-        let mut shapes = Shapes::new(alloc);
-        self.doubt_with(alloc, &mut shapes, s, row)
+        let mut shapes = Shapes::new(self.alloc);
+        self.doubt_with(&mut shapes, s, row)
     }
 
     /// As [`Spaces::doubt`], with what was found of the shapes of texts before, for any of these spaces and any row.
-    pub fn doubt_with(
-        &self,
-        alloc: Global,
-        shapes: &mut Shapes,
-        s: Space,
-        row: u32,
-    ) -> Result<bool, NoMemory>
+    pub fn doubt_with(&self, shapes: &mut Shapes, s: Space, row: u32) -> Result<bool, NoMemory>
         requires stands { (l : Listed Example) × SpaceStands self.now s l }
         requires first { 1 ≤ row }
         requires last { row ≤ length self.now.ground.sheet.rows }
@@ -238,7 +230,7 @@ impl Spaces {
     {
         let ground = &self.ground;
         fill_doubt::doubt_with(
-            alloc,
+            self.alloc,
             shapes,
             &self.arena,
             s.graph(),
@@ -252,7 +244,7 @@ impl Spaces {
     ///
     /// Each listed space is replaced by one that stands for the same examples. Other spaces, and marks that were taken
     /// before, are void. It takes no step, and time that is linear in the sets and graphs so far.
-    pub fn compact(&mut self, alloc: Global, live: &mut [Space]) -> Result<(), NoMemory>
+    pub fn compact(&mut self, live: &mut [Space]) -> Result<(), NoMemory>
         requires { EachIn (λ k. (l : Listed Example) × SpaceStands self.old k l) live.old }
         ensures length { length live.new ≡ length live.old }
         ensures ground { self.new.ground ≡ self.old.ground }
@@ -261,9 +253,9 @@ impl Spaces {
         ensures err { OnErr result (self.new ≡ self.old) }
         ensures live_err { OnErr result (live.new ≡ live.old) }
     {
-        let listed = graphs_of(alloc, live)?;
-        let mut graphs = graphs_of(alloc, live)?;
-        self.arena = self.arena.copy(alloc, graphs.as_mut_slice())?;
+        let listed = graphs_of(self.alloc, live)?;
+        let mut graphs = graphs_of(self.alloc, live)?;
+        self.arena = self.arena.copy(self.alloc, graphs.as_mut_slice())?;
         let copies = graphs.as_slice();
         let known = known_copies(self.alloc, listed.as_slice(), copies);
         self.met = carry_met(self.alloc, &self.met, &known);

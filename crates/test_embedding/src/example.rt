@@ -38,7 +38,7 @@ fn answers(alloc: Global, session: &Session) -> Result<Vec<Answer>, NoMemory> {
     let mut answers = Vec::new(alloc);
     let rows = session.sheet().rows();
     for above in 0..rows {
-        answers.push(session.answer_with(alloc, &mut shapes, above + 1)?)?;
+        answers.push(session.answer_with(&mut shapes, above + 1)?)?;
     }
     Ok(answers)
 }

@@ -9,14 +9,14 @@ use std::alloc::Global;
 use std::test::Fail;
 
 /// How many programs are the first `k` of the first branch; none where there is no branch.
-fn found(alloc: Global, session: &Session, k: u32) -> Result<usize, NoMemory>
+fn found(session: &Session, k: u32) -> Result<usize, NoMemory>
     requires some { 1 ≤ k }
     requires few { k ≤ 20 }
 {
     if session.branches().len() == 0 {
         return Ok(0);
     }
-    let programs = session.best(alloc, 1, k)?;
+    let programs = session.best(1, k)?;
     Ok(programs.len())
 }
 
@@ -35,7 +35,7 @@ impl Work for First<'_> {
         if k < 1 || 20 < k || !replay(alloc, session, &edits)? {
             return Ok(false);
         }
-        Ok(found(alloc, session, k)? == count)
+        Ok(found(session, k)? == count)
     }
 }
 
@@ -56,7 +56,7 @@ fn first(alloc: Global, session: &Session) -> Result<List<Program>, NoMemory> {
     if session.branches().len() == 0 {
         return Ok(List::new(alloc));
     }
-    session.best(alloc, 1, 1)
+    session.best(1, 1)
 }
 
 /// Whether the first branch, if there is one, explains its examples by the first of these programs.

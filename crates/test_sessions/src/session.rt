@@ -195,7 +195,7 @@ fn answers_with(
     requires shapes { ShapesStand session.now.spaces.arena shapes.old }
     ensures { ShapesStand session.now.spaces.arena shapes.new }
 {
-    let answer = session.answer_with(alloc, shapes, wanted.row)?;
+    let answer = session.answer_with(shapes, wanted.row)?;
     is_wanted(alloc, &answer, wanted)
 }
 

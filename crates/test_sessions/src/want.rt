@@ -9,33 +9,28 @@ use std::alloc::Global;
 use std::test::Fail;
 
 /// The branch and the state of the last row.
-fn last_row(alloc: Global, session: &Session) -> Result<(u32, State), NoMemory> {
+fn last_row(session: &Session) -> Result<(u32, State), NoMemory> {
     let row = session.sheet().rows();
     if row == 0 {
         return Err(NoMemory);
     }
-    let answer = session.answer(alloc, row)?;
+    let answer = session.answer(row)?;
     Ok((answer.branch, answer.state))
 }
 
 /// Whether the last row is answered as before, and the edit is accepted now.
-fn again(
-    alloc: Global,
-    session: &mut Session,
-    edit: &Edit,
-    before: (u32, State),
-) -> Result<bool, NoMemory> {
-    let after = last_row(alloc, session)?;
+fn again(session: &mut Session, edit: &Edit, before: (u32, State)) -> Result<bool, NoMemory> {
+    let after = last_row(session)?;
     Ok(after == before && make(session, edit).is_none())
 }
 
 /// Whether an edit is accepted, given once more where memory was wanted. Then the last row is answered as before.
 fn is_accepted(alloc: Global, session: &mut Session, tried: &Tried) -> Result<bool, NoMemory> {
-    let before = last_row(alloc, session)?;
+    let before = last_row(session)?;
     let edit = edit_of(alloc, tried)?;
     match make(session, &edit) {
         None => Ok(true),
-        Some(EditError::NoMemory) => again(alloc, session, &edit, before),
+        Some(EditError::NoMemory) => again(session, &edit, before),
         Some(_) => Ok(false),
     }
 }

@@ -72,7 +72,7 @@ fn learned_last_word(alloc: Global, spaces: &Spaces, space: Space) -> Result<boo
 {
     let weight = spaces.weight(space)?;
     let program = last_word(alloc)?;
-    let least = spaces.least(alloc, space)?;
+    let least = spaces.least(space)?;
     Ok(
         least.compare(&program) == Ordering::Equal
             && spaces.holds(space, &program)
@@ -82,21 +82,16 @@ fn learned_last_word(alloc: Global, spaces: &Spaces, space: Space) -> Result<boo
 }
 
 /// Whether the rows 3 to 5 have these flags.
-fn have_flags(
-    alloc: Global,
-    spaces: &Spaces,
-    space: Space,
-    flags: [bool; 3],
-) -> Result<bool, NoMemory>
+fn have_flags(spaces: &Spaces, space: Space, flags: [bool; 3]) -> Result<bool, NoMemory>
     requires { (l : List Given) × SpaceStands spaces.now space l }
 {
     if spaces.sheet().rows() < 5 {
         return Ok(false);
     }
     Ok(
-        spaces.doubt(alloc, space, 3)? == flags[0]
-            && spaces.doubt(alloc, space, 4)? == flags[1]
-            && spaces.doubt(alloc, space, 5)? == flags[2],
+        spaces.doubt(space, 3)? == flags[0]
+            && spaces.doubt(space, 4)? == flags[1]
+            && spaces.doubt(space, 5)? == flags[2],
     )
 }
 
@@ -109,10 +104,7 @@ fn learns<L: Ledger>(
     let Some(space) = joined(alloc, spaces, "Cd", "Ijk", steps)? else {
         return Ok(false);
     };
-    Ok(
-        learned_last_word(alloc, spaces, space)?
-            && have_flags(alloc, spaces, space, [false, true, true])?,
-    )
+    Ok(learned_last_word(alloc, spaces, space)? && have_flags(spaces, space, [false, true, true])?)
 }
 
 /// Whether a cut leaves nothing of a space.
@@ -129,12 +121,12 @@ fn is_cut_away<L: Ledger>(
 }
 
 /// The space in place of the given one where all others are forgotten.
-fn alone(alloc: Global, spaces: &mut Spaces, space: Space) -> Result<Space, NoMemory>
+fn alone(spaces: &mut Spaces, space: Space) -> Result<Space, NoMemory>
     requires { (l : List Given) × SpaceStands spaces.old space l }
     ensures { IfOk result (λ s. (l : List Given) × SpaceStands spaces.new s l) }
 {
     let mut live = [space];
-    spaces.compact(alloc, &mut live)?;
+    spaces.compact(&mut live)?;
     Ok(live[0])
 }
 
@@ -148,7 +140,7 @@ fn learns_alone<L: Ledger>(
         return Ok(false);
     };
     let size = spaces.size();
-    let space = alone(alloc, spaces, space)?;
+    let space = alone(spaces, space)?;
     Ok(learned_last_word(alloc, spaces, space)? && spaces.size() < size)
 }
 
