@@ -126,3 +126,16 @@ fn questions_need_an_input_and_an_output(rt: HostRuntime) -> Result<(), Fail> {
     assert_eq!(rt; status_of(rt.alloc(), LABEL, &["--ask", "--quiet"])?, 2);
     Ok(())
 }
+
+/// The text of the third row clashes with that of the second, so it is not learned from.
+#[test]
+fn a_filled_cell_is_not_asked_about(rt: HostRuntime) -> Result<(), Fail> {
+    let row = Row {
+        sheet: b"x,y\na,a\na,b\n",
+        words: &["s.csv", "--to", "y"],
+        input: b"c\n",
+        examples: &[],
+    };
+    assert!(rt; is_alike(rt.alloc(), &row)?);
+    Ok(())
+}
