@@ -1,5 +1,5 @@
 -- What is told of a graph's programs, by what is found on its edges.
-use Rattle.std.proofs.Common.{◌≡◌, ◌↔◌, ℕ, zero, suc, ◌-◌, List, [], ◌∷◌, ◌++◌, length, take, drop, refl, ap, Bool, true, false, Option, None, Some, Result, Ok, Err, IfOk, OnOk, IsTrue, MatchBool, MatchOption, slice_get, ◌∙◌, sym, subst, arith}
+use Rattle.std.proofs.Common.{◌≡◌, ◌↔◌, ℕ, ◌-◌, List, ◌++◌, length, take, Bool, true, false, Option, None, Some, Result, Ok, Err, IfOk, OnOk, IsTrue, MatchBool, MatchOption, slice_get, ◌∙◌, sym, subst, arith}
 use Rattle.std.proofs.lemmas.Bool.{false≢true}
 use Rattle.std.proofs.lemmas.List.{take_all, take-append-le}
 use Rattle.fill_arena.specs.Contents.{HasEdges, HasNodes, SomeIn}
@@ -86,12 +86,3 @@ lacks_one G nodes edges fine i e at none = by (fine.answers i e at).0 (fine.answ
     by : (o : Option (List ℕ)) → G e o → SomeIn (λ d. G d None) edges
     by None g = (e, (i, at), g)
     by (Some t) g = absurd (none t g)
-
-pub drop_whole : {A : Type 0} (xs : List A) → drop (length xs) xs ≡ []
-drop_whole [] = refl
-drop_whole (x ∷ xs) = drop_whole xs
-
-pub drop_here : {A : Type 0} (xs : List A) (n : ℕ) (x : A) → slice_get xs n ≡ Some x → drop n xs ≡ x ∷ drop (suc n) xs
-drop_here [] n x h = absurd cc
-drop_here (y ∷ xs) zero x h = let e : y ≡ x = cc in ap (λ z. z ∷ xs) e
-drop_here (y ∷ xs) (suc n) x h = drop_here xs n x h

@@ -1,6 +1,7 @@
 -- The answers of sets, by the items that the sets list.
-use Rattle.std.proofs.Common.{◌≡◌, ◌↔◌, ◌⊎◌, inl, inr, ⊎_elim, ℕ, ◌≤◌, length, List, [], ◌∷◌, Bool, true, false, ◌||◌, Option, None, Some, IfSome, option_map, slice_get, refl, sym, ap, subst, ◌∙◌}
+use Rattle.std.proofs.Common.{◌≡◌, ◌↔◌, ◌⊎◌, inl, inr, ⊎_elim, ℕ, suc, ◌≤◌, length, drop, List, [], ◌∷◌, ◌++◌, Bool, true, false, ◌||◌, Option, None, Some, IfSome, option_map, slice_get, refl, sym, ap, subst, ◌∙◌}
 use Rattle.std.proofs.lemmas.Bool.{false≢true}
+use Rattle.std.proofs.lemmas.List.{drop_all}
 use Rattle.fill_text.specs.Data.{SheetData, TableData, cell_at}
 use Rattle.fill_tokens.specs.Value.{HasValue}
 use Rattle.fill_tokens.specs.declared.place.Place.{Place}
@@ -25,10 +26,12 @@ use Rattle.fill_eval.proofs.Pieces.{filled_of, filled_of_none, between_of, betwe
 use Rattle.fill_doubt.specs.Answers.{AreBetween, between, AreJoined, PiecesHave}
 use Rattle.fill_doubt.specs.Gives.{PlaceGives, SubGives, WholeOf, AreWholes, ArePiecesOf}
 use Rattle.fill_doubt.specs.Known.{IsOnRow, SourceAnswers, AtomAnswers, PartAnswers, SourceItemAnswers, PartItemAnswers, ConstantItemAnswers, ConditionPartAnswers, IsChoiceOf, ChoiceAnswers, IsRowOf, RowAnswers}
-use Rattle.fill_doubt.specs.Rows.{Choice, RowText, ChosenBy, ChoicesHave, in_front, RowFinds, AreFound}
+use Rattle.fill_doubt.specs.Rows.{CellsHave, Choice, RowText, RowsHave, ChosenBy, ChoicesHave, in_front, RowFinds, AreFound}
+use Rattle.fill_doubt.specs.declared.conditions.Cells.{Cells}
 use Rattle.fill_doubt.specs.declared.answers.Pieces.{Pieces}
 use Rattle.fill_doubt.specs.declared.row.OnRow.{OnRow}
 use Rattle.fill_doubt.proofs.Answered.{answer_one, place_answer, between_is, source_answer, conditions_answer, condition_answer, put_front, head_is}
+use Rattle.fill_doubt.proofs.Appended.{append_assoc, append_none, drop_here}
 use Rattle.fill_doubt.proofs.Filled.{atom_items, items_atom, source_items, items_source, place_stands}
 
 -- pieces between places of two sets, by the sets' positions
@@ -121,6 +124,10 @@ true_parts (more (sub s p q) rest) h = refl
 
 row_eq : (r u : RowText) → r.texts ≡ u.texts → r.part ≡ u.part → r ≡ u
 row_eq r u e f = ap (λ ts. let v : RowText = record { texts = ts; part = r.part } in v) e ∙ ap (λ b. let v : RowText = record { texts = u.texts; part = b } in v) f
+
+-- with the texts of the conditions from a number on, those before it are the texts of all
+abbrev pub AreJoinedTo : OnRow → List ConditionItem → ℕ → List Cells → Type 0
+AreJoinedTo on items k made = (cs : List Cells) → ((o : Option RowText) → RowsHave cs o ↔ RowAnswers on (drop k items) o) → (o : Option RowText) → RowsHave (made ++ cs) o ↔ RowAnswers on items o
 
 module _ (on : OnRow) (ok : IsOnRow on) where
   abbrev arena : List Entry
@@ -377,14 +384,29 @@ module _ (on : OnRow) (ok : IsOnRow on) where
           let texts = answer_one (IsHeadAndTail P Q) (option_map (λ y. y.texts) o) (put_front (option_map (λ y. y.text) x.0) (option_map (λ y. y.texts) r.0)) v both in
           (x.0, r.0, (a, fits.0, is_first, x.2), (rest, fits.1, is_rest, r.2), same_row (more a rest) o (in_front x.0 r.0) (texts ∙ sym (texts_of x.0 r.0)) c (row_of a rest x.0 r.0 x.2 r.2))
 
-  -- the same for answers that were found
-  pub rows_by : (i : ConditionItem) (is : List ConditionItem) (parts : Pieces) (R : Option RowText → Type 0) → ((o : Option (List ℕ)) → PiecesHave parts o ↔ ConditionPartAnswers on i.atoms o)
-      → ((o : Option RowText) → R o ↔ RowAnswers on is o) → (o : Option RowText) → AreJoined in_front (ChoicesHave i.constant parts) R o ↔ RowAnswers on (i ∷ is) o
-  rows_by i is parts R exact rows o =
+  -- the texts of a condition in front of those of others
+  conditions_by : (i : ConditionItem) (is : List ConditionItem) (c : Cells) (cs : List Cells) → ((x : Option Choice) → CellsHave c x ↔ ChoiceAnswers on i x) → ((o : Option RowText) → RowsHave cs o ↔ RowAnswers on is o)
+      → (o : Option RowText) → RowsHave (c ∷ cs) o ↔ RowAnswers on (i ∷ is) o
+  conditions_by i is c cs first rows o =
       let row = longer_row i is o in (
-        (λ h. row.0 (h.0, h.1, (choices_item i parts exact h.0).0 h.2, (rows h.1).0 h.3, h.4)),
-        (λ g. let h = row.1 g in (h.0, h.1, (choices_item i parts exact h.0).1 h.2, (rows h.1).1 h.3, h.4)),
+        (λ h. row.0 (h.0, h.1, (first h.0).0 h.2, (rows h.1).0 h.3, h.4)),
+        (λ g. let h = row.1 g in (h.0, h.1, (first h.0).1 h.2, (rows h.1).1 h.3, h.4)),
       )
+
+  pub joined_start : (items : List ConditionItem) (made : List Cells) → made ≡ [] → AreJoinedTo on items 0 made
+  joined_start items made none cs h o = subst (λ (ms : List Cells). RowsHave (ms ++ cs) o ↔ RowAnswers on items o) (sym none) (h o)
+
+  pub joined_more : (items : List ConditionItem) (k : ℕ) (x : ConditionItem) → slice_get items k ≡ Some x → (made new : List Cells) (c : Cells) → new ≡ made ++ c ∷ [] → ((y : Option Choice) → CellsHave c y ↔ ChoiceAnswers on x y)
+      → AreJoinedTo on items k made → AreJoinedTo on items (suc k) new
+  joined_more items k x at made new c is exact before cs h o =
+      subst (λ (ms : List Cells). RowsHave (ms ++ cs) o ↔ RowAnswers on items o) (sym is)
+      (subst (λ (ms : List Cells). RowsHave ms o ↔ RowAnswers on items o) (append_assoc made (c ∷ []) cs)
+      (before (c ∷ cs) (λ q. subst (λ (xs : List ConditionItem). RowsHave (c ∷ cs) q ↔ RowAnswers on xs q) (sym (drop_here items k x at)) (conditions_by x (drop (suc k) items) c cs exact h q)) o))
+
+  pub joined_end : (items : List ConditionItem) (k : ℕ) (made : List Cells) → length items ≤ k → AreJoinedTo on items k made → (o : Option RowText) → RowsHave made o ↔ RowAnswers on items o
+  joined_end items k made past before o =
+      subst (λ (ms : List Cells). RowsHave ms o ↔ RowAnswers on items o) (append_none made)
+      (before [] (λ q. subst (λ (xs : List ConditionItem). RowsHave [] q ↔ RowAnswers on xs q) (sym (drop_all k items past)) (no_rows q)) o)
 
   pub lookups_by : (i : SelectItem) (R : Option RowText → Type 0) → ((o : Option RowText) → R o ↔ RowAnswers on i.conditions o) → (o : Option (List ℕ))
       → AreFound tables i.column i.table i.key R o ↔ SourceItemAnswers on (Select i) o

@@ -1,5 +1,7 @@
 mod Answered
+mod Appended
 mod Carried
+mod Covered
 mod Cut
 mod Filled
 mod Flags
@@ -8,6 +10,7 @@ mod Hopped
 mod Items
 mod Joins
 mod Kept
+mod Keyed
 mod Laid
 mod Maps
 mod Marks
@@ -19,3 +22,4 @@ mod Spelling
 mod Spotted
 mod Tables
 mod Walked
+mod Ways

@@ -28,6 +28,12 @@ Gains {A} old new R = (o : Option A) → new o ↔ (old o ⊎ R o)
 abbrev pub GainsSome : {A : Type 0} → (Option A → Type 0) → (Option A → Type 0) → (Option A → Type 0) → Type 0
 GainsSome {A} old new R = (o : Option A) → new o → old o ⊎ R o
 
+-- the answers are the old ones and some of those of the property, among them all that are sought
+pub record Covers {A : Type 0} (sought old new R : Option A → Type 0) : Type 0 where
+  pub some : GainsSome old new R
+  pub kept : (o : Option A) → old o → new o
+  pub all : (o : Option A) → sought o → R o → new o
+
 -- no value on the one side goes with some answer of the other
 abbrev pub Lack : {A B : Type 0} → (Option A → Type 0) → (Option B → Type 0) → Type 0
 Lack {A} {B} L R = (L None × ((b : Option B) × R b)) ⊎ (R None × ((a : Option A) × L a))

@@ -1,12 +1,13 @@
 -- The texts of conditions, one for each, and what lookups find by them.
-use Rattle.std.specs.Prelude.{◌≡◌, ℕ, List, ◌∷◌, Bool, true, false, ◌||◌, Option, None, Some, map}
+use Rattle.std.specs.Prelude.{◌≡◌, ◌⊎◌, ℕ, List, [], ◌∷◌, ◌++◌, Bool, true, false, ◌||◌, Option, None, Some}
 use Rattle.fill_text.specs.Data.{TableData}
+use Rattle.fill_tables.specs.Keys.{IsKeyedRow}
 use Rattle.fill_tree.specs.Value.{IsValue, LooksUp}
-use Rattle.fill_arena.specs.Contents.{SomeIn}
-use Rattle.fill_doubt.specs.Answers.{Have, PiecesHave}
+use Rattle.fill_doubt.specs.Answers.{AreJoined, Have, PiecesHave}
 use Rattle.fill_doubt.specs.declared.answers.Pieces.{Pieces}
-use Rattle.fill_doubt.specs.declared.rows.Cells.{Cells}
-use Rattle.fill_doubt.specs.declared.rows.Rows.{Rows}
+use Rattle.fill_doubt.specs.declared.conditions.Cell.{Cell}
+use Rattle.fill_doubt.specs.declared.conditions.Cells.{Cells}
+use Rattle.fill_doubt.specs.declared.rows.Look.{Look}
 
 -- a condition's text, and whether the condition is no constant
 pub record Choice : Type 0 where
@@ -20,12 +21,6 @@ pub record RowText : Type 0 where
 
 abbrev pub choice_of : List ℕ → Bool → Choice
 choice_of t b = record { text = t; part = b }
-
-abbrev pub cells_row : Cells → RowText
-cells_row x = record { texts = map (λ cell. cell.now) x.cells.items; part = x.part }
-
-abbrev pub RowsHave : Rows → Option RowText → Type 0
-RowsHave f = Have cells_row f.rows.items f.none
 
 -- the texts of an item's conditions: its constant's, and those of its parts
 abbrev pub ChosenBy : Bool → List ℕ → Option (List ℕ) → Pieces → Type 0
@@ -42,8 +37,17 @@ in_front None r = None
 in_front (Some x) None = None
 in_front (Some x) (Some r) = Some (record { texts = x.text ∷ r.texts; part = x.part || r.part })
 
-abbrev pub AreInFront : Choice → List Cells → Option RowText → Type 0
-AreInFront x rows o = SomeIn (λ r. o ≡ in_front (Some x) (Some (cells_row r))) rows
+-- the texts that were found of a condition
+abbrev pub cell_choice : Cell → Choice
+cell_choice x = choice_of x.text.now x.part
+
+abbrev pub CellsHave : Cells → Option Choice → Type 0
+CellsHave f = Have cell_choice f.cells.items f.none
+
+-- one text of each condition
+abbrev pub RowsHave : List Cells → Option RowText → Type 0
+RowsHave [] o = o ≡ Some (record { texts = []; part = false })
+RowsHave (c ∷ cs) o = AreJoined in_front (CellsHave c) (RowsHave cs) o
 
 -- what a lookup by the texts finds; by constants alone there is none
 abbrev pub RowFinds : List TableData → ℕ → ℕ → ℕ → Option RowText → Option (List ℕ) → Type 0
@@ -52,3 +56,30 @@ RowFinds tables column table key (Some r) o = (r.part ≡ true) × IsValue (Look
 
 abbrev pub AreFound : List TableData → ℕ → ℕ → ℕ → (Option RowText → Type 0) → Option (List ℕ) → Type 0
 AreFound tables column table key R o = (r : Option RowText) × R r × RowFinds tables column table key r o
+
+-- cells, and whether one of them is of a condition that is no constant, before those of a row
+abbrev pub after : List (List ℕ) → Bool → RowText → RowText
+after cells part r = record { texts = cells ++ r.texts; part = part || r.part }
+
+abbrev pub FindsBy : Look → RowText → Option (List ℕ) → Type 0
+FindsBy look r o = RowFinds look.tables.now look.item.now.column look.item.now.table look.item.now.key (Some r) o
+
+-- what is found by these cells and one text of each condition
+abbrev pub Find : Look → List (List ℕ) → Bool → List Cells → Option (List ℕ) → Type 0
+Find look cells part conditions o = (r : RowText) × RowsHave conditions (Some r) × FindsBy look (after cells part r) o
+
+-- what is found of them with the row of this number
+abbrev pub RowHas : Look → ℕ → List Cells → Option (List ℕ) → Type 0
+RowHas look row conditions o = (v : List ℕ) × (r : RowText) × (o ≡ Some v) × RowsHave conditions (Some r)
+    × IsKeyedRow look.tables.now look.item.now.table look.item.now.key r.texts row × FindsBy look r o
+
+abbrev pub IsText : Option (List ℕ) → Type 0
+IsText o = (v : List ℕ) × (o ≡ Some v)
+
+-- all is sought, or whether something finds nothing
+abbrev pub IsSought : Bool → Option (List ℕ) → Type 0
+IsSought few o = (few ≡ false) ⊎ (o ≡ None)
+
+-- the cells are texts of the conditions, one of each, where one is no constant
+abbrev pub Fit : List Cells → List (List ℕ) → Bool → Type 0
+Fit conditions ts part = (r : RowText) × RowsHave conditions (Some r) × (r.texts ≡ ts) × ((part || r.part) ≡ true)

@@ -6,6 +6,7 @@
 
 mod answers;
 mod carry;
+mod conditions;
 mod cuts;
 mod graph;
 mod hops;

@@ -1,143 +1,137 @@
-//! The texts that the conditions of a lookup have, one for each condition, and what is looked up by them.
-ghost use Rattle.std.specs.Prelude.{◌≡◌, ◌↔◌, ◌||◌, ℕ, List as Items, [], false, true, Option, Some, None, IsTrue, IfOk, OnOk, map, option_copied};
-ghost use Rattle.fill_arena.specs.Contents.{EachIn};
+//! What lookups find by the texts of their conditions.
+//!
+//! The texts of two or three conditions can be put together in millions of ways, while a table has few rows. So where a look
+//! for each way would take longer, the rows are gone through, each with a look whether its cells are among the texts; and the
+//! ways only up to the first that no row has. Since keys distinguish rows, that one comes soon.
+ghost use Rattle.std.specs.Prelude.{◌≡◌, ◌↔◌, ◌≤◌, ◌||◌, ◌++◌, ◌∷◌, ℕ, List as Items, [], false, true, Option, Some, None, IsTrue, IfOk, IfSome, OnOk, MatchOption, length, map, option_copied};
+ghost use Rattle.fill_text.specs.Data.{key_at};
+ghost use Rattle.fill_tables.specs.Keys.{IsKeyedRow};
 ghost use Rattle.fill_tree.specs.Value.{IsValue, LooksUp};
-ghost use Rattle.fill_eval.specs.Piece.{IsWithin};
-ghost use Rattle.fill_doubt.specs.Answers.{AreJoined, Gains, Lack, TextsHave};
-ghost use Rattle.fill_doubt.specs.Rows.{AreFound, AreInFront, ChoicesHave, RowFinds, RowText, RowsHave, cells_row, choice_of, in_front};
+ghost use Rattle.fill_doubt.specs.Answers.{Covers, Gains, TextsHave};
+ghost use Rattle.fill_doubt.specs.Rows.{AreFound, Find, FindsBy, Fit, IsSought, IsText, RowHas, RowsHave};
 
-use crate::answers::{Pieces, Texts};
+use crate::answers::Texts;
+use crate::conditions::{Cells, are_few, lacks};
 use fill_arena::SelectItem;
 use fill_eval::{found_row, table_cell};
 use fill_tables::Tables;
 use fill_text::{NoMemory, Text};
 use std::alloc::Global;
 
-/// The texts of conditions, and whether one of the conditions is no constant.
-#[derive(Drop)]
-pub(crate) struct Cells<'a> {
-    pub(crate) cells: Vec<&'a [char]>,
-    pub(crate) part: bool,
+/// What is looked up, and whether it will do to know that some way finds nothing.
+#[derive(Clone, Copy)]
+pub(crate) struct Look<'k, 'a> {
+    pub(crate) alloc: Global,
+    pub(crate) item: &'k SelectItem,
+    pub(crate) tables: &'a Tables,
+    pub(crate) few: bool,
 }
 
-/// The texts of all conditions in each way, and whether in some way one of them has none.
-#[derive(Drop)]
-pub(crate) struct Rows<'a> {
-    pub(crate) rows: Vec<Cells<'a>>,
-    pub(crate) none: bool,
-}
-
-impl Rows<'_> {
-    fn is_some(&self) -> bool
-        ensures { IsTrue result ↔ ((o : Option RowText) × RowsHave self.now o) }
-    {
-        if self.none {
-            return true;
-        }
-        self.rows.len() > 0
-    }
-}
-
-/// The one row of no conditions.
-pub(crate) fn no_conditions<'a>(alloc: Global) -> Result<Rows<'a>, NoMemory>
-    ensures { IfOk result (λ made. (o : Option RowText) → RowsHave made o ↔ (o ≡ Some (record { texts = []; part = false }))) }
+/// The cells of the table that the texts of the conditions find, if a condition is no constant.
+pub(crate) fn look_up<'a>(
+    alloc: Global,
+    found: &mut Texts<'a>,
+    item: &SelectItem,
+    conditions: &[Cells<'a>],
+    tables: &'a Tables,
+) -> Result<(), NoMemory>
+    ensures { OnOk result (Gains (TextsHave found.old) (TextsHave found.new) (AreFound tables.now item.now.column item.now.table item.now.key (RowsHave conditions.now))) }
 {
-    let mut rows = Vec::new(alloc);
-    let none = Cells {
-        cells: Vec::new(alloc),
-        part: false,
+    let look = Look {
+        alloc,
+        item,
+        tables,
+        few: !are_few(conditions, row_count(item.table, tables)),
     };
-    match rows.push(none) {
-        Ok(()) => Ok(Rows { rows, none: false }),
-        Err(_) => Err(NoMemory),
-    }
+    found.put_none(lacks(conditions));
+    put_found(found, &look, conditions)
 }
 
-/// Whether a condition that has no text goes with some row, or the other way round.
-fn lack(constant: &Option<Text>, parts: &Pieces, rest: &Rows) -> bool
-    ensures { IsTrue result ↔ Lack (ChoicesHave constant.now parts.now) (RowsHave rest.now) }
-{
-    if parts.none {
-        return rest.is_some();
+/// How many rows the table has.
+fn row_count(table: u32, tables: &Tables) -> usize {
+    if table == 0 || table > tables.count() {
+        return 0;
     }
-    if !rest.none {
+    tables.rows(table) as usize
+}
+
+/// What is found where each condition has a text.
+fn put_found<'a>(
+    found: &mut Texts<'a>,
+    look: &Look<'_, 'a>,
+    conditions: &[Cells<'a>],
+) -> Result<(), NoMemory>
+    ensures { OnOk result (Gains (TextsHave found.old) (TextsHave found.new) (Find look.now [] false conditions.now)) }
+{
+    put_ways(found, look, &[], false, conditions)?;
+    if !look.few {
+        return Ok(());
+    }
+    put_rows(found, look, conditions)
+}
+
+/// Whether it is known already that some way finds nothing, and that will do.
+fn is_enough(look: &Look<'_, '_>, found: &Texts<'_>) -> bool
+    ensures few { IsTrue result → look.now.few ≡ true }
+    ensures none { IsTrue result → found.now.none ≡ true }
+{
+    if !look.few {
         return false;
     }
-    if constant.is_some() {
-        return true;
-    }
-    parts.pieces.len() > 0
+    found.none
 }
 
-/// The rows of one condition and of those after it: the condition is the constant or one of the parts.
-pub(crate) fn put_in_front<'a>(
-    alloc: Global,
-    constant: &'a Option<Text>,
-    parts: &Pieces<'a>,
-    rest: &Rows<'a>,
-) -> Result<Rows<'a>, NoMemory>
-    requires { EachIn IsWithin parts.now.pieces.items }
-    ensures { IfOk result (λ made. (o : Option RowText) → RowsHave made o ↔ AreJoined in_front (ChoicesHave constant.now parts.now) (RowsHave rest.now) o) }
+/// What the ways find that begin with these cells.
+#[cycle(ways)]
+fn put_ways<'a>(
+    found: &mut Texts<'a>,
+    look: &Look<'_, 'a>,
+    cells: &[&'a [char]],
+    part: bool,
+    conditions: &[Cells<'a>],
+) -> Result<(), NoMemory>
+    ensures { OnOk result (Covers (IsSought look.now.few) (TextsHave found.old) (TextsHave found.new) (Find look.now (map (λ cell. cell.now) cells.now) part conditions.now)) }
 {
-    let mut made = Rows {
-        rows: Vec::new(alloc),
-        none: lack(constant, parts, rest),
-    };
-    put_constant(alloc, &mut made, constant, rest)?;
-    for i in 0..parts.pieces.len() {
-        put_before(alloc, &mut made, parts.pieces[i].as_slice(), true, rest)?;
+    if is_enough(look, found) {
+        return Ok(());
     }
+    let Some((first, rest)) = conditions.split_first() else {
+        return look_up_cells(found, look, cells, part);
+    };
+    for i in 0..first.cells.len() {
+        let next = &first.cells[i];
+        put_longer(found, look, cells, next.text, either(part, next.part), rest)?;
+    }
+    Ok(())
+}
+
+/// What the ways find that begin with these cells and one more.
+#[cycle(ways)]
+fn put_longer<'a>(
+    found: &mut Texts<'a>,
+    look: &Look<'_, 'a>,
+    cells: &[&'a [char]],
+    next: &'a [char],
+    part: bool,
+    conditions: &[Cells<'a>],
+) -> Result<(), NoMemory>
+    ensures { OnOk result (Covers (IsSought look.now.few) (TextsHave found.old) (TextsHave found.new) (Find look.now (map (λ cell. cell.now) cells.now ++ next.now ∷ []) part conditions.now)) }
+{
+    let longer = with_last(look.alloc, cells, next)?;
+    put_ways(found, look, longer.as_slice(), part, conditions)
+}
+
+fn with_last<'a>(
+    alloc: Global,
+    cells: &[&'a [char]],
+    next: &'a [char],
+) -> Result<Vec<&'a [char]>, NoMemory>
+    ensures { IfOk result (λ made. map (λ cell. cell.now) made.items ≡ map (λ cell. cell.now) cells.now ++ next.now ∷ []) }
+{
+    let mut made = Vec::with_capacity(alloc, cells.len().saturating_add(1))?;
+    made.extend_from_slice(cells)?;
+    made.push(next)?;
     Ok(made)
-}
-
-fn put_constant<'a>(
-    alloc: Global,
-    made: &mut Rows<'a>,
-    constant: &'a Option<Text>,
-    rest: &Rows<'a>,
-) -> Result<(), NoMemory>
-    ensures { OnOk result (Gains (RowsHave made.old) (RowsHave made.new) (λ o. (t : Items ℕ) × (constant.now ≡ Some t) × AreInFront (choice_of t false) rest.now.rows.items o)) }
-{
-    match constant {
-        Some(text) => put_before(alloc, made, text.as_slice(), false, rest),
-        None => Ok(()),
-    }
-}
-
-/// The rows of one text and of those after it.
-fn put_before<'a>(
-    alloc: Global,
-    made: &mut Rows<'a>,
-    cell: &'a [char],
-    part: bool,
-    rest: &Rows<'a>,
-) -> Result<(), NoMemory>
-    ensures { OnOk result (Gains (RowsHave made.old) (RowsHave made.new) (AreInFront (choice_of cell.now part) rest.now.rows.items)) }
-{
-    for i in 0..rest.rows.len() {
-        put_row(alloc, made, cell, part, &rest.rows[i])?;
-    }
-    Ok(())
-}
-
-fn put_row<'a>(
-    alloc: Global,
-    made: &mut Rows<'a>,
-    cell: &'a [char],
-    part: bool,
-    rest: &Cells<'a>,
-) -> Result<(), NoMemory>
-    ensures { OnOk result (Gains (RowsHave made.old) (RowsHave made.new) (λ o. o ≡ in_front (Some (choice_of cell.now part)) (Some (cells_row rest.now)))) }
-{
-    let mut cells = Vec::new(alloc);
-    cells.push(cell)?;
-    cells.extend_from_slice(rest.cells.as_slice())?;
-    let row = Cells {
-        cells,
-        part: either(part, rest.part),
-    };
-    made.rows.push(row)?;
-    Ok(())
 }
 
 fn either(a: bool, b: bool) -> bool
@@ -146,34 +140,19 @@ fn either(a: bool, b: bool) -> bool
     a || b
 }
 
-/// The cells of the tables that the rows find, if a condition is no constant.
-pub(crate) fn look_up<'a>(
+/// The cell that the texts find, if a condition is no constant.
+fn look_up_cells<'a>(
     found: &mut Texts<'a>,
-    item: &SelectItem,
-    rows: &Rows<'a>,
-    tables: &'a Tables,
+    look: &Look<'_, 'a>,
+    cells: &[&'a [char]],
+    part: bool,
 ) -> Result<(), NoMemory>
-    ensures { OnOk result (Gains (TextsHave found.old) (TextsHave found.new) (AreFound tables.now item.now.column item.now.table item.now.key (RowsHave rows.now))) }
+    ensures { OnOk result (Gains (TextsHave found.old) (TextsHave found.new) (FindsBy look.now (record { texts = map (λ cell. cell.now) cells.now; part = part }))) }
 {
-    found.put_none(rows.none);
-    for i in 0..rows.rows.len() {
-        look_up_row(found, item, &rows.rows[i], tables)?;
-    }
-    Ok(())
-}
-
-fn look_up_row<'a>(
-    found: &mut Texts<'a>,
-    item: &SelectItem,
-    row: &Cells<'a>,
-    tables: &'a Tables,
-) -> Result<(), NoMemory>
-    ensures { OnOk result (Gains (TextsHave found.old) (TextsHave found.new) (RowFinds tables.now item.now.column item.now.table item.now.key (Some (cells_row row.now)))) }
-{
-    if !row.part {
+    if !part {
         return Ok(());
     }
-    match cell_found(item, row.cells.as_slice(), tables) {
+    match cell_found(look.item, cells, look.tables) {
         Some(text) => found.put(text),
         None => {
             found.none = true;
@@ -188,4 +167,104 @@ fn cell_found<'a>(item: &SelectItem, cells: &[&[char]], tables: &'a Tables) -> O
 {
     let row = found_row(item.table, item.key, cells, tables)?;
     table_cell(item.table, row, item.column, tables)
+}
+
+/// What the rows of the table have whose cells are among the texts of the conditions.
+fn put_rows<'a>(
+    found: &mut Texts<'a>,
+    look: &Look<'_, 'a>,
+    conditions: &[Cells<'a>],
+) -> Result<(), NoMemory>
+    ensures { OnOk result (Covers IsText (TextsHave found.old) (TextsHave found.new) (Find look.now [] false conditions.now)) }
+{
+    let Some(key) = key_of(look.item, look.tables) else {
+        return Ok(());
+    };
+    for i in 0..look.tables.rows(look.item.table) {
+        put_row(found, look, key, i + 1, conditions)?;
+    }
+    Ok(())
+}
+
+/// The columns of the key, if there is one of these numbers.
+fn key_of<'a>(item: &SelectItem, tables: &'a Tables) -> Option<&'a [u32]>
+    ensures key { option_copied result ≡ key_at tables.now item.now.table item.now.key }
+    ensures table { IfSome result (λ key. (1 ≤ item.now.table) × (item.now.table ≤ length tables.now)) }
+{
+    let count = tables.count();
+    if item.table == 0 || item.table > count {
+        return None;
+    }
+    if item.key == 0 || item.key > tables.keys(item.table) {
+        return None;
+    }
+    Some(tables.key(item.table, item.key))
+}
+
+/// What the row has, if its cells are among the texts.
+fn put_row<'a>(
+    found: &mut Texts<'a>,
+    look: &Look<'_, 'a>,
+    key: &[u32],
+    row: u32,
+    conditions: &[Cells<'a>],
+) -> Result<(), NoMemory>
+    requires key { key_at look.now.tables.now look.now.item.now.table look.now.item.now.key ≡ Some key.now }
+    ensures { OnOk result (Covers (RowHas look.now row conditions.now) (TextsHave found.old) (TextsHave found.new) (Find look.now [] false conditions.now)) }
+{
+    let Some(cells) = cells_at(look, key, row)? else {
+        return Ok(());
+    };
+    if !fit(conditions, cells.as_slice(), false) {
+        return Ok(());
+    }
+    look_up_cells(found, look, cells.as_slice(), true)
+}
+
+/// The cells of the row in the columns of the key.
+fn cells_at<'a>(
+    look: &Look<'_, 'a>,
+    key: &[u32],
+    row: u32,
+) -> Result<Option<Vec<&'a [char]>>, NoMemory>
+    requires key { key_at look.now.tables.now look.now.item.now.table look.now.item.now.key ≡ Some key.now }
+    ensures { IfOk result (λ made. MatchOption made ((ts : Items (Items ℕ)) → ¬ (IsKeyedRow look.now.tables.now look.now.item.now.table look.now.item.now.key ts row))
+        (λ cells. (ts : Items (Items ℕ)) → IsKeyedRow look.now.tables.now look.now.item.now.table look.now.item.now.key ts row → ts ≡ map (λ cell. cell.now) cells.items)) }
+{
+    let mut cells = Vec::with_capacity(look.alloc, key.len())?;
+    for i in 0..key.len() {
+        let Some(text) = table_cell(look.item.table, row, key[i], look.tables) else {
+            return Ok(None);
+        };
+        cells.push(text.as_slice())?;
+    }
+    Ok(Some(cells))
+}
+
+/// Whether the cells are among the texts of the conditions, each of its own, and one of the conditions can be no constant.
+fn fit(conditions: &[Cells<'_>], cells: &[&[char]], part: bool) -> bool
+    ensures { IsTrue result ↔ Fit conditions.now (map (λ cell. cell.now) cells.now) part }
+{
+    let Some((first, rest)) = conditions.split_first() else {
+        return is_last(cells, part);
+    };
+    let Some((cell, others)) = cells.split_first() else {
+        return false;
+    };
+    if first.has(cell, true) {
+        return fit(rest, others, true);
+    }
+    if !first.has(cell, false) {
+        return false;
+    }
+    fit(rest, others, part)
+}
+
+fn is_last(cells: &[&[char]], part: bool) -> bool
+    ensures { IsTrue result ↔ Fit [] (map (λ cell. cell.now) cells.now) part }
+{
+    if cells.len() > 0 {
+        return false;
+    }
+    part
 }

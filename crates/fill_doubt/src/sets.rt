@@ -1,22 +1,22 @@
 //! The answers of sets of sources and atoms.
 //!
 //! What a set names is older than the set, so the way down ends.
-ghost use Rattle.std.specs.Prelude.{◌≡◌, ◌↔◌, ◌∷◌, ℕ, List as Items, Option, false, IfOk, IfSome, OnOk};
+ghost use Rattle.std.specs.Prelude.{◌≡◌, ◌↔◌, ℕ, List as Items, Option, false, IfOk, IfSome, OnOk};
 ghost use Rattle.fill_arena.specs.Contents.{EachIn, IsAtomSet, IsPlaceSet, IsSourceSet};
 ghost use Rattle.fill_arena.specs.WellMade.{IsAtomItem, IsConditionItem, IsSourceItem, OlderAtoms};
-ghost use Rattle.fill_arena.specs.declared.entry.ConditionItem.{ConditionItem as Listed};
 ghost use Rattle.fill_tree.specs.Value.{IsFilled, IsValue};
 ghost use Rattle.fill_eval.specs.Piece.{IsWithin};
 ghost use Rattle.fill_doubt.specs.Answers.{Gains, GainsSome, PiecesHave, TextsHave};
-ghost use Rattle.fill_doubt.specs.Known.{AreKnown, AtomAnswers, ConditionPartAnswers, ConstantItemAnswers, IsOnRow, PartAnswers, PartItemAnswers, RowAnswers, SourceAnswers, SourceItemAnswers};
+ghost use Rattle.fill_doubt.specs.Known.{AreKnown, AtomAnswers, ChoiceAnswers, ConditionPartAnswers, ConstantItemAnswers, IsOnRow, PartAnswers, PartItemAnswers, RowAnswers, SourceAnswers, SourceItemAnswers};
 ghost use Rattle.fill_doubt.specs.Gives.{ArePiecesOf, AreWholes, SubGives};
-ghost use Rattle.fill_doubt.specs.Rows.{RowText, RowsHave};
+ghost use Rattle.fill_doubt.specs.Rows.{CellsHave, Choice, RowText, RowsHave};
 
 use crate::answers::{Pieces, Texts};
+use crate::conditions::{Cells, cells_of};
 use crate::known::Known;
 use crate::positions::{find_positions, put_between};
 use crate::row::OnRow;
-use crate::rows::{Rows, look_up, no_conditions, put_in_front};
+use crate::rows::look_up;
 use fill_arena::{AtomItem, AtomSet, ConditionItem, PlaceSet, SelectItem, SourceItem, SourceSet};
 use fill_eval::{Piece, input_cell};
 use fill_text::{NoMemory, Text};
@@ -112,50 +112,48 @@ fn put_lookups<'a>(
     ensures known { OnOk result (AreKnown on.now known.new) }
     ensures gains { OnOk result (Gains (TextsHave found.old) (TextsHave found.new) (SourceItemAnswers on.now (SourceItem.Select item.now))) }
 {
-    let rows = rows_of(on, known, set, item.conditions.as_slice())?;
-    look_up(found, item, &rows, on.tables)
+    let conditions = conditions_of(on, known, set, item.conditions.as_slice())?;
+    look_up(on.alloc, found, item, conditions.as_slice(), on.tables)
 }
 
-/// The texts of conditions, put together from the last condition on.
+/// The texts of conditions.
 #[cycle(sets)]
-fn rows_of<'a>(
+fn conditions_of<'a>(
     on: &OnRow<'a>,
     known: &mut Known<'a>,
     set: SourceSet,
     items: &'a [ConditionItem],
-) -> Result<Rows<'a>, NoMemory>
+) -> Result<Vec<Cells<'a>>, NoMemory>
     requires items { EachIn (IsConditionItem on.now.arena.now set) items.now }
     requires row { IsOnRow on.now }
     requires known { AreKnown on.now known.old }
     ensures known { OnOk result (AreKnown on.now known.new) }
-    ensures exact { IfOk result (λ rows. (o : Option RowText) → RowsHave rows o ↔ RowAnswers on.now items.now o) }
+    ensures exact { IfOk result (λ made. (o : Option RowText) → RowsHave made.items o ↔ RowAnswers on.now items.now o) }
 {
-    let none = no_conditions(on.alloc)?;
-    let mut rows = none;
-    let mut left = items.len();
-    while left > 0 {
-        left -= 1;
-        rows = longer_rows(on, known, set, &items[left], &rows)?;
+    let mut made = Vec::new(on.alloc);
+    for i in 0..items.len() {
+        let cells = condition_of(on, known, set, &items[i])?;
+        made.push(cells)?;
     }
-    Ok(rows)
+    Ok(made)
 }
 
+/// The texts of a condition.
 #[cycle(sets)]
-fn longer_rows<'a>(
+fn condition_of<'a>(
     on: &OnRow<'a>,
     known: &mut Known<'a>,
     set: SourceSet,
     item: &'a ConditionItem,
-    rows: &Rows<'a>,
-) -> Result<Rows<'a>, NoMemory>
+) -> Result<Cells<'a>, NoMemory>
     requires item { IsConditionItem on.now.arena.now set item.now }
     requires row { IsOnRow on.now }
     requires known { AreKnown on.now known.old }
     ensures known { OnOk result (AreKnown on.now known.new) }
-    ensures exact { IfOk result (λ made. (is : Items Listed) → ((o : Option RowText) → RowsHave rows.now o ↔ RowAnswers on.now is o) → (o : Option RowText) → RowsHave made o ↔ RowAnswers on.now (item.now ∷ is) o) }
+    ensures exact { IfOk result (λ made. (x : Option Choice) → CellsHave made x ↔ ChoiceAnswers on.now item.now x) }
 {
     let parts = condition_parts(on, known, set, item.atoms)?;
-    put_in_front(on.alloc, &item.constant, &parts, rows)
+    cells_of(on.alloc, &item.constant, &parts)
 }
 
 /// The texts of a condition that is no constant.

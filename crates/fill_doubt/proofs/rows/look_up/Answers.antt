@@ -1,29 +1,16 @@
-use Rattle.std.proofs.Common.{◌<◌, ◌≤◌, length, Some, arith}
-use Rattle.fill_arena.proofs.Scan.{here}
-use Rattle.fill_doubt.specs.Answers.{TextsHave}
-use Rattle.fill_doubt.specs.Rows.{RowFinds, cells_row}
-use Rattle.fill_doubt.proofs.Gains.{below_start, below_more, below_end}
-use Rattle.fill_doubt.proofs.Joins.{gains_made}
+use Rattle.std.proofs.Common.{◌≡◌, ◌⊎◌, [], false, true, None}
+use Rattle.fill_doubt.specs.Rows.{AreFound, Find, RowsHave}
+use Rattle.fill_doubt.specs.declared.rows.Look.{Look}
+use Rattle.fill_doubt.proofs.Flags.{on_ok}
+use Rattle.fill_doubt.proofs.Gains.{gains_alike, gains_then}
+use Rattle.fill_doubt.proofs.Ways.{found_by_ways}
 use Rattle.fill_doubt.proofs.rows.look_up.Goals as goal
-
-pub loop-i-init : goal.loop-i-init
-loop-i-init c =
-    let i = c.args.item.now in
-    below_start (λ r. RowFinds c.args.tables.now i.column i.table i.key (Some (cells_row r))) c.args.rows.now.rows.items (TextsHave c.put_none.new.self)
-
-pub loop-i-preserved : goal.loop-i-preserved
-loop-i-preserved c =
-    let i = c.args.item.now in
-    let xs = c.args.rows.now.rows in
-    let x = c.index.result.now in
-    let lt : c.loop-i.i < length xs.items = (let n = xs.ok.0 in let l = c.len-i-end.ensures in let t = c.loop-i-test.true in omega arith) in
-    below_more (λ r. RowFinds c.args.tables.now i.column i.table i.key (Some (cells_row r))) xs.items (TextsHave c.put_none.new.self) (TextsHave c.loop-i.found) (TextsHave c.look_up_row.new.found) c.loop-i.i x
-    (here xs.items c.loop-i.i x lt c.index.ensures) c.loop-i.invariant c.in_ok-look_up_row.ensures
 
 pub returns : goal.returns
 returns c =
+    let cs = c.args.conditions.now in
     let i = c.args.item.now in
-    let xs = c.args.rows.now.rows in
-    let past : length xs.items ≤ c.loop-i.i = (let n = xs.ok.0 in let l = c.len-i-end.ensures in let t = c.loop-i-test.false in omega arith) in
-    let all = below_end (λ r. RowFinds c.args.tables.now i.column i.table i.key (Some (cells_row r))) xs.items (TextsHave c.put_none.new.self) (TextsHave c.loop-i.found) c.loop-i.i past c.loop-i.invariant in
-    gains_made cells_row (RowFinds c.args.tables.now i.column i.table i.key) (λ o. ((λ h. h), (λ h. h))) xs.items c.args.rows.now.none (TextsHave c.args.found.now) (TextsHave c.put_none.new.self) (TextsHave c.loop-i.found) c.put_none.ensures.gains all
+    let look : Look = record { alloc = c.args.alloc; item = c.args.item; tables = c.args.tables; few = false } in
+    on_ok c.put_found.result c.put_found.ensures (λ found.
+    gains_alike _ _ (λ o. ((o ≡ None) × (c.lacks.result ≡ true)) ⊎ Find look [] false cs o) (AreFound c.args.tables.now i.column i.table i.key (RowsHave cs)) (found_by_ways look cs c.lacks.result c.lacks.ensures)
+    (gains_then _ _ _ (λ o. (o ≡ None) × (c.lacks.result ≡ true)) (Find look [] false cs) c.put_none.ensures.gains found))

@@ -1,4 +1,4 @@
-use Rattle.std.proofs.Common.{◌≡◌, ◌↔◌, ◌-◌, ℕ, suc, drop, List, ◌∷◌, Option, refl, sym, ap, subst, ◌∙◌, arith, rules}
+use Rattle.std.proofs.Common.{◌+◌, ◌≡◌, ◌↔◌, ℕ, suc, List, Option, refl, sym, subst, arith, rules}
 use Rattle.fill_arena.proofs.Scan.{here}
 use Rattle.fill_arena.specs.Contents.{EachIn, SomeIn}
 use Rattle.fill_arena.specs.declared.entry.ConditionItem.{ConditionItem}
@@ -10,9 +10,10 @@ use Rattle.fill_doubt.specs.Answers.{PiecesHave, TextsHave}
 use Rattle.fill_doubt.specs.Gives.{ArePiecesOf, AreWholes}
 use Rattle.fill_doubt.specs.Known.{PartAnswers, PartItemAnswers, RowAnswers, SourceAnswers, SourceItemAnswers}
 use Rattle.fill_doubt.specs.Rows.{AreFound, RowText, RowsHave}
-use Rattle.fill_doubt.proofs.Flags.{drop_here, drop_whole, if_ok, on_ok}
+use Rattle.fill_doubt.specs.declared.conditions.Cells.{Cells}
+use Rattle.fill_doubt.proofs.Flags.{if_ok, on_ok}
 use Rattle.fill_doubt.proofs.Gains.{below_start, below_more, below_end, gains_all, gains_alike, gains_none, have_same, some_into}
-use Rattle.fill_doubt.proofs.Items.{lookups_by, no_parts, no_rows, parts_listed, rows_by, sources_listed, subs_by, wholes_by}
+use Rattle.fill_doubt.proofs.Items.{AreJoinedTo, choices_item, joined_end, joined_more, joined_start, lookups_by, no_parts, parts_listed, sources_listed, subs_by, wholes_by}
 use Rattle.fill_doubt.proofs.sets.+sets.Goals as goal
 
 pub scan_sources-loop-item-init : goal.scan_sources-loop-item-init
@@ -85,62 +86,49 @@ scan_parts-returns-clause-exact n c =
     gains_all old new (PartAnswers on c.args.s) c.new-found.ensures.none
     (gains_alike old new (λ o. SomeIn (λ y. PartItemAnswers on y o) items) (PartAnswers on c.args.s) (parts_listed on c.requires.row c.args.s items c.atoms-items.ensures) all)
 
-pub rows_of-loop-left-init : goal.rows_of-loop-left-init
-rows_of-loop-left-init n c =
-    let on = c.args.on.now in
-    let rows = c.in_ok-none.none in
-    record {
-      within = omega arith;
-      known = c.requires.known;
-      exact = subst (λ (xs : List ConditionItem). (o : Option RowText) → RowsHave rows o ↔ RowAnswers on xs o) (sym (drop_whole c.args.items.now))
-          (λ o. ((λ h. (no_rows on c.requires.row o).0 ((c.in_ok-none.ensures o).0 h)), (λ h. (c.in_ok-none.ensures o).1 ((no_rows on c.requires.row o).1 h))));
-    }
+pub conditions_of-loop-i-init : goal.conditions_of-loop-i-init
+conditions_of-loop-i-init n c = record { known = c.requires.known; joined = joined_start c.args.on.now c.requires.row c.args.items.now c.new-made.result.items c.new-made.ensures.items }
 
-pub rows_of-longer_rows-requires : goal.rows_of-longer_rows-requires
-rows_of-longer_rows-requires n c =
+pub conditions_of-condition_of-requires : goal.conditions_of-condition_of-requires
+conditions_of-condition_of-requires n c =
     let items = c.args.items.now in
-    let k = c.loop-left.left - 1 in
-    let within = c.loop-left.invariant.within in
-    let x = c.index-items-left.result in
-    (search rules, (c.requires.items k x (here items k x (omega (arith, c.loop-left-test.true)) c.index-items-left.is), (c.requires.row, c.loop-left.invariant.known)))
+    let i = c.loop-i.i in
+    let x = c.index-items-i.result in
+    (search rules, (c.requires.items i x (here items i x c.loop-i-test.true c.index-items-i.is), (c.requires.row, c.loop-i.invariant.known)))
 
-pub rows_of-loop-left-preserved : goal.rows_of-loop-left-preserved
-rows_of-loop-left-preserved n c =
+pub conditions_of-loop-i-preserved : goal.conditions_of-loop-i-preserved
+conditions_of-loop-i-preserved n c =
     let on = c.args.on.now in
     let items = c.args.items.now in
-    let k = c.loop-left.left - 1 in
-    let within = c.loop-left.invariant.within in
-    let x = c.index-items-left.result in
-    let at = here items k x (omega (arith, c.loop-left-test.true)) c.index-items-left.is in
-    let next : suc k ≡ c.loop-left.left = omega (arith, c.loop-left-test.true) in
-    let cut : drop k items ≡ x ∷ drop c.loop-left.left items = drop_here items k x at ∙ ap (λ m. x ∷ drop m items) next in
+    let i = c.loop-i.i in
+    let x = c.index-items-i.result in
+    let next : suc i ≡ i + 1 = omega arith in
     record {
-      within = omega arith;
-      known = c.in_ok-rows.ensures.known;
-      exact = subst (λ (xs : List ConditionItem). (o : Option RowText) → RowsHave c.in_ok-rows.rows o ↔ RowAnswers on xs o) (sym cut) (c.in_ok-rows.ensures.exact (drop c.loop-left.left items) c.loop-left.invariant.exact);
+      known = c.in_ok-cells.ensures.known;
+      joined = subst (λ m. AreJoinedTo on items m c.push.new.self.items) next
+          (joined_more on c.requires.row items i x (here items i x c.loop-i-test.true c.index-items-i.is) c.loop-i.made.items c.push.new.self.items c.in_ok-cells.cells c.in_ok-push.ensures.items c.in_ok-cells.ensures.exact c.loop-i.invariant.joined);
     }
 
-pub rows_of-returns-clause-exact : goal.rows_of-returns-clause-exact
-rows_of-returns-clause-exact n c =
-    let none : c.loop-left.left ≡ 0 = omega (arith, c.loop-left-test.false) in
-    subst (λ m. (o : Option RowText) → RowsHave c.loop-left.rows o ↔ RowAnswers c.args.on.now (drop m c.args.items.now) o) none c.loop-left.invariant.exact
+pub conditions_of-returns-clause-exact : goal.conditions_of-returns-clause-exact
+conditions_of-returns-clause-exact n c = joined_end c.args.on.now c.requires.row c.args.items.now c.loop-i.i c.loop-i.made.items c.loop-i-test.false c.loop-i.invariant.joined
 
-pub longer_rows-returns-clause-exact : goal.longer_rows-returns-clause-exact
-longer_rows-returns-clause-exact n c =
+pub condition_of-returns-clause-exact : goal.condition_of-returns-clause-exact
+condition_of-returns-clause-exact n c =
     let on = c.args.on.now in
     let i = c.args.item.now in
-    let R = RowsHave c.args.rows.now in
     let parts = c.in_ok-parts.parts in
-    if_ok c.put_in_front.result c.put_in_front.ensures (λ made h is are o.
-    let by = rows_by on c.requires.row i is parts R c.in_ok-parts.ensures.exact are o in
-    ((λ g. by.0 ((h o).0 g)), (λ g. (h o).1 (by.1 g))))
+    if_ok c.cells_of.result c.cells_of.ensures (λ made h x.
+    let by = choices_item on c.requires.row i parts c.in_ok-parts.ensures.exact x in
+    ((λ g. by.0 ((h x).0 g)), (λ g. (h x).1 (by.1 g))))
 
 pub put_lookups-returns-clause-gains : goal.put_lookups-returns-clause-gains
 put_lookups-returns-clause-gains n c =
     let on = c.args.on.now in
     let i = c.args.item.now in
-    let R = RowsHave c.in_ok-rows.rows in
-    let rows = subst (λ (xs : List ConditionItem). (o : Option RowText) → R o ↔ RowAnswers on xs o) c.as_slice.ensures c.in_ok-rows.ensures.exact in
+    let R = RowsHave c.as_slice-2.result.now in
+    let made = c.in_ok-conditions.conditions.items in
+    let own = subst (λ (xs : List ConditionItem). (o : Option RowText) → RowsHave made o ↔ RowAnswers on xs o) c.as_slice.ensures c.in_ok-conditions.ensures.exact in
+    let rows = subst (λ (cs : List Cells). (o : Option RowText) → RowsHave cs o ↔ RowAnswers on i.conditions o) (sym c.as_slice-2.ensures.value) own in
     on_ok c.look_up.result c.look_up.ensures
     (gains_alike _ _ (AreFound on.tables.now i.column i.table i.key R) (SourceItemAnswers on (source.Select i)) (lookups_by on c.requires.row i R rows))
 

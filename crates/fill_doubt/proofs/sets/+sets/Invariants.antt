@@ -1,11 +1,10 @@
-use Rattle.std.proofs.Common.{◌↔◌, ◌+◌, ◌*◌, ◌≤◌, length, drop}
+use Rattle.std.proofs.Common.{◌+◌, ◌*◌}
 use Rattle.fill_arena.specs.Contents.{EachIn}
 use Rattle.fill_eval.specs.Piece.{IsWithin}
-use Rattle.std.specs.Prelude.{Option}
 use Rattle.fill_doubt.specs.Answers.{Gains, PiecesHave, TextsHave}
-use Rattle.fill_doubt.specs.Known.{AreKnown, PartItemAnswers, RowAnswers, SourceItemAnswers}
-use Rattle.fill_doubt.specs.Rows.{RowText, RowsHave}
+use Rattle.fill_doubt.specs.Known.{AreKnown, PartItemAnswers, SourceItemAnswers}
 use Rattle.fill_doubt.proofs.Gains.{SomeBelow}
+use Rattle.fill_doubt.proofs.Items.{AreJoinedTo}
 use Rattle.fill_doubt.proofs.sets.+sets.Given as goal
 
 -- what a set lists is older than the set
@@ -21,11 +20,11 @@ decreases-put_source l = 8 * l.set + 5
 abbrev pub decreases-put_lookups : goal.decreases-put_lookups
 decreases-put_lookups l = 8 * l.set + 4
 
-abbrev pub decreases-rows_of : goal.decreases-rows_of
-decreases-rows_of l = 8 * l.set + 3
+abbrev pub decreases-conditions_of : goal.decreases-conditions_of
+decreases-conditions_of l = 8 * l.set + 3
 
-abbrev pub decreases-longer_rows : goal.decreases-longer_rows
-decreases-longer_rows l = 8 * l.set + 2
+abbrev pub decreases-condition_of : goal.decreases-condition_of
+decreases-condition_of l = 8 * l.set + 2
 
 abbrev pub decreases-condition_parts : goal.decreases-condition_parts
 decreases-condition_parts l = 8 * l.set + 1
@@ -52,12 +51,8 @@ invariant-scan_parts-loop-item l = record {
   gains : Gains (PiecesHave l.initial.found) (PiecesHave l.found) (λ o. SomeBelow l.item-index l.items (λ i. PartItemAnswers l.on i o));
 }
 
-abbrev pub invariant-rows_of-loop-left : goal.invariant-rows_of-loop-left
-invariant-rows_of-loop-left l = record {
-  within : l.left ≤ length l.items;
+abbrev pub invariant-conditions_of-loop-i : goal.invariant-conditions_of-loop-i
+invariant-conditions_of-loop-i l = record {
   known : AreKnown l.on l.known;
-  exact : (o : Option RowText) → RowsHave l.rows o ↔ RowAnswers l.on (drop l.left l.items) o;
+  joined : AreJoinedTo l.on l.items l.i l.made.items;
 }
-
-abbrev pub decreases-rows_of-loop-left : goal.decreases-rows_of-loop-left
-decreases-rows_of-loop-left l = l.left
