@@ -61,6 +61,7 @@ pub fn open_application<C: Cabinet>(
         Ok(switch) => switch,
         Err(stop) => return Err(stop),
     };
+    drop(bytes);
     let sheet = match open_applied_sheet(alloc, cabinet, &script, sheet) {
         Ok(sheet) => sheet,
         Err(stop) => return Err(stop),
