@@ -23,14 +23,23 @@ const SLACK: u128 = 1024;
 pub(crate) fn is_due(edit: &Edit, forgets: bool, size: u128, last: u128) -> bool
     ensures { IsTrue result → edit.now ≢ Edit.Clear }
 {
-    let leaves = match edit {
+    if !leaves_spaces(edit, forgets) {
+        return false;
+    }
+    match last.checked_mul(2) {
+        Some(twice) => size > twice && size - twice > SLACK,
+        None => false,
+    }
+}
+
+/// Whether an edit leaves spaces behind that a compaction may take.
+fn leaves_spaces(edit: &Edit, forgets: bool) -> bool
+    ensures { IsTrue result → edit.now ≢ Edit.Clear }
+{
+    match edit {
         Edit::Correct { .. } | Edit::Retract { .. } => true,
         Edit::Add { .. } => forgets,
         Edit::Clear => false,
-    };
-    match last.checked_mul(2) {
-        Some(twice) => leaves && size > twice && size - twice > SLACK,
-        None => false,
     }
 }
 

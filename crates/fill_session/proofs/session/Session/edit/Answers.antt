@@ -44,3 +44,12 @@ returns-in-Err-clause-as_before g c =
     let p = c.self.inside.present in
     as_before c.self.inside.spaces p.examples p.folds p.branches (seen_as (λ (q : Present). q.examples) c.self.inside.history) c.args.self.now c.self.view_is c.self.invariant.0 c.present_after.new.spaces
     c.in-Err.ensures.ground c.in-Err.ensures.older c.in-Err.ensures.cut
+
+pub returns-then-is_due-clause-same : goal.returns-then-is_due-clause-same
+returns-then-is_due-clause-same g c = λ clear. absurd (c.is_due.ensures c.if-is_due.true clear)
+
+pub returns-else-is_due-clause-same : goal.returns-else-is_due-clause-same
+returns-else-is_due-clause-same g c = λ clear. c.in-Ok.ensures.same clear ∙ ap (λ (v : SessionData). v.spaces) c.self.view_is
+
+pub returns-in-Err-clause-same : goal.returns-in-Err-clause-same
+returns-in-Err-clause-same g c = λ clear. c.in-Err.ensures.same clear ∙ ap (λ (v : SessionData). v.spaces) c.self.view_is
