@@ -30,8 +30,8 @@ pub struct Topic<'a> {
     pub above: u32,
 }
 
-/// Asks about the rows in doubt, one after another, and answers the typed texts with those of the replies. Out of memory but for
-/// that, and what cannot be written, is passed over.
+/// Asks about the rows in doubt, one after another, and answers the typed texts with those of the replies. What cannot be
+/// written is passed over, and so is a question for which there is no memory.
 pub fn ask<S: Source, E: Sink, L: Ledger>(
     alloc: Global,
     topic: &Topic<'_>,

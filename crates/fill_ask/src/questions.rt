@@ -99,7 +99,7 @@ fn put_cut(to: &mut String, text: &Text) -> Result<(), NoMemory> {
     Ok(to.push_str("..")?)
 }
 
-/// After so many replies in a row that took what stands in the cell it is said that the dialogue can be ended.
+/// How many replies in a row take what stands in the cell before a line says that the dialogue can be ended.
 const RIGHT: u32 = 3;
 
 /// Remarks on a reply, and counts those in a row that took what stands in the cell.

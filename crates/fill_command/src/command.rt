@@ -49,7 +49,7 @@ pub fn run<C: Cabinet, O: Sink, E: Sink, L: Ledger>(
     // where every step passes; unless a read fails, a write fails, or memory runs out.
     ensures gives { Gives (command_in (map string_bytes words.now)) (C.files cabinet.old) result }
 
-    // Words that are no command leave all as it was, but for the line.
+    // Words that are no command change nothing; only the line is written.
     ensures untouched { command_in (map string_bytes words.now) ≡ None → (cabinet.new ≡ cabinet.old) × (out.new ≡ out.old) }
 
     // A generated session reads nothing and always opens: its report is written, unless a write fails or memory runs out.

@@ -36,7 +36,7 @@ pub fn replay<C: Cabinet, O: Sink, L: Ledger>(
     }
 }
 
-/// Replays the generated session over so many lines, and writes its report.
+/// Replays the generated session over `n` lines, and writes its report.
 pub fn made<O: Sink, L: Ledger>(alloc: Global, n: u32, out: &mut O, steps: &mut Steps<L>) -> Ending
     requires first { 1 ≤ n }
     requires last { n ≤ 2000 }

@@ -27,8 +27,8 @@ pub fn answers_hang_on_their_rows()
         IsSameButRows g h → AreKept g h (row ∷ rows_of examples) → ObjectorIs g examples row found → ObjectorIs h examples row found }
 {}
 
-/// The same where these rows stand under other numbers: the branches have the same guards and programs, and answers and
-/// objectors are the same.
+/// Where the rows stand under other numbers, the branches have the same guards and programs, and answers and objectors are
+/// the same.
 pub fn numbers_of_rows_do_not_count()
     ensures branches { (g h : Ground) (number : ℕ → ℕ) (examples : List Example) (branches : List BranchData) →
         AreRenumbered g h number (rows_of examples) → AreBranches g examples branches →

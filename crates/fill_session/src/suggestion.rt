@@ -82,7 +82,7 @@ fn first_asked(asking: &Asking<'_>) -> Result<Option<Suggestion>, NoMemory>
     Ok(best)
 }
 
-/// Asks the row below so many, and keeps it if it is to be looked at before the best so far.
+/// Asks the row `above + 1`, and keeps it if it is to be looked at before the best so far.
 fn ask(
     asking: &Asking<'_>,
     shapes: &mut Shapes,

@@ -105,7 +105,7 @@ fn puts(
     Ok(to.as_slice() == records)
 }
 
-/// The same with the program that a report saves for the inputs of the sheet.
+/// Whether the program that a report saves gives these records for all rows of the sheet.
 fn applies(
     alloc: Global,
     to: &mut List<u8>,

@@ -59,7 +59,7 @@ fn comes_to(
     }
 }
 
-/// The same in an empty cabinet.
+/// Whether the file has these keys, or none for this reason, in a cabinet that held nothing before.
 fn ends(
     alloc: Global,
     bytes: &[u8],
@@ -92,7 +92,7 @@ fn fills_and_ends(
     ends(alloc, bytes.as_slice(), 3, &[], line)
 }
 
-/// The same of bytes that are made here.
+/// Whether a file that begins empty has no keys, once this many lines are put into it.
 fn rows_end(alloc: Global, times: usize, line: &str) -> Result<bool, NoMemory> {
     let mut bytes = List::new(alloc);
     fills_and_ends(alloc, &mut bytes, times, line)

@@ -53,7 +53,7 @@ fn ends_with(alloc: Global, cabinet: &mut MemoryCabinet, line: &str) -> Result<b
     }
 }
 
-/// The same once the files of the scene are there.
+/// Puts the files of the scene into the cabinet, and tells whether the session ends with its line.
 fn plays(
     alloc: Global,
     cabinet: &mut MemoryCabinet,
@@ -146,7 +146,7 @@ fn grows_and_ends(
     ends(alloc, &scene_of(session.as_slice()), line)
 }
 
-/// The same of a session that is made here.
+/// Whether this line says why a session of these lines is not ready, written into a list of its own.
 fn lines_end(alloc: Global, lines: &Lines, line: &str) -> Result<bool, NoMemory> {
     let mut session = List::new(alloc);
     grows_and_ends(alloc, &mut session, lines, line)
@@ -214,7 +214,7 @@ fn fills_and_ends(
     ends(alloc, &scene, line)
 }
 
-/// The same of a file that is made here.
+/// Whether this line says why the session is not ready, with the records written into a list of their own.
 fn records_end(
     alloc: Global,
     session: &[u8],
@@ -349,7 +349,7 @@ fn ask_for(
     Ok(none && one && two && command_of(words).is_none())
 }
 
-/// The same from no words on.
+/// Whether a word and its argument alone are this command.
 fn asks_for(
     alloc: Global,
     word: &str,

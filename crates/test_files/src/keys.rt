@@ -56,7 +56,7 @@ fn count(alloc: Global, tables: &Tables) -> Result<usize, KeysError> {
     Ok(keys_of(alloc, tables, 1)?.len())
 }
 
-/// The same once the table of a file is added.
+/// Adds the table of a file, and counts its minimal keys.
 fn added_count(alloc: Global, tables: &mut Tables, bytes: &[u8]) -> Result<usize, KeysError> {
     if tables.add_table("table.csv", bytes).is_err() {
         return Err(KeysError::NoMemory);
@@ -64,7 +64,7 @@ fn added_count(alloc: Global, tables: &mut Tables, bytes: &[u8]) -> Result<usize
     count(alloc, tables)
 }
 
-/// The same of the table of a file.
+/// How many minimal keys the table of a file has, or why they are not listed.
 fn file_count(alloc: Global, bytes: &[u8]) -> Result<usize, KeysError> {
     let mut tables = Tables::new(alloc);
     added_count(alloc, &mut tables, bytes)

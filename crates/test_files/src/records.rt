@@ -83,7 +83,7 @@ fn is_so(alloc: Global, records: &[Record], asked: Asked) -> Result<bool, NoMemo
     }
 }
 
-/// The same of a file's first records, no more than `most`.
+/// Whether what is asked of a file's first records, no more than `most`, is so.
 fn holds(alloc: Global, bytes: &[u8], most: usize, asked: Asked) -> Result<bool, NoMemory> {
     let records = read_records(alloc, bytes, most)?;
     is_so(alloc, records.as_slice(), asked)
@@ -110,7 +110,7 @@ fn is_found(record: &Record, columns: &[u32], bad: Option<u32>, all: bool) -> bo
     record.bad_column(columns) == bad && record.is_text() == all
 }
 
-/// The same of the record at this place, from 0.
+/// Whether this is the first of the columns with a bad field, in the record at this place, from 0.
 fn is_found_at(
     records: &[Record],
     place: usize,
@@ -126,7 +126,7 @@ fn is_found_at(
     }
 }
 
-/// The same in the file with fields that are no UTF-8.
+/// Whether this is the first of the columns with a bad field, in a record of the file with such fields.
 fn finds(alloc: Global, place: usize, columns: &[u32], bad: Option<u32>, all: bool) -> bool
     requires { All (λ column. 0 < column) columns.now }
 {

@@ -161,7 +161,7 @@ fn takes_20000_records(alloc: Global, bytes: &mut List<u8>) -> Result<bool, NoMe
     Ok(refusal(alloc, bytes.as_slice(), true, &[1], None) == Some(many))
 }
 
-/// The same from an empty list on.
+/// Whether 20000 records are a sheet and one more is too many, from an empty list on.
 fn takes_at_most_20000(alloc: Global) -> Result<bool, NoMemory> {
     let mut bytes = List::new(alloc);
     takes_20000_records(alloc, &mut bytes)

@@ -40,7 +40,7 @@ fn text_of(alloc: Global, characters: &str) -> Result<Text, NoMemory> {
     }
 }
 
-/// The same texts, lent as slices.
+/// The texts, lent as slices.
 fn slices<'a>(alloc: Global, texts: &'a [Text]) -> Result<Vec<&'a [char]>, NoMemory> {
     let mut lent: Vec<&[char]> = Vec::new(alloc);
     for text in texts {
@@ -63,7 +63,7 @@ fn finds_by(
     tables.find(1, key, cells) == row && tables.find_slices(1, key, lent) == row
 }
 
-/// The same by cells that are lent here.
+/// Whether a key of the first table finds this row, by cells that are lent here.
 fn finds_lent(
     alloc: Global,
     tables: &Tables,
@@ -75,7 +75,7 @@ fn finds_lent(
     Ok(finds_by(tables, key, cells, &lent, row))
 }
 
-/// The same by the texts of the list and these, which are put behind them.
+/// Puts these texts behind those of the list, and tells whether a key finds this row by all of them.
 fn finds_among(
     alloc: Global,
     tables: &Tables,
@@ -90,7 +90,7 @@ fn finds_among(
     finds_lent(alloc, tables, key, list, row)
 }
 
-/// The same by these cells.
+/// Whether a key of the first table finds this row by these cells.
 fn finds(
     alloc: Global,
     tables: &Tables,
@@ -126,7 +126,7 @@ enum Task<'a> {
     Row(&'a [u8], u32, &'a [&'a str]),
     /// To find this row of the prices, or none, by the key of this number for the cells.
     Find(u32, &'a [&'a str], Option<u32>),
-    /// The same by a key of all columns.
+    /// To find this row of the prices, or none, by a key of all columns.
     FindWhole(&'a [&'a str], Option<u32>),
     /// To refuse keys that are none.
     RefuseKeys,
@@ -394,7 +394,7 @@ fn takes_2000_records(tables: &mut Tables, bytes: &mut List<u8>) -> Result<bool,
     Ok(table_comes_to(tables, "b", bytes.as_slice(), Some(reason)) && has_size(tables, 2000, 1))
 }
 
-/// The same of a file that is made here.
+/// Whether 2000 records are a table and one more is too many, from an empty list on.
 fn has_few_records(alloc: Global, tables: &mut Tables) -> Result<bool, NoMemory> {
     let mut bytes = List::new(alloc);
     takes_2000_records(tables, &mut bytes)
@@ -420,7 +420,7 @@ fn fields_come_to(
     Ok(table_comes_to(tables, "t", bytes.as_slice(), reason))
 }
 
-/// The same of a record that is made here.
+/// What a record of this many fields and two more comes to, from an empty list on.
 fn record_comes_to(
     alloc: Global,
     tables: &mut Tables,

@@ -41,7 +41,7 @@ fn is_so(alloc: Global, text: &Text, asked: Asked) -> Result<bool, NoMemory> {
     }
 }
 
-/// The same of the text of these characters.
+/// Whether what is asked of the text of these characters is so.
 fn holds(alloc: Global, characters: &str, asked: Asked) -> Result<bool, NoMemory> {
     let text = text_of(alloc, characters)?;
     is_so(alloc, &text, asked)

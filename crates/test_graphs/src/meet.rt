@@ -102,7 +102,7 @@ fn met_in<L: Ledger>(
     }
 }
 
-/// The same in a fresh arena.
+/// Whether the two programs stand in the intersection, in a fresh arena.
 fn met<L: Ledger>(
     alloc: Global,
     blank: Blank,
@@ -120,7 +120,7 @@ fn met<L: Ledger>(
     met_in(alloc, &mut arena, text, column, &mut steps)
 }
 
-/// The same, where nothing is counted yet.
+/// Whether the two programs stand in the intersection, with a ledger of its own.
 fn both(alloc: Global, characters: &str, column: u32) -> Result<Option<(bool, bool)>, Fail> {
     let text = constant(alloc, characters)?;
     met::<Brand>(alloc, Blank::new(1), text, column)

@@ -97,7 +97,7 @@ fn finds_whole_in<L: Ledger>(
     Ok(spelled.as_slice() == b"Concat(Whole(Col(1)))".as_slice())
 }
 
-/// The same in a fresh arena.
+/// Whether the least program of such a graph in a fresh arena is the whole of column 1.
 fn finds_whole<L: Ledger>(alloc: Global, blank: Blank) -> Result<bool, Fail>
     requires name { blank.name ≡ L.name }
     requires parts { blank.parts ≡ L.parts }

@@ -77,7 +77,7 @@ fn objects_in<L: Ledger>(
     printed(alloc, &found)
 }
 
-/// The same, from nothing on.
+/// What objects on a row to a text, over a fresh sheet and arena.
 fn objects<L: Ledger>(
     alloc: Global,
     blank: Blank,

@@ -9,7 +9,7 @@ use std::test::Fail;
 const RULE: &[u8] =
     b"rule,1\ninputs,1,2\noutput,3\nswitch,\"Switch(else=>Concat(Whole(Col(1)),Const(' ('),Whole(Col(2)),Const(')')))\"\n";
 
-/// The same with a line that no rule has.
+/// `Name (City)` with a line that no rule has.
 const BAD: &[u8] = b"rule,1\ninputs,1,2\noutput,2\nswitch,\"Switch(else=>Const('x'))\"\n";
 
 /// What stands beside a name in the table `m.csv`.

@@ -11,7 +11,7 @@ use std::test::Fail;
 const NAMED: &[u8] =
     b"rule,1\nheader\ninputs,1,2\noutput,3\nnames,Name,City,Label\nswitch,\"Switch(else=>Concat(Whole(Col(1)),Const(' ('),Whole(Col(2)),Const(')')))\"\n";
 
-/// The same by numbers.
+/// `Name (City)`, by numbers of columns.
 const PLAIN: &[u8] =
     b"rule,1\ninputs,1,2\noutput,3\nswitch,\"Switch(else=>Concat(Whole(Col(1)),Const(' ('),Whole(Col(2)),Const(')')))\"\n";
 

@@ -25,7 +25,7 @@ fn counted<L: Ledger>(session: &mut Session, moves: &[Move], blank: Blank) -> [R
     replies
 }
 
-/// The same, with steps of its own.
+/// What seven moves come to, with steps of their own.
 fn replies(session: &mut Session, moves: &[Move]) -> [Reply; 7]
     requires { length moves.now ≡ 7 }
 {

@@ -38,7 +38,7 @@ fn goes_under<W: Work>(
     work.goes(alloc, &mut session)
 }
 
-/// The same under the usual settings.
+/// Whether the work goes as it is to under the usual settings.
 pub(crate) fn goes<W: Work>(alloc: Global, lines: &str, work: &W) -> Result<bool, NoMemory> {
     let settings = Settings {
         depth: 1,
@@ -132,7 +132,7 @@ fn is_as_told(alloc: Global, session: &mut Session, tried: &Tried) -> Result<boo
     Ok(make(session, &edit) == tried.reason)
 }
 
-/// The same for all these edits.
+/// Makes edits in turn, and tells whether each is accepted or refused as it is to be.
 pub(crate) fn replay(
     alloc: Global,
     session: &mut Session,
@@ -199,7 +199,7 @@ fn answers_with(
     is_wanted(alloc, &answer, wanted)
 }
 
-/// The same two times, the second one with the shapes that the first one made.
+/// Whether a row has its answer two times, the second time with the shapes that the first one made.
 fn answers_twice(
     alloc: Global,
     session: &Session,
@@ -343,7 +343,7 @@ fn stays_small(
     )
 }
 
-/// The same for a correction of the row to these digits, ten times.
+/// Whether a correction of row 1 to ten times these digits is accepted, and the spaces are small then.
 fn corrects(alloc: Global, session: &mut Session, number: u32) -> Result<bool, NoMemory> {
     let digits = format!(in alloc; "{number}")?;
     stays_small(alloc, session, Kind::Correct, digits.as_str())
@@ -366,7 +366,7 @@ impl Work for Corrections {
     }
 }
 
-/// The same after the session is cleared, for a text that is added.
+/// Whether a text is accepted after the session is cleared, and the spaces are small then.
 fn fills_again(alloc: Global, session: &mut Session, number: u32) -> Result<bool, NoMemory> {
     let digits = format!(in alloc; "{number}")?;
     Ok(

@@ -289,7 +289,7 @@ fn holds(
     }
 }
 
-/// The same on a row of one cell.
+/// Whether it is so on a row of one cell.
 fn holds_on(alloc: Global, cell: &str, task: Task) -> Result<bool, NoMemory> {
     let Ok(sheet) = Sheet::read(alloc, cell.as_bytes(), false, &[1], None) else {
         return Err(NoMemory);

@@ -149,7 +149,7 @@ fn learns_alone<L: Ledger>(
 enum Task {
     /// To learn the last word of two rows.
     Learn,
-    /// The same, where all other spaces are forgotten.
+    /// To learn the last word of two rows, where all other spaces are forgotten.
     LearnAlone,
     /// To find a program that gives `a` of the first row and this of the second one, or none.
     Join(&'static str, bool),
@@ -174,7 +174,7 @@ fn holds<L: Ledger>(
     }
 }
 
-/// The same, where nothing is counted yet.
+/// Whether the spaces do what they are to do, with a ledger of their own.
 fn counted<L: Ledger>(
     alloc: Global,
     blank: Blank,

@@ -281,7 +281,7 @@ const LIGHTEST: [Row; 3] = [
     },
 ];
 
-/// The same by the first branch that fits.
+/// Five, six and four by the first branch that fits.
 const BY_FIRST: [Row; 3] = [
     Row {
         edit: Edit::Insert(0, 5),
@@ -494,7 +494,7 @@ fn counted<L: Ledger>(
     does(alloc, &mut sums, &mut held, task, &mut steps)
 }
 
-/// The same, with steps of its own.
+/// Whether new folds do it, with steps of their own.
 fn calls(alloc: Global, rule: Placing, fails_at: u64, task: Task) -> Result<Option<u64>, NoMemory> {
     counted::<Brand>(alloc, Blank::new(1), rule, fails_at, task)
 }

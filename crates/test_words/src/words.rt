@@ -14,7 +14,7 @@ fn answer(alloc: Global, words: &[String]) -> Result<String, AllocError> {
     }
 }
 
-/// The same of a line with a space between two words.
+/// What a line asks for, whose words stand with a space between them.
 fn answer_to(alloc: Global, line: &str) -> Result<String, AllocError> {
     let mut words = Vec::new(alloc);
     for word in line.split(' ') {
