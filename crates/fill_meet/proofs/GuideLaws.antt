@@ -1,6 +1,6 @@
 -- What is made of two sets by the index of the second one.
 use Rattle.std.proofs.Common.{◌≡◌, ℕ, ◌+◌, ◌<◌, inl, inr, List, [], ◌∷◌, ◌++◌, length, Option, None, Some, slice_get, refl, sym, ap, ◌∙◌, subst, arith}
-use Rattle.std.specs.Prelude.{MatchOption}
+use Rattle.std.specs.Prelude.{IfSome, MatchOption}
 use Rattle.std.proofs.lemmas.Bool.{cases_lt}
 use Rattle.std.proofs.lemmas.Option.{slice_get_within}
 use Rattle.fill_arena.specs.Contents.{EachIn, Extends, In, IsAtomSet, IsPlaceSet}
@@ -174,3 +174,8 @@ module _ (c d : List Entry) (o : Extends c d) where
 
   pub task_stays : (k : Task) → IsTask c k → IsTask d k
   task_stays k is = record { guide = guide_stays k.guide is.guide; within = is.within; set = is.set; number = is.number; items = o is.set (kind.Atoms k.ys.now) is.items }
+
+-- so where there may be none
+pub guides_stay : (c d : List Entry) → Extends c d → (g : Option Guide) → IfSome g (IsGuide c) → IfSome g (IsGuide d)
+guides_stay c d o None h = h
+guides_stay c d o (Some g) h = guide_stays c d o g h

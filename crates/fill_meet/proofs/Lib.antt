@@ -24,4 +24,5 @@ pub mod MateLaws
 pub mod IndexLaws
 pub mod RowLaws
 pub mod Sweeps
+pub mod Fews
 pub mod GuideLaws

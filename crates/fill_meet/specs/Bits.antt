@@ -1,5 +1,5 @@
 -- Rows of bits, in words of 64.
-use Rattle.std.specs.Prelude.{◌≡◌, ◌⊎◌, ℕ, ◌+◌, ◌*◌, ◌/◌, ◌%◌, ◌<◌, length, get_or}
+use Rattle.std.specs.Prelude.{◌≡◌, ◌⊎◌, ℕ, ◌+◌, ◌*◌, ◌/◌, ◌%◌, ◌<◌, ◌≤◌, length, get_or}
 use Rattle.std.specs.Int.{bit_at}
 use Rattle.fill_meet.specs.declared.bits.Bits.{Bits}
 
@@ -23,3 +23,10 @@ pub record IsPutBit (u v : ℕ) (old new : Bits) : Type 0 where
   pub was : (a b : ℕ) → b / 64 < old.per_row → IsBit new a b → ((a ≡ u) × (b ≡ v)) ⊎ IsBit old a b
   pub long : length new.words.items ≡ length old.words.items
   pub wide : new.per_row ≡ old.per_row
+
+-- the first column from a given one on where the row has a bit, or the end
+pub record IsNextBit (b : Bits) (row from end column : ℕ) : Type 0 where
+  pub past : from ≤ column
+  pub within : column ≤ end
+  pub none : (v : ℕ) → from ≤ v → v < column → IsBit b row v → ⊥
+  pub here : column < end → IsBit b row column

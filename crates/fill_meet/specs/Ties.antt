@@ -47,11 +47,13 @@ pub record AreOrdered (nodes : ℕ) (ties : List Tie) : Type 0 where
 abbrev pub NameSets : List Entry → List Tie → Type 0
 NameSets c ties = EachIn (λ t. IsAtomSet c t.left × IsAtomSet c t.right) ties
 
+-- one more tie, and what it leads to
+abbrev pub IsPutTie : ℕ → Edge → Edge → Sweep → Sweep → Type 0
+IsPutTie width x y old new = (t : Tie) × IsTie width x y t × IsPutBit x.to y.to old.reached new.reached × (new.ties ≡ old.ties ++ t ∷ [])
+
 -- what was done for one pair
 abbrev pub IsTried : ℕ → Edge → Edge → Sweep → Sweep → Type 0
-IsTried width x y old new =
-    ((IsBit old.reached x.from y.from → ⊥) × (new.reached ≡ old.reached) × (new.ties ≡ old.ties)) ⊎
-    ((t : Tie) × IsTie width x y t × IsPutBit x.to y.to old.reached new.reached × (new.ties ≡ old.ties ++ t ∷ []))
+IsTried width x y old new = ((IsBit old.reached x.from y.from → ⊥) × (new.reached ≡ old.reached) × (new.ties ≡ old.ties)) ⊎ IsPutTie width x y old new
 
 -- the tie of an edge of the first graph up to the place k, into a pair of nodes that is reached
 pub record IsFound (xs ys : List Edge) (width k : ℕ) (b : Bits) (t : Tie) : Type 0 where
@@ -85,6 +87,14 @@ IsInRow labels numbers start p b = (q m : ℕ) × (start ≤ q) × (q < p) × (s
 -- or one before the place l whose label is n
 abbrev pub IsInRowTo : List ℕ → List ℕ → ℕ → ℕ → ℕ → ℕ → ℕ → Type 0
 IsInRowTo labels numbers start p n l b = IsInRow labels numbers start p b ⊎ ((slice_get labels b ≡ Some n) × (b < l))
+
+-- an edge out of a node before the node v
+abbrev pub IsBelow : List Edge → ℕ → ℕ → Type 0
+IsBelow ys v b = (y : Edge) × (slice_get ys b ≡ Some y) × (y.from < v)
+
+-- or one out of v before the place l
+abbrev pub IsBelowTo : List Edge → ℕ → ℕ → ℕ → Type 0
+IsBelowTo ys v l b = IsBelow ys v b ⊎ ((y : Edge) × (slice_get ys b ≡ Some y) × (y.from ≡ v) × (b < l))
 
 -- what the mates say is so
 abbrev pub AreMatesKept : List Entry → Index → Rows → Type 0

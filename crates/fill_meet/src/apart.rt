@@ -1,13 +1,17 @@
 //! Whether sets are apart, told without a new set.
-ghost use Rattle.std.specs.Prelude.{◌≡◌, ◌↔◌, false, IsTrue};
-ghost use Rattle.fill_arena.specs.Contents.{IsSourceSet, SomeIn};
-ghost use Rattle.fill_arena.specs.Stands.{SourceStands};
+ghost use Rattle.std.specs.Prelude.{◌≡◌, ◌↔◌, ℕ, false, IsTrue};
+ghost use Rattle.fill_arena.specs.Contents.{EachIn, In, IsPlaceSet, IsSourceSet, SomeIn};
+ghost use Rattle.fill_arena.specs.Stands.{PlaceStands, SourceStands};
+ghost use Rattle.fill_arena.specs.WellMade.{ArePlaces, IsAtomItem};
 ghost use Rattle.fill_meet.specs.Meet.{AreApart};
-ghost use Rattle.fill_meet.specs.Tried.{AreAlike, AreTried};
+ghost use Rattle.fill_meet.specs.Sets.{AtomIn};
+ghost use Rattle.fill_meet.specs.Tried.{AreAlike, AreTried, PlacesTried};
 
 use crate::sets::have_same_numbers;
-use crate::tried::{Tried, told_sources};
-use fill_arena::{Arena, SourceItem, SourceSet};
+use crate::tried::{Told, Tried, tell_places, told_places, told_sources};
+use fill_arena::{Arena, AtomItem, PlaceSet, SourceItem, SourceSet};
+use fill_tokens::Place;
+use std::cmp::Ordering;
 
 /// How many pairs of items are few.
 const FEW_PAIRS: usize = 16;
@@ -15,6 +19,110 @@ const FEW_PAIRS: usize = 16;
 /// Whether two sets of so many items make many pairs.
 pub(crate) fn are_many(xs: usize, ys: usize) -> bool {
     xs.saturating_mul(ys) > FEW_PAIRS
+}
+
+/// Whether some atom may be of an item of each list, told by the items in pairs.
+pub(crate) fn atoms_may_meet(
+    arena: &Arena,
+    tried: &mut Tried,
+    xs: &[AtomItem],
+    ys: &[AtomItem],
+) -> bool
+    requires tried { AreTried arena.now tried.old }
+    requires first { (n : ℕ) × EachIn (IsAtomItem arena.now n) xs.now }
+    requires second { (n : ℕ) × EachIn (IsAtomItem arena.now n) ys.now }
+    ensures tried { AreTried arena.now tried.new }
+    ensures apart { result ≡ false → EachIn (λ x. EachIn (AreApart AtomIn arena.now x) ys.now) xs.now }
+{
+    for i in 0..xs.len() {
+        if meets_some(arena, tried, &xs[i], ys) {
+            return true;
+        }
+    }
+    false
+}
+
+/// Whether the item may have an atom in common with one of the others.
+fn meets_some(arena: &Arena, tried: &mut Tried, x: &AtomItem, ys: &[AtomItem]) -> bool
+    requires tried { AreTried arena.now tried.old }
+    requires first { (n : ℕ) × IsAtomItem arena.now n x.now }
+    requires second { (n : ℕ) × EachIn (IsAtomItem arena.now n) ys.now }
+    ensures tried { AreTried arena.now tried.new }
+    ensures apart { result ≡ false → EachIn (AreApart AtomIn arena.now x.now) ys.now }
+{
+    for j in 0..ys.len() {
+        if items_may_meet(arena, tried, x, &ys[j]) {
+            return true;
+        }
+    }
+    false
+}
+
+/// Whether some atom may be of both items.
+///
+/// The ends of pieces are tried before their starts: something leads to a pair of nodes, so pieces from there mostly start at a
+/// common place.
+fn items_may_meet(arena: &Arena, tried: &mut Tried, x: &AtomItem, y: &AtomItem) -> bool
+    requires tried { AreTried arena.now tried.old }
+    requires first { (n : ℕ) × IsAtomItem arena.now n x.now }
+    requires second { (n : ℕ) × IsAtomItem arena.now n y.now }
+    ensures tried { AreTried arena.now tried.new }
+    ensures apart { result ≡ false → AreApart AtomIn arena.now x.now y.now }
+{
+    match (x, y) {
+        (AtomItem::Const(u), AtomItem::Const(v)) => u.same(v),
+        (AtomItem::Whole(s), AtomItem::Whole(t)) => sources_may_meet(arena, tried, *s, *t),
+        (AtomItem::Sub(s, p, q), AtomItem::Sub(t, u, v)) => {
+            if *s != *t {
+                if !sources_may_meet(arena, tried, *s, *t) {
+                    return false;
+                }
+            }
+            if !places_may_meet(arena, tried, *q, *v) {
+                return false;
+            }
+            places_may_meet(arena, tried, *p, *u)
+        }
+        _ => false,
+    }
+}
+
+/// Whether some place stands in both sets.
+fn places_may_meet(arena: &Arena, tried: &mut Tried, s: PlaceSet, t: PlaceSet) -> bool
+    requires tried { AreTried arena.now tried.old }
+    requires first { IsPlaceSet arena.now s }
+    requires second { IsPlaceSet arena.now t }
+    ensures tried { AreTried arena.now tried.new }
+    ensures apart { PlacesTried arena.now s t result }
+{
+    if s == t {
+        return true;
+    }
+    if let Some(may) = told_places(tried.places.as_slice(), s, t) {
+        return may;
+    }
+    arena.keeps_made();
+    let may = share_place(arena.places(s), arena.places(t));
+    tell_places(tried.places.as_mut_slice(), Told { s, t, may });
+    may
+}
+
+/// Whether some place is in both lists, found by one merge.
+fn share_place(xs: &[Place], ys: &[Place]) -> bool
+    requires first { ArePlaces xs.now }
+    requires second { ArePlaces ys.now }
+    ensures { IsTrue result ↔ SomeIn (λ p. In p ys.now) xs.now }
+{
+    let mut i = 0;
+    let mut j = 0;
+    while i < xs.len() && j < ys.len() {
+        match xs[i].compare(&ys[j]) {
+            Ordering::Less => i += 1,
+            Ordering::Greater => j += 1,
+            Ordering::Equal => return true,
+        }
+    }
+    false
 }
 
 /// Whether some source may stand in both sets.
@@ -28,10 +136,15 @@ pub(crate) fn sources_may_meet(arena: &Arena, tried: &mut Tried, s: SourceSet, t
     if s == t {
         return true;
     }
+    let xs = arena.sources(s);
+    let ys = arena.sources(t);
+    if !are_many(xs.len(), ys.len()) {
+        return share_source(xs, ys);
+    }
     if let Some(may) = told_sources(&tried.sources, s, t) {
         return may;
     }
-    let may = share_source(arena.sources(s), arena.sources(t));
+    let may = share_source(xs, ys);
     tried.keep(s, t, may);
     may
 }

@@ -1,7 +1,7 @@
 //! Rows of bits.
 ghost use Rattle.std.specs.Prelude.{◌≡◌, ◌↔◌, ◌+◌, ◌*◌, ◌/◌, ◌==◌, ◌<◌, ◌≤◌, ℕ, length, false, IfOk, IsTrue};
 ghost use Rattle.std.specs.Int.{bit_at};
-ghost use Rattle.fill_meet.specs.Bits.{HasRoom, IsBit, IsPlace, IsPutBit};
+ghost use Rattle.fill_meet.specs.Bits.{HasRoom, IsBit, IsNextBit, IsPlace, IsPutBit};
 
 use fill_text::NoMemory;
 use std::alloc::Global;
@@ -33,6 +33,19 @@ impl Bits {
         ensures { IsTrue result ↔ IsBit self.now row column }
     {
         is_set(self.words[row * self.per_row + column / 64], column % 64)
+    }
+
+    /// The first column from a given one on where the row has a bit, or the end where it has none before that.
+    pub(crate) fn next(&self, row: usize, from: usize, end: usize) -> usize
+        requires places { (v : ℕ) → v < end → IsPlace row v self.now }
+        requires order { from ≤ end }
+        ensures { IsNextBit self.now row from end result }
+    {
+        let mut column = from;
+        while column < end && !self.has(row, column) {
+            column += 1;
+        }
+        column
     }
 
     /// Sets the bit of the row at the column.

@@ -9,6 +9,7 @@
 mod apart;
 mod bits;
 mod copy;
+mod few;
 mod groups;
 mod holders;
 mod index;

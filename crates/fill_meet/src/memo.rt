@@ -3,6 +3,7 @@ ghost use Rattle.std.specs.Prelude.{◌≡◌, List, Some, IfOk, IfSome, OnOk};
 ghost use Rattle.std.specs.HashMap.{get, Updates};
 ghost use Rattle.fill_arena.specs.declared.entry.Entry.{Entry};
 ghost use Rattle.fill_meet.specs.Memory.{IsRight, pair_eq};
+ghost use Rattle.fill_meet.specs.Sets.{AtomSetsMeet, PlaceSetsMeet, SourceSetsMeet};
 
 use crate::tried::{MOST, Told, blanks};
 use fill_arena::{AtomSet, PlaceSet, SourceSet};
@@ -13,9 +14,10 @@ use std::collections::HashMap;
 /// How many answers on what stands within another set are kept for each tie.
 const ANSWERS_A_TIE: usize = 2;
 
-/// For each pair of sets that was met, their common set, or none where they are apart.
+/// For pairs of sets that were met, their common set, or none where they are apart.
 ///
-/// Whether each place of a set stands in another one is kept in slots. An answer that gave way to another is found again.
+/// Whether each place of a set stands in another one is kept in slots. What gave way to another answer, or was forgotten where
+/// there was no room for more, is found again.
 #[derive(Drop)]
 pub(crate) struct Memo {
     pub(crate) alloc: Global,
@@ -38,6 +40,36 @@ impl Memo {
             atoms: HashMap::new(alloc),
         })
     }
+
+    /// Keeps what was found for the pair of sets of places. Where there is no room for it, all such pairs are forgotten.
+    pub(crate) fn keep_places(&mut self, s: PlaceSet, t: PlaceSet, made: &Option<PlaceSet>)
+        ensures { (c : List Entry) → IsRight c self.old → PlaceSetsMeet c s t made.now → IsRight c self.new }
+    {
+        match put_places(&mut self.places, s, t, made) {
+            Ok(()) => {}
+            Err(NoMemory) => self.places = HashMap::new(self.alloc),
+        }
+    }
+
+    /// Keeps what was found for the pair of sets of sources. Where there is no room for it, all such pairs are forgotten.
+    pub(crate) fn keep_sources(&mut self, s: SourceSet, t: SourceSet, made: &Option<SourceSet>)
+        ensures { (c : List Entry) → IsRight c self.old → SourceSetsMeet c s t made.now → IsRight c self.new }
+    {
+        match put_sources(&mut self.sources, s, t, made) {
+            Ok(()) => {}
+            Err(NoMemory) => self.sources = HashMap::new(self.alloc),
+        }
+    }
+
+    /// Keeps what was found for the pair of sets of atoms. Where there is no room for it, all such pairs are forgotten.
+    pub(crate) fn keep_atoms(&mut self, s: AtomSet, t: AtomSet, made: &Option<AtomSet>)
+        ensures { (c : List Entry) → IsRight c self.old → AtomSetsMeet c s t made.now → IsRight c self.new }
+    {
+        match put_atoms(&mut self.atoms, s, t, made) {
+            Ok(()) => {}
+            Err(NoMemory) => self.atoms = HashMap::new(self.alloc),
+        }
+    }
 }
 
 /// What was found for the pair.
@@ -54,7 +86,8 @@ pub(crate) fn find_places(
     }
 }
 
-pub(crate) fn put_places(
+/// Puts what was found for the pair, if the table does not have as many pairs as it may.
+fn put_places(
     table: &mut HashMap<(PlaceSet, PlaceSet), Option<PlaceSet>>,
     s: PlaceSet,
     t: PlaceSet,
@@ -62,6 +95,9 @@ pub(crate) fn put_places(
 ) -> Result<(), NoMemory>
     ensures { OnOk result (Updates pair_eq table.old table.new (s, t) (Some made.now)) }
 {
+    if table.len() >= MOST {
+        return Err(NoMemory);
+    }
     match table.insert((s, t), *made) {
         Ok(_) => Ok(()),
         Err(_) => Err(NoMemory),
@@ -82,7 +118,8 @@ pub(crate) fn find_sources(
     }
 }
 
-pub(crate) fn put_sources(
+/// Puts what was found for the pair, if the table does not have as many pairs as it may.
+fn put_sources(
     table: &mut HashMap<(SourceSet, SourceSet), Option<SourceSet>>,
     s: SourceSet,
     t: SourceSet,
@@ -90,6 +127,9 @@ pub(crate) fn put_sources(
 ) -> Result<(), NoMemory>
     ensures { OnOk result (Updates pair_eq table.old table.new (s, t) (Some made.now)) }
 {
+    if table.len() >= MOST {
+        return Err(NoMemory);
+    }
     match table.insert((s, t), *made) {
         Ok(_) => Ok(()),
         Err(_) => Err(NoMemory),
@@ -110,7 +150,8 @@ pub(crate) fn find_atoms(
     }
 }
 
-pub(crate) fn put_atoms(
+/// Puts what was found for the pair, if the table does not have as many pairs as it may.
+fn put_atoms(
     table: &mut HashMap<(AtomSet, AtomSet), Option<AtomSet>>,
     s: AtomSet,
     t: AtomSet,
@@ -118,6 +159,9 @@ pub(crate) fn put_atoms(
 ) -> Result<(), NoMemory>
     ensures { OnOk result (Updates pair_eq table.old table.new (s, t) (Some made.now)) }
 {
+    if table.len() >= MOST {
+        return Err(NoMemory);
+    }
     match table.insert((s, t), *made) {
         Ok(_) => Ok(()),
         Err(_) => Err(NoMemory),

@@ -1,5 +1,5 @@
 //! What two sets of places have in common.
-ghost use Rattle.std.specs.Prelude.{◌≡◌, ◌↔◌, All, IfOk, IfSome, IsTrue, OnOk, Some, slice_get};
+ghost use Rattle.std.specs.Prelude.{◌≡◌, ◌↔◌, All, IfOk, IsTrue, OnOk};
 ghost use Rattle.std.specs.List.{AllPairs};
 ghost use Rattle.std.specs.declared.cmp.Ordering.TheVariants.{Less};
 ghost use Rattle.fill_tokens.specs.Place.{place_cmp};
@@ -10,7 +10,7 @@ ghost use Rattle.fill_arena.specs.WellMade.{ArePlaces};
 ghost use Rattle.fill_meet.specs.Memory.{IsRight};
 ghost use Rattle.fill_meet.specs.Sets.{IsWithin, PlaceSetsMeet};
 
-use crate::memo::{Memo, find_places, put_places};
+use crate::memo::{Memo, find_places};
 use crate::within::are_places_within;
 use fill_arena::{Arena, PlaceSet};
 use fill_text::{List, NoMemory};
@@ -40,7 +40,7 @@ pub(crate) fn meet_places(
         return Ok(made);
     }
     let made = make_places(arena, memo, s, t)?;
-    put_places(&mut memo.places, s, t, &made)?;
+    memo.keep_places(s, t, &made);
     Ok(made)
 }
 
@@ -80,36 +80,46 @@ pub(crate) fn is_within(arena: &Arena, s: PlaceSet, t: PlaceSet) -> bool
     lists_all(arena.places(t), arena.places(s))
 }
 
-/// Whether each of the places is in the list, found by one pass.
+/// Whether each of the places is in the list, found by one pass. Different sets of as many places are not tried.
 fn lists_all(xs: &[Place], places: &[Place]) -> bool
     ensures { IsTrue result → EachIn (λ p. In p xs.now) places.now }
 {
-    if places.len() > xs.len() {
+    if places.len() >= xs.len() {
         return false;
     }
-    let mut from = 0;
-    for i in 0..places.len() {
-        let Some(k) = find_from(xs, from, &places[i]) else {
+    let mut i = 0;
+    for k in 0..xs.len() {
+        if i >= places.len() {
+            return true;
+        }
+        if are_same(&xs[k], &places[i]) {
+            i += 1;
+            continue;
+        }
+        if is_past(&xs[k], &places[i]) {
             return false;
-        };
-        from = k;
+        }
     }
-    true
+    i >= places.len()
 }
 
-/// A place of the list where the given one stands, from an index on.
-fn find_from(xs: &[Place], from: usize, place: &Place) -> Option<usize>
-    ensures { IfSome result (λ k. slice_get xs.now k ≡ Some place.now) }
+/// Whether the two are one place.
+fn are_same(x: &Place, place: &Place) -> bool
+    ensures { IsTrue result → x.now ≡ place.now }
 {
-    for k in from..xs.len() {
-        if xs[k].same(place) {
-            return Some(k);
-        }
-        if is_past(&xs[k], place) {
-            return None;
-        }
+    if !have_same_counts(x, place) {
+        return false;
     }
-    None
+    x.same(place)
+}
+
+/// Whether both are fixed at one position, or have the same count, as most different places have not.
+fn have_same_counts(x: &Place, y: &Place) -> bool {
+    match (x, y) {
+        (Place::CPos(a), Place::CPos(b)) => *a == *b,
+        (Place::Pos(_, _, a), Place::Pos(_, _, b)) => *a == *b,
+        _ => false,
+    }
 }
 
 /// Whether the first place comes after all fixed ones, of which the second one is.

@@ -1,5 +1,5 @@
 //! The edges of two graphs in pairs.
-ghost use Rattle.std.specs.Prelude.{◌≡◌, ◌<◌, ◌*◌, length, IfOk, OnOk};
+ghost use Rattle.std.specs.Prelude.{◌≡◌, ◌<◌, ◌*◌, length, IfOk, IfSome, OnOk};
 ghost use Rattle.fill_arena.specs.Contents.{Extends, IsAtomSet};
 ghost use Rattle.fill_trim.specs.Marks.{spread};
 ghost use Rattle.fill_trim.specs.Trim.{AreEdges};
@@ -11,9 +11,10 @@ ghost use Rattle.fill_meet.specs.Sets.{AtomSetsMeet};
 ghost use Rattle.fill_meet.specs.Ties.{AreOrdered, NameSets};
 
 use crate::apart::are_many;
+use crate::few::{are_few, find_few};
 use crate::index::Index;
 use crate::makes::{Guide, make_guided};
-use crate::memo::{Memo, find_atoms, put_atoms};
+use crate::memo::{Memo, find_atoms};
 use crate::sets::make_atoms;
 use crate::ties::{Graphs, Tie, find_ties};
 use fill_arena::{Arena, AtomSet, Edge};
@@ -38,6 +39,46 @@ pub(crate) fn pair_edges(
     ensures product { IfOk result (IsProduct arena.new graphs.entry.height graphs.entry.width graphs.entry.xs.now graphs.entry.ys.now) }
     ensures edges { IfOk result (AreEdges nodes) }
 {
+    if are_few(arena, graphs) {
+        return pair_few(alloc, arena, graphs, nodes);
+    }
+    pair_many(alloc, arena, graphs, nodes)
+}
+
+/// The same, of two small graphs.
+fn pair_few(
+    alloc: Global,
+    arena: &mut Arena,
+    graphs: Graphs<'_>,
+    nodes: usize,
+) -> Result<List<Edge>, NoMemory>
+    requires some { 0 < nodes }
+    requires nodes { nodes ≡ graphs.height * graphs.width }
+    requires edges { ArePairable arena.old graphs.height graphs.width graphs.xs.now graphs.ys.now }
+    ensures kept { Extends arena.old arena.new }
+    ensures product { IfOk result (IsProduct arena.new graphs.entry.height graphs.entry.width graphs.entry.xs.now graphs.entry.ys.now) }
+    ensures edges { IfOk result (AreEdges nodes) }
+{
+    let few = find_few(alloc, arena, graphs)?;
+    let found = few.sweep.ties.as_slice();
+    let live = leading_to_last(alloc, nodes, found)?;
+    join_ties(alloc, arena, None, live.as_slice(), found)
+}
+
+/// The same, of two large graphs.
+fn pair_many(
+    alloc: Global,
+    arena: &mut Arena,
+    graphs: Graphs<'_>,
+    nodes: usize,
+) -> Result<List<Edge>, NoMemory>
+    requires some { 0 < nodes }
+    requires nodes { nodes ≡ graphs.height * graphs.width }
+    requires edges { ArePairable arena.old graphs.height graphs.width graphs.xs.now graphs.ys.now }
+    ensures kept { Extends arena.old arena.new }
+    ensures product { IfOk result (IsProduct arena.new graphs.entry.height graphs.entry.width graphs.entry.xs.now graphs.entry.ys.now) }
+    ensures edges { IfOk result (AreEdges nodes) }
+{
     let index = Index::new(alloc, arena, graphs.ys)?;
     let net = find_ties(alloc, arena, &index, graphs)?;
     let found = net.sweep.ties.as_slice();
@@ -46,7 +87,7 @@ pub(crate) fn pair_edges(
         index: &index,
         mates: &net.rows.search.mates,
     };
-    join_ties(alloc, arena, guide, live.as_slice(), found)
+    join_ties(alloc, arena, Some(guide), live.as_slice(), found)
 }
 
 /// The nodes that lead to the last one, found by a pass from the back.
@@ -89,11 +130,11 @@ fn spread(marks: &mut [bool], from: usize, to: usize)
 fn join_ties(
     alloc: Global,
     arena: &mut Arena,
-    guide: Guide<'_>,
+    guide: Option<Guide<'_>>,
     live: &[bool],
     ties: &[Tie],
 ) -> Result<List<Edge>, NoMemory>
-    requires guide { IsGuide arena.old guide }
+    requires guide { IfSome guide (IsGuide arena.old) }
     requires ties { AreOrdered (length live.now) ties.now }
     requires sets { NameSets arena.old ties.now }
     ensures kept { Extends arena.old arena.new }
@@ -127,12 +168,12 @@ fn count_live(live: &[bool], ties: &[Tie]) -> usize {
 fn join(
     arena: &mut Arena,
     memo: &mut Memo,
-    guide: Guide<'_>,
+    guide: Option<Guide<'_>>,
     tie: Tie,
     edges: &mut List<Edge>,
 ) -> Result<(), NoMemory>
     requires memo { IsRight arena.old memo.old }
-    requires guide { IsGuide arena.old guide }
+    requires guide { IfSome guide (IsGuide arena.old) }
     requires first { IsAtomSet arena.old tie.left }
     requires second { IsAtomSet arena.old tie.right }
     ensures kept { Extends arena.old arena.new }
@@ -155,12 +196,12 @@ fn join(
 fn edge_atoms(
     arena: &mut Arena,
     memo: &mut Memo,
-    guide: Guide<'_>,
+    guide: Option<Guide<'_>>,
     s: AtomSet,
     t: AtomSet,
 ) -> Result<Option<AtomSet>, NoMemory>
     requires memo { IsRight arena.old memo.old }
-    requires guide { IsGuide arena.old guide }
+    requires guide { IfSome guide (IsGuide arena.old) }
     requires first { IsAtomSet arena.old s }
     requires second { IsAtomSet arena.old t }
     ensures kept { Extends arena.old arena.new }
@@ -171,6 +212,9 @@ fn edge_atoms(
         arena.keeps_made();
         return Ok(Some(s));
     }
+    let Some(guide) = guide else {
+        return make_atoms(arena, memo, s, t);
+    };
     if !are_many(arena.atoms(s).len(), arena.atoms(t).len()) {
         return make_atoms(arena, memo, s, t);
     }
@@ -178,6 +222,6 @@ fn edge_atoms(
         return Ok(made);
     }
     let made = make_guided(arena, memo, guide, s, t)?;
-    put_atoms(&mut memo.atoms, s, t, &made)?;
+    memo.keep_atoms(s, t, &made);
     Ok(made)
 }

@@ -46,10 +46,9 @@ impl Search {
         ensures { IfOk result (λ search. (c : List Entry) → IsSearch c index.now search) }
     {
         let mates = Mates::new(alloc, index)?;
-        let found = Found {
-            rows: Runs::new(alloc, index.labels.sets.len())?,
-            tried: Tried::new(alloc),
-        };
+        let rows = Runs::new(alloc, index.labels.sets.len())?;
+        let tried = Tried::new(alloc, 0)?;
+        let found = Found { rows, tried };
         Ok(Search { mates, found })
     }
 

@@ -7,7 +7,7 @@ ghost use Rattle.fill_meet.specs.Memory.{IsRight};
 ghost use Rattle.fill_meet.specs.Sets.{AreConditions, AtomIn, AtomItemsMeet, AtomSetsMeet, ConditionsMeet, HaveSameNumbers, IsCommonConstant, IsFilled, IsPartItem, NamesAtoms, NamesOlder, PairsState, PartsMeet, RowsMeet, SelectsMeet, SourceIn, SourceItemsMeet, SourceSetsMeet};
 
 use crate::copy::{copy_atoms, copy_sources};
-use crate::memo::{Memo, find_atoms, find_sources, put_atoms, put_sources};
+use crate::memo::{Memo, find_atoms, find_sources};
 use crate::places::meet_places;
 use crate::within::are_atoms_within;
 use fill_arena::{Arena, AtomItem, AtomSet, ConditionItem, SelectItem, SourceItem, SourceSet};
@@ -39,7 +39,7 @@ pub(crate) fn meet_atoms(
         return Ok(made);
     }
     let made = make_atoms(arena, memo, s, t)?;
-    put_atoms(&mut memo.atoms, s, t, &made)?;
+    memo.keep_atoms(s, t, &made);
     Ok(made)
 }
 
@@ -168,7 +168,7 @@ fn meet_sources(
         return Ok(made);
     }
     let made = make_sources(arena, memo, s, t)?;
-    put_sources(&mut memo.sources, s, t, &made)?;
+    memo.keep_sources(s, t, &made);
     Ok(made)
 }
 

@@ -9,7 +9,7 @@ ghost use Rattle.fill_meet.specs.Index.{IsIndex};
 ghost use Rattle.fill_meet.specs.Labels.{AreLabels};
 ghost use Rattle.fill_meet.specs.Product.{ArePairable};
 ghost use Rattle.fill_meet.specs.Rows.{AreRows};
-ghost use Rattle.fill_meet.specs.Ties.{AreMatesKept, AreOrdered, AreTies, IsInRow, IsInRowTo, IsTried, NameSets, SweepState};
+ghost use Rattle.fill_meet.specs.Ties.{AreMatesKept, AreOrdered, AreTies, IsInRow, IsInRowTo, IsPutTie, IsTried, NameSets, SweepState};
 
 use crate::bits::Bits;
 use crate::index::Index;
@@ -186,6 +186,16 @@ fn tie_edges(width: usize, x: Edge, y: Edge, sweep: &mut Sweep) -> Result<(), No
     if !sweep.reached.has(x.from, y.from) {
         return Ok(());
     }
+    tie_reached(width, x, y, sweep)
+}
+
+/// Ties two edges, to whose first pair of nodes something leads.
+pub(crate) fn tie_reached(width: usize, x: Edge, y: Edge, sweep: &mut Sweep) -> Result<(), NoMemory>
+    requires second { IsPlace x.to y.to sweep.old.reached }
+    requires from { x.from * width + y.from < 2 ^ 64 }
+    requires to { x.to * width + y.to < 2 ^ 64 }
+    ensures { OnOk result (IsPutTie width x y sweep.old sweep.new) }
+{
     let tie = Tie {
         from: pair_number(x.from * width + y.from)?,
         to: pair_number(x.to * width + y.to)?,

@@ -11,7 +11,7 @@ use fill_text::NoMemory;
 use std::alloc::Global;
 use std::collections::HashMap;
 
-/// The most slots of a table. It is even, as `SETS_AN_EDGE` is, because the two slots of a pair are neighbours.
+/// The most answers that a table keeps. It is even, because the two slots of a pair are neighbours.
 pub(crate) const MOST: usize = 262_144;
 
 /// What was told of a pair of sets of places: whether they may have something in common, or, in a table of its own, whether
@@ -23,22 +23,26 @@ pub(crate) struct Told {
     pub(crate) may: bool,
 }
 
-/// For each pair of sets of sources that was tried, whether they may have something in common.
+/// For pairs of sets that were tried, whether they may have something in common.
+///
+/// Of sets of places a table has two slots for each pair. An answer that gave way to another is found again.
 #[derive(Drop)]
 pub(crate) struct Tried {
     pub(crate) alloc: Global,
+    pub(crate) places: Vec<Option<Told>>,
     pub(crate) sources: HashMap<(SourceSet, SourceSet), bool>,
 }
 
 impl Tried {
-    /// A table that tells nothing yet.
-    pub(crate) fn new(alloc: Global) -> Tried
-        ensures { (c : List Entry) → AreTried c result }
+    /// Tables that tell nothing yet, with room for answers on so many pairs of sets of places.
+    pub(crate) fn new(alloc: Global, pairs: usize) -> Result<Tried, NoMemory>
+        ensures { IfOk result (λ tried. (c : List Entry) → AreTried c tried) }
     {
-        Tried {
+        Ok(Tried {
             alloc,
+            places: blanks(alloc, pairs.min(MOST))?,
             sources: HashMap::new(alloc),
-        }
+        })
     }
 
     /// Keeps what was told of the pair. Where there is no room for it, all is forgotten.
@@ -141,6 +145,7 @@ pub(crate) fn told_sources(
     }
 }
 
+/// Keeps what was told of the pair, if the table does not have as many pairs as it may.
 fn tell_sources(
     table: &mut HashMap<(SourceSet, SourceSet), bool>,
     s: SourceSet,
@@ -149,6 +154,9 @@ fn tell_sources(
 ) -> Result<(), NoMemory>
     ensures { OnOk result (Updates pair_eq table.old table.new (s, t) (Some may)) }
 {
+    if table.len() >= MOST {
+        return Err(NoMemory);
+    }
     match table.insert((s, t), may) {
         Ok(_) => Ok(()),
         Err(_) => Err(NoMemory),

@@ -2,7 +2,7 @@ use Rattle.std.proofs.Common.{true, false, length, sym, ◌∙◌}
 use Rattle.std.proofs.lemmas.Bool.{false≢true}
 use Rattle.std.proofs.lemmas.Option.{get_or_from_slice_get}
 use Rattle.fill_arena.proofs.Lists.{extends_same, extends_on}
-use Rattle.fill_meet.proofs.GuideLaws.{guide_stays}
+use Rattle.fill_meet.proofs.GuideLaws.{guides_stay}
 use Rattle.fill_meet.proofs.Lists.{here}
 use Rattle.fill_meet.proofs.Seams.{joined_start, sets_stay, joined_stays, joined_dead, joined_put, joined_end}
 use Rattle.fill_meet.proofs.product.join_ties.Goals as goal
@@ -46,7 +46,7 @@ loop-i-preserved c =
     record {
       kept = extends_on _ _ _ inv.kept o;
       memo = done.memo;
-      guide = guide_stays c.loop-i.arena c.join.new.arena o c.args.guide inv.guide;
+      guide = guides_stay c.loop-i.arena c.join.new.arena o c.args.guide inv.guide;
       sets = sets_stay c.loop-i.arena c.join.new.arena o c.args.ties.now inv.sets;
       joined = joined_put c.join.new.arena c.args.live.now (length c.args.live.now) c.args.ties.now c.requires.ties c.loop-i.i c.loop-i.edges
           (joined_stays c.loop-i.arena c.join.new.arena o c.args.live.now c.args.ties.now c.loop-i.i c.loop-i.edges inv.joined) c.index-ties-i.result (here _ _ _ c.loop-i-test.true c.index-ties-i.is) c.join.new.edges done.joined;

@@ -1,3 +1,4 @@
+use Rattle.std.specs.Prelude.{IfSome}
 use Rattle.fill_arena.specs.Contents.{Extends}
 use Rattle.fill_meet.specs.Guides.{IsGuide}
 use Rattle.fill_meet.specs.Memory.{IsRight}
@@ -10,7 +11,7 @@ invariant-loop-i l =
     record {
       kept : Extends l.initial.arena l.arena;
       memo : IsRight l.arena l.memo;
-      guide : IsGuide l.arena l.guide;
+      guide : IfSome l.guide (IsGuide l.arena);
       sets : NameSets l.arena l.ties;
       joined : JoinedSoFar l.arena l.live l.ties l.i l.edges;
     }

@@ -11,7 +11,7 @@ use Rattle.fill_meet.proofs.Lists.{here, length_pushed, extends_length}
 use Rattle.fill_meet.proofs.Grows.{places_within, sources_within, atom_item_stays, source_item_stays, conditions_stay, names_older, met_stay}
 use Rattle.fill_meet.proofs.States.{state_start, state_step, state_row}
 use Rattle.fill_meet.proofs.Listed.{atoms_met, atoms_apart, sources_met, sources_apart, are_sources}
-use Rattle.fill_meet.proofs.Memories.{right_stays, right_put, is_none}
+use Rattle.fill_meet.proofs.Memories.{right_stays, is_none}
 use Rattle.fill_meet.proofs.AtomPairs as atoms
 use Rattle.fill_meet.proofs.Parts.{parts_apart, parts_constants, parts_met, met_set, condition_met}
 use Rattle.fill_meet.proofs.Conditions.{rows_push}
@@ -155,14 +155,7 @@ pub meet_atoms-returns-in-Some-clause-met : goal.meet_atoms-returns-in-Some-clau
 meet_atoms-returns-in-Some-clause-met n c = told (AtomSetsMeet c.args.arena.now) _ c.args.s c.args.t _ c.requires.memo.atoms c.in-Some.ensures
 
 pub meet_atoms-returns-clause-memo : goal.meet_atoms-returns-clause-memo
-meet_atoms-returns-clause-memo n c =
-    let right = c.in_ok-made.ensures.memo in
-    record {
-      within = right.within;
-      places = right.places;
-      sources = right.sources;
-      atoms = right_put (AtomSetsMeet c.make_atoms.new.arena) _ _ _ _ _ c.in_ok-put_atoms.ensures c.in_ok-made.ensures.met right.atoms;
-    }
+meet_atoms-returns-clause-memo n c = c.keep_atoms.ensures c.make_atoms.new.arena c.in_ok-made.ensures.memo c.in_ok-made.ensures.met
 
 pub meet_condition-returns-clause-met : goal.meet_condition-returns-clause-met
 meet_condition-returns-clause-met n c = condition_met _ _ _ _ c.in_ok-constant.ensures c.in_ok-atoms.ensures.met
@@ -264,14 +257,7 @@ pub meet_sources-returns-in-Some-clause-met : goal.meet_sources-returns-in-Some-
 meet_sources-returns-in-Some-clause-met n c = told (SourceSetsMeet c.args.arena.now) _ c.args.s c.args.t _ c.requires.memo.sources c.in-Some.ensures
 
 pub meet_sources-returns-clause-memo : goal.meet_sources-returns-clause-memo
-meet_sources-returns-clause-memo n c =
-    let right = c.in_ok-made.ensures.memo in
-    record {
-      within = right.within;
-      places = right.places;
-      sources = right_put (SourceSetsMeet c.make_sources.new.arena) _ _ _ _ _ c.in_ok-put_sources.ensures c.in_ok-made.ensures.met right.sources;
-      atoms = right.atoms;
-    }
+meet_sources-returns-clause-memo n c = c.keep_sources.ensures c.make_sources.new.arena c.in_ok-made.ensures.memo c.in_ok-made.ensures.met
 
 pub meet_atoms-returns-then-eq-clause-met : goal.meet_atoms-returns-then-eq-clause-met
 meet_atoms-returns-then-eq-clause-met n c = atoms_self c.args.arena.now c.keeps_made.ensures c.args.s c.args.t (number_same c.args.s c.args.t (sym c.eq.ensures ∙ c.if-eq.true)) c.requires.first
