@@ -76,6 +76,11 @@ module _ {A B : Type 0} (f : A → B) where
       none_at : (ys : List A) → ys ≡ [] → ⊥
       none_at ys e = let w = slice_get_within xs h.1.0 h.0 h.1.1 in let l = ap length nil in omega arith
 
+  pub have_start : (xs : List A) (n m : Bool) → xs ≡ [] → n ≡ m → (o : Option B) → Have f xs n o ↔ ((o ≡ None) × (m ≡ true))
+  have_start xs n m nil same None = ((λ h. (refl, sym same ∙ h)), (λ h. same ∙ h.1))
+  have_start xs n m nil same (Some b) =
+      ((λ h. let w = slice_get_within xs h.1.0 h.0 h.1.1 in let l = ap length nil in absurd (omega arith)), (λ h. absurd (let e = h.0 in cc)))
+
   pub have_pushed : (xs ys : List A) (n m : Bool) (x : A) → ys ≡ xs ++ x ∷ [] → m ≡ n → Gains (Have f xs n) (Have f ys m) (λ o. o ≡ Some (f x))
   have_pushed xs ys n m x is same None = ((λ h. inl (sym same ∙ h)), (λ h. ⊎_elim (λ l. same ∙ l) (λ r. absurd cc) h))
   have_pushed xs ys n m x is same (Some b) = (

@@ -14,6 +14,7 @@ mod Keyed
 mod Laid
 mod Maps
 mod Marks
+mod Numbers
 mod Programs
 mod Pushed
 mod Rising

@@ -3,7 +3,7 @@ use Rattle.std.proofs.Common.{◌≡◌, ◌↔◌, ◌⊎◌, inl, inr, ⊎_eli
 use Rattle.std.proofs.lemmas.Bool.{false≢true}
 use Rattle.fill_arena.specs.Contents.{SomeIn}
 use Rattle.fill_eval.specs.Piece.{piece_text}
-use Rattle.fill_doubt.specs.Answers.{Gains, Have, Lack}
+use Rattle.fill_doubt.specs.Answers.{Gains, Lack}
 use Rattle.fill_doubt.specs.Rows.{AreFound, CellsHave, Choice, ChoicesHave, ChosenBy, Find, FindsBy, Fit, RowFinds, RowText, RowsHave, after, cell_choice, choice_of, in_front}
 use Rattle.fill_doubt.specs.declared.answers.Pieces.{Pieces}
 use Rattle.fill_doubt.specs.declared.conditions.Cell.{Cell}
@@ -190,15 +190,6 @@ module _ (fixed : Option (List ℕ)) (parts : Pieces) where
         (λ h. (all_cells o).0 (⊎_elim (λ l. inl ((start o).0 l)) (λ r. inr r) (both.0 h))),
         (λ h. both.1 (⊎_elim (λ l. inl ((start o).1 l)) (λ r. inr r) ((all_cells o).1 h))),
       )
-
--- no texts yet
-pub cells_start : (xs : List Cell) (n lacks : Bool) → xs ≡ [] → n ≡ lacks → (o : Option Choice) → Have cell_choice xs n o ↔ ((o ≡ None) × (lacks ≡ true))
-cells_start xs n lacks nil same None = ((λ h. (refl, sym same ∙ h)), (λ h. same ∙ h.1))
-cells_start xs n lacks nil same (Some r) = ((λ h. absurd (gone xs h.1.0 h.0 nil h.1.1)), (λ h. absurd (let e = h.0 in cc)))
-  where
-    gone : (ys : List Cell) (k : ℕ) (x : Cell) → ys ≡ [] → slice_get ys k ≡ Some x → ⊥
-    gone [] k x e h = cc
-    gone (y ∷ ys) k x e h = cc
 
 -- where there is no condition
 pub no_lack : IsTrue false ↔ RowsHave [] None

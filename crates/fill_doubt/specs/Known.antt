@@ -15,13 +15,14 @@ use Rattle.fill_arena.specs.declared.entry.ConditionItem.{ConditionItem}
 use Rattle.fill_arena.specs.declared.entry.Edge.{Edge}
 use Rattle.fill_arena.specs.declared.entry.SourceItem.{SourceItem}
 use Rattle.fill_eval.specs.Piece.{IsWithin}
-use Rattle.fill_doubt.specs.Answers.{TextsHave, PiecesHave}
+use Rattle.fill_doubt.specs.Answers.{PiecesHave}
 use Rattle.fill_doubt.specs.Gives.{SourceGives, AtomGives}
+use Rattle.fill_doubt.specs.Numbered.{AreNumbered, HasNumber, NumberedHave}
 use Rattle.fill_doubt.specs.Rows.{Choice, RowText}
 use Rattle.fill_doubt.specs.Shapes.{IsReadAt, IsShapeOf, ShapesStand}
-use Rattle.fill_doubt.specs.declared.answers.Texts.{Texts}
 use Rattle.fill_doubt.specs.declared.answers.Pieces.{Pieces}
 use Rattle.fill_doubt.specs.declared.known.Known.{Known}
+use Rattle.fill_doubt.specs.declared.numbered.NumberedTexts.{NumberedTexts}
 use Rattle.fill_doubt.specs.declared.row.OnRow.{OnRow}
 use Rattle.fill_doubt.specs.declared.shaped.Shaped.{Shaped}
 
@@ -79,14 +80,15 @@ RowAnswers on is o = (cs : Atoms) × ConditionsFit cs on.arena.now is
 
 -- what was found is what the sets answer
 pub record AreKnown (on : OnRow) (known : Known) : Type 0 where
-  pub sources : (s : ℕ) (f : Texts) → get nat_eq known.sources s ≡ Some f → (o : Option (List ℕ)) → TextsHave f o ↔ SourceAnswers on s o
+  pub sources : (s : ℕ) (f : NumberedTexts) → get nat_eq known.sources s ≡ Some f → (o : Option (List ℕ)) → NumberedHave f o ↔ SourceAnswers on s o
+  pub numbers : (s : ℕ) (f : NumberedTexts) → get nat_eq known.sources s ≡ Some f → AreNumbered known.texts.items f
   pub parts : (s : ℕ) (f : Pieces) → get nat_eq known.parts s ≡ Some f → EachIn IsWithin f.pieces.items × ((o : Option (List ℕ)) → PiecesHave f o ↔ PartAnswers on s o)
   pub texts : (i : ℕ) (x : Shaped) → slice_get known.texts.items i ≡ Some x → IsShapeOf x × IsReadAt known.shapes x.shape.text x.number
   pub shapes : ShapesStand on.arena.now known.shapes
 
 -- the text is the one of this number among those whose shapes were found
 abbrev pub IsTextAt : Known → List ℕ → ℕ → Type 0
-IsTextAt known t n = (x : Shaped) × (slice_get known.texts.items n ≡ Some x) × (x.text.now ≡ t)
+IsTextAt known t n = HasNumber known.texts.items t n
 
 -- the answers of an edge's atoms
 abbrev pub EdgeAnswers : OnRow → Edge → Option (List ℕ) → Type 0

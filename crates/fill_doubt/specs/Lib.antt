@@ -3,6 +3,7 @@ pub mod Cuts
 pub mod Gives
 pub mod Hops
 pub mod Known
+pub mod Numbered
 pub mod Placed
 pub mod Read
 pub mod Rows

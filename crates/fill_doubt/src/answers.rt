@@ -62,15 +62,6 @@ impl<'a> Texts<'a> {
         }
         self.none = true;
     }
-
-    pub(crate) fn copy(&self, alloc: Global) -> Result<Texts<'a>, NoMemory>
-        ensures { IfOk result (λ copied. (copied.texts.items ≡ self.now.texts.items) × (copied.none ≡ self.now.none)) }
-    {
-        Ok(Texts {
-            texts: Vec::from_slice(alloc, self.texts.as_slice())?,
-            none: self.none,
-        })
-    }
 }
 
 /// Pieces of texts: the answers of atoms.

@@ -2,12 +2,14 @@
 ghost use Rattle.std.specs.Prelude.{◌≡◌, ◌↔◌, ◌++◌, ◌∷◌, [], ℕ, List as Items, Option, IfOk, IfSome, OnOk};
 ghost use Rattle.fill_arena.specs.Contents.{EachIn};
 ghost use Rattle.fill_eval.specs.Piece.{IsWithin};
-ghost use Rattle.fill_doubt.specs.Answers.{PiecesHave, TextsHave};
+ghost use Rattle.fill_doubt.specs.Answers.{PiecesHave};
 ghost use Rattle.fill_doubt.specs.Known.{AreKnown, IsTextAt, PartAnswers, SourceAnswers};
+ghost use Rattle.fill_doubt.specs.Numbered.{AreNumbered, IsNumber, KeepsNumbers, NumberedHave};
 ghost use Rattle.fill_doubt.specs.Shapes.{ShapesStand};
 ghost use Rattle.fill_doubt.specs.declared.row.OnRow.{OnRow};
 
-use crate::answers::{Pieces, Positions, Texts};
+use crate::answers::{Pieces, Positions};
+use crate::numbered::NumberedTexts;
 use crate::shaped::Shaped;
 use crate::shapes::Shapes;
 use fill_arena::{AtomSet, SourceSet};
@@ -16,11 +18,15 @@ use fill_text::{NoMemory, Text};
 use std::alloc::Global;
 use std::collections::HashMap;
 
+/// How many characters a text has at most whose shape is looked at. A longer one has few twins, and lists of all that its
+/// tokens span would take more memory than the text.
+const LONG: usize = 8_192;
+
 /// The answers of sets, those of a set of atoms without its constants, the row's texts with their
 /// shapes, and what was found of shapes; with room for the positions between which pieces stand.
 #[derive(Drop)]
 pub(crate) struct Known<'a> {
-    sources: HashMap<SourceSet, Texts<'a>>,
+    sources: HashMap<SourceSet, NumberedTexts<'a>>,
     parts: HashMap<AtomSet, Pieces<'a>>,
     pub(crate) texts: Vec<Shaped<'a>>,
     pub(crate) shapes: Shapes,
@@ -42,8 +48,9 @@ impl<'a> Known<'a> {
         }
     }
 
-    pub(crate) fn source(&self, s: SourceSet) -> Option<&Texts<'a>>
-        ensures { (on : OnRow) → AreKnown on self.now → IfSome result (λ found. (o : Option (Items ℕ)) → TextsHave found.now o ↔ SourceAnswers on s o) }
+    pub(crate) fn source(&self, s: SourceSet) -> Option<&NumberedTexts<'a>>
+        ensures answers { (on : OnRow) → AreKnown on self.now → IfSome result (λ found. (o : Option (Items ℕ)) → NumberedHave found.now o ↔ SourceAnswers on s o) }
+        ensures numbered { (on : OnRow) → AreKnown on self.now → IfSome result (λ found. AreNumbered self.now.texts.items found.now) }
     {
         self.sources.get(&s)
     }
@@ -55,8 +62,13 @@ impl<'a> Known<'a> {
         self.parts.get(&s)
     }
 
-    pub(crate) fn keep_source(&mut self, s: SourceSet, found: Texts<'a>) -> Result<(), NoMemory>
-        ensures { OnOk result ((on : OnRow) → AreKnown on self.old → ((o : Option (Items ℕ)) → TextsHave found.entry o ↔ SourceAnswers on s o) → AreKnown on self.new) }
+    pub(crate) fn keep_source(
+        &mut self,
+        s: SourceSet,
+        found: NumberedTexts<'a>,
+    ) -> Result<(), NoMemory>
+        ensures known { OnOk result ((on : OnRow) → AreKnown on self.old → AreNumbered self.old.texts.items found.entry → ((o : Option (Items ℕ)) → NumberedHave found.entry o ↔ SourceAnswers on s o) → AreKnown on self.new) }
+        ensures texts { self.new.texts ≡ self.old.texts }
     {
         match self.sources.insert(s, found) {
             Ok(_) => Ok(()),
@@ -85,9 +97,26 @@ impl<'a> Known<'a> {
         None
     }
 
-    /// The number of the text among those of the row, where its shape is kept.
-    pub(crate) fn number_of(&mut self, alloc: Global, text: &'a Text) -> Result<usize, NoMemory>
+    /// The number of the text among those of the row whose shapes are kept, unless it is long.
+    pub(crate) fn number_for(
+        &mut self,
+        alloc: Global,
+        text: &'a Text,
+    ) -> Result<Option<usize>, NoMemory>
         ensures known { OnOk result ((on : OnRow) → AreKnown on self.old → AreKnown on self.new) }
+        ensures kept { OnOk result (KeepsNumbers self.old.texts.items self.new.texts.items) }
+        ensures there { IfOk result (IsNumber self.new.texts.items text.now) }
+    {
+        if text.len() > LONG {
+            return Ok(None);
+        }
+        let n = self.number_of(alloc, text)?;
+        Ok(Some(n))
+    }
+
+    fn number_of(&mut self, alloc: Global, text: &'a Text) -> Result<usize, NoMemory>
+        ensures known { OnOk result ((on : OnRow) → AreKnown on self.old → AreKnown on self.new) }
+        ensures kept { OnOk result (KeepsNumbers self.old.texts.items self.new.texts.items) }
         ensures there { IfOk result (IsTextAt self.new text.now) }
     {
         if let Some(n) = self.find(text) {

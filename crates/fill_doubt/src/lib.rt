@@ -12,6 +12,7 @@ mod graph;
 mod hops;
 mod known;
 mod listing;
+mod numbered;
 mod pass;
 mod positions;
 mod read;

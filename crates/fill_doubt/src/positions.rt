@@ -4,6 +4,7 @@ ghost use Rattle.fill_arena.specs.Contents.{EachIn, IsPlaceSet};
 ghost use Rattle.fill_eval.specs.Piece.{IsWithin};
 ghost use Rattle.fill_doubt.specs.Answers.{AreBetween, AreBetweenFrom, Gains, Lack, PiecesHave, PositionsHave, between};
 ghost use Rattle.fill_doubt.specs.Known.{AreKnown};
+ghost use Rattle.fill_doubt.specs.Numbered.{IsNumber};
 ghost use Rattle.fill_doubt.specs.Placed.{ArePlaced};
 ghost use Rattle.fill_doubt.specs.Read.{IsReadIn};
 ghost use Rattle.fill_doubt.specs.Shapes.{IsReadAt, IsShapeOf, KeepsReads, ShapesStand};
@@ -11,6 +12,7 @@ ghost use Rattle.fill_doubt.specs.Shapes.{IsReadAt, IsShapeOf, KeepsReads, Shape
 use crate::answers::{Pieces, Positions};
 use crate::carry::{carry, put_asked};
 use crate::known::Known;
+use crate::numbered::Numbered;
 use crate::read::Read;
 use crate::row::OnRow;
 use crate::shaped::Shaped;
@@ -21,33 +23,30 @@ use fill_eval::Piece;
 use fill_shapes::laws::values_are_stretched;
 use fill_text::{NoMemory, Text};
 
-/// How many characters a text has at most whose shape is looked at. A longer one has few twins, and lists of all that its
-/// tokens span would take more memory than the text.
-const LONG: usize = 8_192;
-
 /// The positions that the places of two sets have in the text, those of the left set and those of the right one: two answers
 /// where few will do, and else all of them. What they take is found once for all texts of a shape; of a long text each place
 /// is asked, and nothing is kept.
 pub(crate) fn find_positions<'a>(
     on: &OnRow<'a>,
     known: &mut Known<'a>,
-    text: &'a Text,
+    text: &Numbered<'a>,
     lefts: PlaceSet,
     rights: PlaceSet,
     few: bool,
 ) -> Result<(), NoMemory>
     requires lefts { IsPlaceSet on.now.arena.now lefts }
     requires rights { IsPlaceSet on.now.arena.now rights }
+    requires number { IsNumber known.old.texts.items text.now.text.now text.now.number }
     requires known { AreKnown on.now known.old }
     ensures known { OnOk result (AreKnown on.now known.new) }
-    ensures lefts { OnOk result (ArePlaced on.now.arena.now lefts text.now few known.new.lefts) }
-    ensures rights { OnOk result (ArePlaced on.now.arena.now rights text.now few known.new.rights) }
+    ensures texts { known.new.texts ≡ known.old.texts }
+    ensures lefts { OnOk result (ArePlaced on.now.arena.now lefts text.now.text.now few known.new.lefts) }
+    ensures rights { OnOk result (ArePlaced on.now.arena.now rights text.now.text.now few known.new.rights) }
 {
-    if text.len() > LONG {
-        long_positions(on, lefts, text, few, &mut known.lefts)?;
-        return long_positions(on, rights, text, few, &mut known.rights);
-    }
-    let n = known.number_of(on.alloc, text)?;
+    let Some(n) = text.number else {
+        long_positions(on, lefts, text.text, few, &mut known.lefts)?;
+        return long_positions(on, rights, text.text, few, &mut known.rights);
+    };
     let shaped = &known.texts[n];
     shape_positions(on, lefts, few, shaped, &mut known.shapes, &mut known.lefts)?;
     shape_positions(

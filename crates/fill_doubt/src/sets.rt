@@ -9,11 +9,13 @@ ghost use Rattle.fill_eval.specs.Piece.{IsWithin};
 ghost use Rattle.fill_doubt.specs.Answers.{Gains, GainsSome, PiecesHave, TextsHave};
 ghost use Rattle.fill_doubt.specs.Known.{AreKnown, AtomAnswers, ChoiceAnswers, ConditionPartAnswers, ConstantItemAnswers, IsOnRow, PartAnswers, PartItemAnswers, RowAnswers, SourceAnswers, SourceItemAnswers};
 ghost use Rattle.fill_doubt.specs.Gives.{ArePiecesOf, AreWholes, SubGives};
+ghost use Rattle.fill_doubt.specs.Numbered.{AreNumbered, IsNumber, NumberedHave};
 ghost use Rattle.fill_doubt.specs.Rows.{CellsHave, Choice, RowText, RowsHave};
 
 use crate::answers::{Pieces, Texts};
 use crate::conditions::{Cells, cells_of};
 use crate::known::Known;
+use crate::numbered::{Numbered, NumberedTexts, number_all};
 use crate::positions::{find_positions, put_between};
 use crate::row::OnRow;
 use crate::rows::look_up;
@@ -27,19 +29,21 @@ pub(crate) fn sources_of<'a>(
     on: &OnRow<'a>,
     known: &mut Known<'a>,
     s: SourceSet,
-) -> Result<Texts<'a>, NoMemory>
+) -> Result<NumberedTexts<'a>, NoMemory>
     requires set { IsSourceSet on.now.arena.now s }
     requires row { IsOnRow on.now }
     requires known { AreKnown on.now known.old }
     ensures known { OnOk result (AreKnown on.now known.new) }
-    ensures exact { IfOk result (λ found. (o : Option (Items ℕ)) → TextsHave found o ↔ SourceAnswers on.now s o) }
+    ensures exact { IfOk result (λ found. (o : Option (Items ℕ)) → NumberedHave found o ↔ SourceAnswers on.now s o) }
+    ensures numbered { IfOk result (AreNumbered known.new.texts.items) }
 {
     if let Some(found) = known.source(s) {
         return found.copy(on.alloc);
     }
     let found = scan_sources(on, known, s)?;
-    known.keep_source(s, found.copy(on.alloc)?)?;
-    Ok(found)
+    let numbered = number_all(on.alloc, known, &found)?;
+    known.keep_source(s, numbered.copy(on.alloc)?)?;
+    Ok(numbered)
 }
 
 #[cycle(sets)]
@@ -248,14 +252,14 @@ pub(crate) fn put_part<'a>(
 }
 
 /// The texts that are not empty.
-fn put_wholes<'a>(texts: &Texts<'a>, found: &mut Pieces<'a>) -> Result<(), NoMemory>
+fn put_wholes<'a>(texts: &NumberedTexts<'a>, found: &mut Pieces<'a>) -> Result<(), NoMemory>
     requires within { EachIn IsWithin found.old.pieces.items }
     ensures within { EachIn IsWithin found.new.pieces.items }
-    ensures gains { OnOk result (Gains (PiecesHave found.old) (PiecesHave found.new) (AreWholes (TextsHave texts.now))) }
+    ensures gains { OnOk result (Gains (PiecesHave found.old) (PiecesHave found.new) (AreWholes (NumberedHave texts.now))) }
 {
     found.put_none(texts.none);
     for i in 0..texts.texts.len() {
-        put_whole(texts.texts[i], found)?;
+        put_whole(texts.texts[i].text, found)?;
     }
     Ok(())
 }
@@ -278,7 +282,7 @@ fn put_whole<'a>(text: &'a Text, found: &mut Pieces<'a>) -> Result<(), NoMemory>
 fn put_subs<'a>(
     on: &OnRow<'a>,
     known: &mut Known<'a>,
-    texts: &Texts<'a>,
+    texts: &NumberedTexts<'a>,
     lefts: PlaceSet,
     rights: PlaceSet,
     few: bool,
@@ -286,16 +290,17 @@ fn put_subs<'a>(
 ) -> Result<(), NoMemory>
     requires lefts { IsPlaceSet on.now.arena.now lefts }
     requires rights { IsPlaceSet on.now.arena.now rights }
+    requires numbered { AreNumbered known.old.texts.items texts.now }
     requires known { AreKnown on.now known.old }
     requires within { EachIn IsWithin found.old.pieces.items }
     ensures known { OnOk result (AreKnown on.now known.new) }
     ensures within { OnOk result (EachIn IsWithin found.new.pieces.items) }
-    ensures some { OnOk result (GainsSome (PiecesHave found.old) (PiecesHave found.new) (ArePiecesOf on.now.arena.now lefts rights (TextsHave texts.now))) }
-    ensures all { OnOk result (few ≡ false → Gains (PiecesHave found.old) (PiecesHave found.new) (ArePiecesOf on.now.arena.now lefts rights (TextsHave texts.now))) }
+    ensures some { OnOk result (GainsSome (PiecesHave found.old) (PiecesHave found.new) (ArePiecesOf on.now.arena.now lefts rights (NumberedHave texts.now))) }
+    ensures all { OnOk result (few ≡ false → Gains (PiecesHave found.old) (PiecesHave found.new) (ArePiecesOf on.now.arena.now lefts rights (NumberedHave texts.now))) }
 {
     found.put_none(texts.none);
     for i in 0..texts.texts.len() {
-        put_pieces(on, known, texts.texts[i], lefts, rights, few, found)?;
+        put_pieces(on, known, &texts.texts[i], lefts, rights, few, found)?;
     }
     Ok(())
 }
@@ -303,7 +308,7 @@ fn put_subs<'a>(
 fn put_pieces<'a>(
     on: &OnRow<'a>,
     known: &mut Known<'a>,
-    text: &'a Text,
+    text: &Numbered<'a>,
     lefts: PlaceSet,
     rights: PlaceSet,
     few: bool,
@@ -311,15 +316,17 @@ fn put_pieces<'a>(
 ) -> Result<(), NoMemory>
     requires lefts { IsPlaceSet on.now.arena.now lefts }
     requires rights { IsPlaceSet on.now.arena.now rights }
+    requires number { IsNumber known.old.texts.items text.now.text.now text.now.number }
     requires known { AreKnown on.now known.old }
     requires within { EachIn IsWithin found.old.pieces.items }
     ensures known { OnOk result (AreKnown on.now known.new) }
+    ensures texts { known.new.texts ≡ known.old.texts }
     ensures within { OnOk result (EachIn IsWithin found.new.pieces.items) }
-    ensures some { OnOk result (GainsSome (PiecesHave found.old) (PiecesHave found.new) (SubGives on.now.arena.now lefts rights text.now)) }
-    ensures all { OnOk result (few ≡ false → Gains (PiecesHave found.old) (PiecesHave found.new) (SubGives on.now.arena.now lefts rights text.now)) }
+    ensures some { OnOk result (GainsSome (PiecesHave found.old) (PiecesHave found.new) (SubGives on.now.arena.now lefts rights text.now.text.now)) }
+    ensures all { OnOk result (few ≡ false → Gains (PiecesHave found.old) (PiecesHave found.new) (SubGives on.now.arena.now lefts rights text.now.text.now)) }
 {
     find_positions(on, known, text, lefts, rights, few)?;
-    put_between(found, text, &known.lefts, &known.rights)
+    put_between(found, text.text, &known.lefts, &known.rights)
 }
 
 /// The texts of the atoms of a set.

@@ -2,10 +2,10 @@ use Rattle.std.proofs.Common.{◌≡◌, ◌<◌, ◌≤◌, length, Some, true,
 use Rattle.fill_arena.proofs.Scan.{here}
 use Rattle.fill_eval.specs.Piece.{piece_text}
 use Rattle.fill_doubt.specs.Answers.{Gains}
-use Rattle.fill_doubt.specs.Rows.{CellsHave, choice_of}
+use Rattle.fill_doubt.specs.Rows.{CellsHave, cell_choice, choice_of}
 use Rattle.fill_doubt.specs.declared.conditions.Cells.{Cells}
-use Rattle.fill_doubt.proofs.Gains.{below_start, below_more, below_end}
-use Rattle.fill_doubt.proofs.Ways.{cells_listed, cells_start}
+use Rattle.fill_doubt.proofs.Gains.{below_start, below_more, below_end, have_start}
+use Rattle.fill_doubt.proofs.Ways.{cells_listed}
 use Rattle.fill_doubt.proofs.conditions.cells_of.Goals as goal
 
 pub loop-i-init : goal.loop-i-init
@@ -32,4 +32,4 @@ returns c =
     let past : length xs.items ≤ c.loop-i.i = (let n = xs.ok.0 in let l = c.len-i-end.ensures in let t = c.loop-i-test.false in omega arith) in
     let all = below_end (λ y o. o ≡ Some (choice_of (piece_text y) true)) xs.items (CellsHave c.put_constant.new.self) (CellsHave c.loop-i.made) c.loop-i.i past c.loop-i.invariant in
     let start : Cells = record { cells = c.new.result; none = c.args.parts.now.none } in
-    cells_listed c.args.constant.now c.args.parts.now (CellsHave start) (CellsHave c.put_constant.new.self) (CellsHave c.loop-i.made) (cells_start c.new.result.items c.args.parts.now.none c.args.parts.now.none c.new.ensures.items refl) c.in_ok-put_constant.ensures all
+    cells_listed c.args.constant.now c.args.parts.now (CellsHave start) (CellsHave c.put_constant.new.self) (CellsHave c.loop-i.made) (have_start cell_choice c.new.result.items c.args.parts.now.none c.args.parts.now.none c.new.ensures.items refl) c.in_ok-put_constant.ensures all

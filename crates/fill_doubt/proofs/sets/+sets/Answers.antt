@@ -8,12 +8,14 @@ use Rattle.fill_eval.specs.Piece.{IsWithin, piece_text}
 use Rattle.fill_eval.specs.declared.piece.Piece.{Piece}
 use Rattle.fill_doubt.specs.Answers.{PiecesHave, TextsHave}
 use Rattle.fill_doubt.specs.Gives.{ArePiecesOf, AreWholes}
+use Rattle.fill_doubt.specs.Numbered.{AreNumbered, NumberedHave}
 use Rattle.fill_doubt.specs.Known.{PartAnswers, PartItemAnswers, RowAnswers, SourceAnswers, SourceItemAnswers}
 use Rattle.fill_doubt.specs.Rows.{AreFound, RowText, RowsHave}
 use Rattle.fill_doubt.specs.declared.conditions.Cells.{Cells}
 use Rattle.fill_doubt.proofs.Flags.{if_ok, on_ok}
 use Rattle.fill_doubt.proofs.Gains.{below_start, below_more, below_end, gains_all, gains_alike, gains_none, have_same, some_into}
 use Rattle.fill_doubt.proofs.Items.{AreJoinedTo, choices_item, joined_end, joined_more, joined_start, lookups_by, no_parts, parts_listed, sources_listed, subs_by, wholes_by}
+use Rattle.fill_doubt.proofs.Numbers.{numbered_same}
 use Rattle.fill_doubt.proofs.sets.+sets.Goals as goal
 
 pub scan_sources-loop-item-init : goal.scan_sources-loop-item-init
@@ -139,7 +141,7 @@ put_part-returns-in-Const-clause-all n c = λ few.
 pub put_part-returns-in_ok-texts-in-Whole-clause-some : goal.put_part-returns-in_ok-texts-in-Whole-clause-some
 put_part-returns-in_ok-texts-in-Whole-clause-some n c =
     let on = c.args.on.now in
-    let T = TextsHave c.in_ok-texts-in-Whole.texts in
+    let T = NumberedHave c.in_ok-texts-in-Whole.texts in
     let item : (o : Option (List ℕ)) → AreWholes T o ↔ PartItemAnswers on c.args.item.now o =
     rw c.in-Whole.is (wholes_by on c.requires.row c.in-Whole.sources T c.in_ok-texts-in-Whole.ensures.exact) in
     on_ok c.put_wholes.result c.put_wholes.ensures.gains (λ g o h. some_into _ _ (AreWholes T) (PartItemAnswers on c.args.item.now) (λ q w. (item q).0 w) (λ q w. (g q).0 w) o h)
@@ -147,7 +149,7 @@ put_part-returns-in_ok-texts-in-Whole-clause-some n c =
 pub put_part-returns-in_ok-texts-in-Whole-clause-all : goal.put_part-returns-in_ok-texts-in-Whole-clause-all
 put_part-returns-in_ok-texts-in-Whole-clause-all n c =
     let on = c.args.on.now in
-    let T = TextsHave c.in_ok-texts-in-Whole.texts in
+    let T = NumberedHave c.in_ok-texts-in-Whole.texts in
     let item : (o : Option (List ℕ)) → AreWholes T o ↔ PartItemAnswers on c.args.item.now o =
     rw c.in-Whole.is (wholes_by on c.requires.row c.in-Whole.sources T c.in_ok-texts-in-Whole.ensures.exact) in
     on_ok c.put_wholes.result c.put_wholes.ensures.gains (λ g few. gains_alike _ _ (AreWholes T) (PartItemAnswers on c.args.item.now) item g)
@@ -155,7 +157,7 @@ put_part-returns-in_ok-texts-in-Whole-clause-all n c =
 pub put_part-returns-in_ok-texts-in-Sub-clause-some : goal.put_part-returns-in_ok-texts-in-Sub-clause-some
 put_part-returns-in_ok-texts-in-Sub-clause-some n c =
     let on = c.args.on.now in
-    let T = TextsHave c.in_ok-texts-in-Sub.texts in
+    let T = NumberedHave c.in_ok-texts-in-Sub.texts in
     let l = c.in-Sub.lefts in
     let r = c.in-Sub.rights in
     let older = rw c.in-Sub.is at c.requires.item in
@@ -166,7 +168,7 @@ put_part-returns-in_ok-texts-in-Sub-clause-some n c =
 pub put_part-returns-in_ok-texts-in-Sub-clause-all : goal.put_part-returns-in_ok-texts-in-Sub-clause-all
 put_part-returns-in_ok-texts-in-Sub-clause-all n c =
     let on = c.args.on.now in
-    let T = TextsHave c.in_ok-texts-in-Sub.texts in
+    let T = NumberedHave c.in_ok-texts-in-Sub.texts in
     let l = c.in-Sub.lefts in
     let r = c.in-Sub.rights in
     let older = rw c.in-Sub.is at c.requires.item in
@@ -178,17 +180,32 @@ pub sources_of-returns-in-Some-clause-exact : goal.sources_of-returns-in-Some-cl
 sources_of-returns-in-Some-clause-exact n c =
     let on = c.args.on.now in
     let found = c.in-Some.found.now in
-    let exact = c.in-Some.ensures on c.requires.known in
-    if_ok c.copy.result c.copy.ensures (λ f same. have_same (λ x. x.now) f.texts.items found.texts.items f.none found.none same.0 same.1 (SourceAnswers on c.args.s) exact)
+    let exact = c.in-Some.ensures.answers on c.requires.known in
+    if_ok c.copy.result c.copy.ensures (λ f same. have_same (λ x. x.text.now) f.texts.items found.texts.items f.none found.none same.0 same.1 (SourceAnswers on c.args.s) exact)
+
+pub sources_of-returns-in-Some-clause-numbered : goal.sources_of-returns-in-Some-clause-numbered
+sources_of-returns-in-Some-clause-numbered n c =
+    let found = c.in-Some.found.now in
+    if_ok c.copy.result c.copy.ensures (λ f same. numbered_same c.args.known.now.texts.items found f same.0 (c.in-Some.ensures.numbered c.args.on.now c.requires.known))
+
+pub sources_of-returns-clause-exact : goal.sources_of-returns-clause-exact
+sources_of-returns-clause-exact n c = λ o.
+    let same = c.in_ok-numbered.ensures.same o in
+    let exact = c.in_ok-found.ensures.exact o in
+    ((λ h. exact.0 (same.0 h)), (λ h. same.1 (exact.1 h)))
+
+pub sources_of-returns-clause-numbered : goal.sources_of-returns-clause-numbered
+sources_of-returns-clause-numbered n c = subst (λ v. AreNumbered v.items c.in_ok-numbered.numbered) (sym c.keep_source.ensures.texts) c.in_ok-numbered.ensures.numbered
 
 pub sources_of-returns-clause-known : goal.sources_of-returns-clause-known
 sources_of-returns-clause-known n c =
     let on = c.args.on.now in
-    let found = c.in_ok-found.found in
+    let made = c.in_ok-numbered.numbered in
     let copied = c.in_ok-copy.field-0 in
     let same = c.in_ok-copy.ensures in
-    c.in_ok-keep_source.ensures on c.in_ok-found.ensures.known
-    (have_same (λ x. x.now) copied.texts.items found.texts.items copied.none found.none same.0 same.1 (SourceAnswers on c.args.s) c.in_ok-found.ensures.exact)
+    c.in_ok-keep_source.ensures.known on (c.in_ok-numbered.ensures.known on c.in_ok-found.ensures.known) (numbered_same c.number_all.new.known.texts.items made copied same.0 c.in_ok-numbered.ensures.numbered)
+    (have_same (λ x. x.text.now) copied.texts.items made.texts.items copied.none made.none same.0 same.1 (SourceAnswers on c.args.s)
+    (λ o. ((λ h. (c.in_ok-found.ensures.exact o).0 ((c.in_ok-numbered.ensures.same o).0 h)), (λ h. (c.in_ok-numbered.ensures.same o).1 ((c.in_ok-found.ensures.exact o).1 h)))))
 
 pub parts_of-returns-in-Some-clause-exact : goal.parts_of-returns-in-Some-clause-exact
 parts_of-returns-in-Some-clause-exact n c =

@@ -7,12 +7,12 @@ use Rattle.fill_doubt.proofs.sets.put_pieces.Goals as goal
 
 pub put_between-requires-clause-ends : goal.put_between-requires-clause-ends
 put_between-requires-clause-ends c =
-    ends_sound c.args.on.now.arena.now c.args.rights c.args.text.now (PositionsHave c.find_positions.new.known.rights) c.in_ok-find_positions.ensures.rights.sound
+    ends_sound c.args.on.now.arena.now c.args.rights c.args.text.now.text.now (PositionsHave c.find_positions.new.known.rights) c.in_ok-find_positions.ensures.rights.sound
 
 pub returns-clause-some : goal.returns-clause-some
 returns-clause-some c =
     let arena = c.args.on.now.arena.now in
-    let t = c.args.text.now in
+    let t = c.args.text.now.text.now in
     let L = PositionsHave c.find_positions.new.known.lefts in
     let R = PositionsHave c.find_positions.new.known.rights in
     on_ok c.put_between.result c.put_between.ensures.gains
@@ -21,7 +21,7 @@ returns-clause-some c =
 pub returns-clause-all : goal.returns-clause-all
 returns-clause-all c =
     let arena = c.args.on.now.arena.now in
-    let t = c.args.text.now in
+    let t = c.args.text.now.text.now in
     let L = PositionsHave c.find_positions.new.known.lefts in
     let R = PositionsHave c.find_positions.new.known.rights in
     on_ok c.put_between.result c.put_between.ensures.gains

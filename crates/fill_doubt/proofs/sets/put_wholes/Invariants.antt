@@ -9,5 +9,5 @@ use Rattle.fill_doubt.proofs.sets.put_wholes.Given as goal
 abbrev pub invariant-loop-i : goal.invariant-loop-i
 invariant-loop-i l = record {
   within : EachIn IsWithin l.found.pieces.items;
-  gains : Gains (PiecesHave l.initial.found) (PiecesHave l.found) (λ o. SomeBelow l.i l.texts.texts.items (λ x. IsValue (IsFilled (λ t. t ≡ x.now)) o));
+  gains : Gains (PiecesHave l.initial.found) (PiecesHave l.found) (λ o. SomeBelow l.i l.texts.texts.items (λ x. IsValue (IsFilled (λ t. t ≡ x.text.now)) o));
 }

@@ -1,15 +1,19 @@
 use Rattle.std.proofs.Common.{◌↔◌, ℕ, List, Option, nat_eq}
 use Rattle.std.specs.HashMap.{get}
-use Rattle.fill_doubt.specs.Answers.{TextsHave}
 use Rattle.fill_doubt.specs.Known.{SourceAnswers}
+use Rattle.fill_doubt.specs.Numbered.{AreNumbered, NumberedHave}
+use Rattle.fill_doubt.specs.declared.numbered.NumberedTexts.{NumberedTexts}
 use Rattle.fill_doubt.proofs.Maps.{put_right}
 use Rattle.fill_doubt.proofs.known.Known.keep_source.Goals as goal
 
-pub returns-in-Ok : goal.returns-in-Ok
-returns-in-Ok c on known exact =
+pub returns-in-Ok-clause-known : goal.returns-in-Ok-clause-known
+returns-in-Ok-clause-known c on known numbered exact =
     let u = c.in-Ok.ensures.updates in
+    let old : ℕ → Option NumberedTexts = (λ q. get nat_eq c.args.self.now.sources q) in
+    let new : ℕ → Option NumberedTexts = (λ q. get nat_eq c.insert.new.self q) in
     record {
-      sources = put_right (λ q. get nat_eq c.args.self.now.sources q) (λ q. get nat_eq c.insert.new.self q) (λ q f. (o : Option (List ℕ)) → TextsHave f o ↔ SourceAnswers on q o) c.args.s c.args.found u.1 u.2 known.sources exact;
+      sources = put_right old new (λ q f. (o : Option (List ℕ)) → NumberedHave f o ↔ SourceAnswers on q o) c.args.s c.args.found u.1 u.2 known.sources exact;
+      numbers = put_right old new (λ q f. AreNumbered c.args.self.now.texts.items f) c.args.s c.args.found u.1 u.2 known.numbers numbered;
       parts = known.parts;
       texts = known.texts;
       shapes = known.shapes;

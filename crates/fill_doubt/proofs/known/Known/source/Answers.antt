@@ -1,9 +1,12 @@
 use Rattle.std.proofs.Common.{◌↔◌, ℕ, List, Option}
-use Rattle.fill_doubt.specs.Answers.{TextsHave}
 use Rattle.fill_doubt.specs.Known.{SourceAnswers}
-use Rattle.fill_doubt.specs.declared.answers.Texts.{Texts}
+use Rattle.fill_doubt.specs.Numbered.{AreNumbered, NumberedHave}
+use Rattle.fill_doubt.specs.declared.numbered.NumberedTexts.{NumberedTexts}
 use Rattle.fill_doubt.proofs.Maps.{found_right}
 use Rattle.fill_doubt.proofs.known.Known.source.Goals as goal
 
-pub returns : goal.returns
-returns c on known = found_right (λ (f : Texts). (o : Option (List ℕ)) → TextsHave f o ↔ SourceAnswers on c.args.s o) _ _ c.get.ensures.value (known.sources c.args.s)
+pub returns-clause-answers : goal.returns-clause-answers
+returns-clause-answers c on known = found_right (λ (f : NumberedTexts). (o : Option (List ℕ)) → NumberedHave f o ↔ SourceAnswers on c.args.s o) _ _ c.get.ensures.value (known.sources c.args.s)
+
+pub returns-clause-numbered : goal.returns-clause-numbered
+returns-clause-numbered c on known = found_right (λ (f : NumberedTexts). AreNumbered c.args.self.now.texts.items f) _ _ c.get.ensures.value (known.numbers c.args.s)
