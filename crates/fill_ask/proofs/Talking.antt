@@ -1,6 +1,6 @@
 -- Turns of a dialogue, and the whole of it.
 use Rattle.std.proofs.Common.{◌≡◌, ◌∙◌, ◌≤◌, ℕ, List, [], ◌∷◌, ◌++◌, Bool, Option, None, Some, true, false, ap, arith, inl, inr, refl, subst, sym}
-use Rattle.std.specs.Prelude.{IfOk, MatchOption, Result, Ok, Err, if◌then◌else◌}
+use Rattle.std.specs.Prelude.{IfOk, MatchOption, map, Result, Ok, Err, if◌then◌else◌}
 use Rattle.std.specs.Io.KnownBytes.{prepend_known}
 use Rattle.std.proofs.KnownBytes.{prepend_known-nil}
 use Rattle.std.specs.Str.Lines.{lines}
@@ -123,7 +123,7 @@ hears_taken (Err e) q reply old new bytes come before now line next is taken sta
 
 -- what is asked once all is learned that is typed
 pub question_is : (g over : Ground) (words : List Example) (kept : List Kept) (typed : List Example) (passed : List ℕ) (examples : List Example) (refused : List Refused) (found : Option Asked)
-    → typed ≡ typed_with words kept → passed ≡ rows_of kept → over ≡ g → AreLearned typed g examples refused → SuggestionIs over examples passed found → QuestionIs g words kept found
+    → typed ≡ typed_with words kept → passed ≡ rows_of kept ++ map (λ r. r.row) refused → over ≡ g → AreLearned typed g examples refused → SuggestionIs over examples passed found → QuestionIs g words kept found
 question_is g over words kept typed passed examples refused found is_typed is_passed is_over learned asked = (
   examples,
   refused,

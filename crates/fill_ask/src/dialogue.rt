@@ -1,8 +1,9 @@
 //! The dialogue: it asks about the row to look at next, until none is left or the answers end.
-ghost use Rattle.std.specs.Prelude.{◌≡◌, ◌≤◌, [], IfOk, IfSome, OnOk, length, option_map};
+ghost use Rattle.std.specs.Prelude.{◌≡◌, ◌≤◌, ◌++◌, [], IfOk, IfSome, OnOk, length, map, option_map};
 ghost use Rattle.std.specs.Io.KnownBytes.{prepend_known};
 ghost use Rattle.fill_session.specs.Suggested.{asked_of};
 ghost use Rattle.fill_ask.specs.Dialogue.{AreAnswered, QuestionIs};
+ghost use Rattle.fill_ask.specs.Replies.{rows_of};
 ghost use Rattle.fill_ask.specs.Told.{Grew};
 ghost use Rattle.fill_ask.specs.Turns.{Hears, Turns};
 
@@ -143,7 +144,7 @@ fn question<E: Sink, L: Ledger>(
 {
     let typed = typed_with(alloc, topic.words, kept)?;
     let refused = learn(alloc, session, typed.as_slice(), steps)?;
-    let passed = rows_of(alloc, kept)?;
+    let passed = passed_over(alloc, kept, refused.as_slice())?;
     let found = session.suggest_beside(&passed)?;
     let asked = match found {
         Some(asked) => asked,
@@ -157,6 +158,17 @@ fn question<E: Sink, L: Ledger>(
     tell_question(alloc, topic, session.sheet(), &asked, err);
     clear(session, steps);
     Ok(Some(asked))
+}
+
+/// The rows that are not asked about: those that were replied to, and those whose text is not learned from.
+fn passed_over(alloc: Global, kept: &[Kept], refused: &[Refused]) -> Result<Vec<u32>, NoMemory>
+    ensures { IfOk result (λ rows. rows.items ≡ rows_of kept.now ++ map (λ r. r.row) refused.now) }
+{
+    let mut rows = rows_of(alloc, kept)?;
+    for cell in refused {
+        rows.push(cell.row)?;
+    }
+    Ok(rows)
 }
 
 /// Forgets what was learned.
