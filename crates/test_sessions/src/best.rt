@@ -51,8 +51,8 @@ fn the_first_programs_of_a_branch(rt: HostRuntime) -> Result<(), Fail> {
     Ok(())
 }
 
-/// The first program of the first branch, where there is one.
-fn first(alloc: Global, session: &Session) -> Result<List<Program>, NoMemory> {
+/// The least program of the first branch, where there is one.
+fn least(alloc: Global, session: &Session) -> Result<List<Program>, NoMemory> {
     if session.branches().len() == 0 {
         return Ok(List::new(alloc));
     }
@@ -75,7 +75,7 @@ impl Work for Explained {
         if !replay(alloc, session, &[accepted(Kind::Add, 1, "Smith")])? {
             return Ok(false);
         }
-        let programs = first(alloc, session)?;
+        let programs = least(alloc, session)?;
         if !explains(session, programs.as_slice()) {
             return Ok(false);
         }

@@ -19,3 +19,11 @@ returns-in-Err-rows_in-clause-stopped c =
     let chosen : choice_of d (records_in c.args.bytes) ≡ Ok (choice_data c.in-Ok-choice_in.choice) = ap (choice_of d) (sym records) ∙ c.in-Ok-choice_in.ensures.ready in
     let stopped = rw c.as_slice-3.ensures at c.in-Err-rows_in.ensures.stopped in
     subst (λ (r : Result ChoiceData Refusal). Refuses (with_choice d c.args.bytes r) c.in-Err-rows_in.stop) (sym chosen) stopped
+
+pub returns-clause-parts : goal.returns-clause-parts
+returns-clause-parts c = record {
+  records = rw c.as_slice.ensures at c.in-Ok.ensures;
+  rows = rw c.as_slice-3.ensures at c.in-Ok-rows_in.ensures.whole;
+  inputs = c.in-Ok-choice_in.ensures.inputs.columns;
+  column = c.in-Ok-choice_in.ensures.output.0;
+}
