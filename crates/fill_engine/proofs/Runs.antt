@@ -27,6 +27,15 @@ pub record RanFlashfill (words : List (List ℕ)) (files : Files) (r : ℕ) (old
   pub gives : Gives (command_in words) files r
   pub generated : (n : ℕ) → command_in words ≡ Some (made n) → (r ≤ 1) ⊎ (r ≡ 4) ⊎ (r ≡ 6)
 
+-- no file changes, so those that stand after the run are those before it
+pub ends_over : (words : List (List ℕ)) (files after : Files) (r : ℕ) (old new : List ℕ) (before now : ℕ) (quiet said : List ℕ) (ago lately : ℕ) (first last : ℕ) → after ≡ files
+    → (ending : Ending) × (r ≡ status_of ending) × Says (Some quiet) (Some said) ago lately (line_of ending)
+    × RunEnds (command_in words) (world files no_faults (Some old) before first) (world after no_faults (Some new) now last) ending
+    → (ending : Ending) × (r ≡ status_of ending) × Says (Some quiet) (Some said) ago lately (line_of ending)
+    × RunEnds (command_in words) (world files no_faults (Some old) before first) (world files no_faults (Some new) now last) ending
+ends_over words files after r old new before now quiet said ago lately first last same h =
+    (h.0, h.1, h.2, subst (λ (f : Files). RunEnds (command_in words) (world files no_faults (Some old) before first) (world f no_faults (Some new) now last) h.0) same h.3)
+
 -- of three ways to end the second one is none
 not_second : (P Q R : Type 0) → (Q → ⊥) → P ⊎ Q ⊎ R → P ⊎ R
 not_second P Q R no_second how = elim how [ inl p ↦ inl p | inr more ↦ elim more [ inl q ↦ absurd (no_second q) | inr r ↦ inr r ] ]
