@@ -34,15 +34,16 @@ pub(crate) struct Few {
     pub(crate) tried: Tried,
 }
 
-/// Whether the graphs are so small that an index takes longer than their edges in pairs.
+/// Whether the graphs are so small that an index takes longer than their edges in pairs. Each set has an item, so the items of
+/// many edges are not counted.
 pub(crate) fn are_few(arena: &Arena, graphs: Graphs<'_>) -> bool
     requires { EachIn (λ e. IsAtomSet arena.now e.atoms) graphs.ys.now }
 {
-    let pairs = graphs
-        .xs
-        .len()
-        .saturating_mul(count_items(arena, graphs.ys));
-    pairs <= FEW_PAIRS
+    let edges = graphs.xs.len();
+    if edges.saturating_mul(graphs.ys.len()) > FEW_PAIRS {
+        return false;
+    }
+    edges.saturating_mul(count_items(arena, graphs.ys)) <= FEW_PAIRS
 }
 
 /// How many items the sets of the edges have.
@@ -172,5 +173,5 @@ fn try_edges(
     if !atoms_may_meet(arena, &mut few.tried, items, arena.atoms(y.atoms)) {
         return Ok(());
     }
-    tie_reached(width, *x, *y, &mut few.sweep)
+    tie_reached(width, x, y, &mut few.sweep)
 }

@@ -169,19 +169,19 @@ fn tie_set(
     let ys = graphs.ys;
     let mut l = index.by_label.first(number);
     while l < ys.len() {
-        tie_edges(graphs.width, xs[k], ys[l], sweep)?;
+        tie_edges(graphs.width, &xs[k], &ys[l], sweep)?;
         l = index.by_label.next(l);
     }
     Ok(())
 }
 
 /// Ties two edges, if something leads to their first pair of nodes.
-fn tie_edges(width: usize, x: Edge, y: Edge, sweep: &mut Sweep) -> Result<(), NoMemory>
-    requires first { IsPlace x.from y.from sweep.old.reached }
-    requires second { IsPlace x.to y.to sweep.old.reached }
-    requires from { x.from * width + y.from < 2 ^ 64 }
-    requires to { x.to * width + y.to < 2 ^ 64 }
-    ensures { OnOk result (IsTried width x y sweep.old sweep.new) }
+fn tie_edges(width: usize, x: &Edge, y: &Edge, sweep: &mut Sweep) -> Result<(), NoMemory>
+    requires first { IsPlace x.now.from y.now.from sweep.old.reached }
+    requires second { IsPlace x.now.to y.now.to sweep.old.reached }
+    requires from { x.now.from * width + y.now.from < 2 ^ 64 }
+    requires to { x.now.to * width + y.now.to < 2 ^ 64 }
+    ensures { OnOk result (IsTried width x.now y.now sweep.old sweep.new) }
 {
     if !sweep.reached.has(x.from, y.from) {
         return Ok(());
@@ -190,11 +190,16 @@ fn tie_edges(width: usize, x: Edge, y: Edge, sweep: &mut Sweep) -> Result<(), No
 }
 
 /// Ties two edges, to whose first pair of nodes something leads.
-pub(crate) fn tie_reached(width: usize, x: Edge, y: Edge, sweep: &mut Sweep) -> Result<(), NoMemory>
-    requires second { IsPlace x.to y.to sweep.old.reached }
-    requires from { x.from * width + y.from < 2 ^ 64 }
-    requires to { x.to * width + y.to < 2 ^ 64 }
-    ensures { OnOk result (IsPutTie width x y sweep.old sweep.new) }
+pub(crate) fn tie_reached(
+    width: usize,
+    x: &Edge,
+    y: &Edge,
+    sweep: &mut Sweep,
+) -> Result<(), NoMemory>
+    requires second { IsPlace x.now.to y.now.to sweep.old.reached }
+    requires from { x.now.from * width + y.now.from < 2 ^ 64 }
+    requires to { x.now.to * width + y.now.to < 2 ^ 64 }
+    ensures { OnOk result (IsPutTie width x.now y.now sweep.old sweep.new) }
 {
     let tie = Tie {
         from: pair_number(x.from * width + y.from)?,
