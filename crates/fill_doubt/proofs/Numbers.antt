@@ -1,13 +1,17 @@
 -- Texts with their numbers, as more texts are numbered.
 use Rattle.std.proofs.Common.{◌≡◌, ◌↔◌, inr, ⊎_elim, ℕ, List, [], ◌∷◌, ◌++◌, true, Option, None, Some, slice_get, refl, sym, subst, ◌∙◌}
 use Rattle.std.proofs.lemmas.Option.{slice_get_within}
+use Rattle.std.specs.Prelude.{IfSome}
 use Rattle.fill_arena.specs.Contents.{SomeIn}
 use Rattle.fill_arena.proofs.Lists.{get_left}
 use Rattle.fill_doubt.specs.Answers.{Gains, TextsHave}
+use Rattle.fill_doubt.specs.Known.{IsLast}
 use Rattle.fill_doubt.specs.Numbered.{AreNumbered, HasNumber, IsNumber, KeepsNumbers, NumberedHave}
 use Rattle.fill_doubt.specs.declared.answers.Texts.{Texts}
+use Rattle.fill_doubt.specs.declared.known.Last.{Last}
 use Rattle.fill_doubt.specs.declared.numbered.Numbered.{Numbered}
 use Rattle.fill_doubt.specs.declared.numbered.NumberedTexts.{NumberedTexts}
+use Rattle.fill_doubt.specs.declared.row.OnRow.{OnRow}
 use Rattle.fill_doubt.specs.declared.shaped.Shaped.{Shaped}
 use Rattle.fill_doubt.proofs.Gains.{have_start}
 use Rattle.fill_doubt.proofs.Joins.{gains_made}
@@ -27,6 +31,10 @@ number_kept old new keeps t (Some n) h = keeps.kept t n h
 
 pub numbered_kept : (old new : List Shaped) (f : NumberedTexts) → KeepsNumbers old new → AreNumbered old f → AreNumbered new f
 numbered_kept old new f keeps are = record { each = λ i x at. number_kept old new keeps x.text.now x.number (are.each i x at) }
+
+pub last_kept : (on : OnRow) (old new : List Shaped) (last : Option Last) → KeepsNumbers old new → IfSome last (IsLast on old) → IfSome last (IsLast on new)
+last_kept on old new None keeps is = tt
+last_kept on old new (Some l) keeps is = record { answers = is.answers; numbers = numbered_kept old new l.texts keeps is.numbers }
 
 pub numbered_same : (texts : List Shaped) (f g : NumberedTexts) → g.texts.items ≡ f.texts.items → AreNumbered texts f → AreNumbered texts g
 numbered_same texts f g same are = record { each = λ i x at. are.each i x (subst (λ (xs : List Numbered). slice_get xs i ≡ Some x) same at) }

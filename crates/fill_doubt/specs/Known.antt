@@ -1,5 +1,5 @@
 -- The answers of sets on the row that is read, and what was found of them.
-use Rattle.std.specs.Prelude.{◌≡◌, ◌↔◌, ℕ, ◌≤◌, List, Option, None, Some, length, option_map, slice_get}
+use Rattle.std.specs.Prelude.{◌≡◌, ◌↔◌, ℕ, ◌≤◌, IfSome, List, Option, None, Some, length, option_map, slice_get}
 use Rattle.std.specs.HashMap.{get}
 use Rattle.std.specs.Bool.{nat_eq}
 use Rattle.fill_tables.specs.Keys.{KeysDistinguish}
@@ -22,6 +22,7 @@ use Rattle.fill_doubt.specs.Rows.{Choice, RowText}
 use Rattle.fill_doubt.specs.Shapes.{IsReadAt, IsShapeOf, ShapesStand}
 use Rattle.fill_doubt.specs.declared.answers.Pieces.{Pieces}
 use Rattle.fill_doubt.specs.declared.known.Known.{Known}
+use Rattle.fill_doubt.specs.declared.known.Last.{Last}
 use Rattle.fill_doubt.specs.declared.numbered.NumberedTexts.{NumberedTexts}
 use Rattle.fill_doubt.specs.declared.row.OnRow.{OnRow}
 use Rattle.fill_doubt.specs.declared.shaped.Shaped.{Shaped}
@@ -78,10 +79,16 @@ abbrev pub RowAnswers : OnRow → List ConditionItem → Option RowText → Type
 RowAnswers on is o = (cs : Atoms) × ConditionsFit cs on.arena.now is
     × IsValue (ConditionsAre on.sheet.now on.tables.now on.row cs) (option_map (λ r. r.texts) o) × IsRowOf cs o
 
+-- the texts that were read last are those of their set, each with its number
+pub record IsLast (on : OnRow) (texts : List Shaped) (l : Last) : Type 0 where
+  pub answers : (o : Option (List ℕ)) → NumberedHave l.texts o ↔ SourceAnswers on l.set o
+  pub numbers : AreNumbered texts l.texts
+
 -- what was found is what the sets answer
 pub record AreKnown (on : OnRow) (known : Known) : Type 0 where
   pub sources : (s : ℕ) (f : NumberedTexts) → get nat_eq known.sources s ≡ Some f → (o : Option (List ℕ)) → NumberedHave f o ↔ SourceAnswers on s o
   pub numbers : (s : ℕ) (f : NumberedTexts) → get nat_eq known.sources s ≡ Some f → AreNumbered known.texts.items f
+  pub last : IfSome known.last (IsLast on known.texts.items)
   pub parts : (s : ℕ) (f : Pieces) → get nat_eq known.parts s ≡ Some f → EachIn IsWithin f.pieces.items × ((o : Option (List ℕ)) → PiecesHave f o ↔ PartAnswers on s o)
   pub texts : (i : ℕ) (x : Shaped) → slice_get known.texts.items i ≡ Some x → IsShapeOf x × IsReadAt known.shapes x.shape.text x.number
   pub shapes : ShapesStand on.arena.now known.shapes

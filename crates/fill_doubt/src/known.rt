@@ -22,11 +22,21 @@ use std::collections::HashMap;
 /// tokens span would take more memory than the text.
 const LONG: usize = 8_192;
 
+/// The texts of the set of sources that was read last.
+#[derive(Drop)]
+pub(crate) struct Last<'a> {
+    set: SourceSet,
+    texts: NumberedTexts<'a>,
+}
+
 /// The answers of sets, those of a set of atoms without its constants, the row's texts with their
 /// shapes, and what was found of shapes; with room for the positions between which pieces stand.
+///
+/// Atoms of one set mostly read the sources of the atom before, so the texts that were read last are lent without a copy.
 #[derive(Drop)]
 pub(crate) struct Known<'a> {
     sources: HashMap<SourceSet, NumberedTexts<'a>>,
+    last: Option<Last<'a>>,
     parts: HashMap<AtomSet, Pieces<'a>>,
     pub(crate) texts: Vec<Shaped<'a>>,
     pub(crate) shapes: Shapes,
@@ -40,6 +50,7 @@ impl<'a> Known<'a> {
     {
         Known {
             sources: HashMap::new(alloc),
+            last: None,
             parts: HashMap::new(alloc),
             texts: Vec::new(alloc),
             shapes,
@@ -53,6 +64,29 @@ impl<'a> Known<'a> {
         ensures numbered { (on : OnRow) → AreKnown on self.now → IfSome result (λ found. AreNumbered self.now.texts.items found.now) }
     {
         self.sources.get(&s)
+    }
+
+    /// Takes the texts of the set out, if it is the one that was read last.
+    pub(crate) fn take_last(&mut self, s: SourceSet) -> Option<NumberedTexts<'a>>
+        ensures known { (on : OnRow) → AreKnown on self.old → AreKnown on self.new }
+        ensures texts { self.new.texts ≡ self.old.texts }
+        ensures answers { (on : OnRow) → AreKnown on self.old → IfSome result (λ found. (o : Option (Items ℕ)) → NumberedHave found o ↔ SourceAnswers on s o) }
+        ensures numbered { (on : OnRow) → AreKnown on self.old → IfSome result (AreNumbered self.old.texts.items) }
+    {
+        let Some(last) = self.last.take() else {
+            return None;
+        };
+        if last.set.index() != s.index() {
+            return None;
+        }
+        Some(last.texts)
+    }
+
+    /// Keeps the texts of a set as those that were read last.
+    pub(crate) fn put_last(&mut self, set: SourceSet, texts: NumberedTexts<'a>)
+        ensures { (on : OnRow) → AreKnown on self.old → AreNumbered self.old.texts.items texts.entry → ((o : Option (Items ℕ)) → NumberedHave texts.entry o ↔ SourceAnswers on set o) → AreKnown on self.new }
+    {
+        self.last = Some(Last { set, texts });
     }
 
     pub(crate) fn part(&self, s: AtomSet) -> Option<&Pieces<'a>>

@@ -37,6 +37,9 @@ pub(crate) fn sources_of<'a>(
     ensures exact { IfOk result (λ found. (o : Option (Items ℕ)) → NumberedHave found o ↔ SourceAnswers on.now s o) }
     ensures numbered { IfOk result (AreNumbered known.new.texts.items) }
 {
+    if let Some(found) = known.take_last(s) {
+        return Ok(found);
+    }
     if let Some(found) = known.source(s) {
         return found.copy(on.alloc);
     }
@@ -242,11 +245,15 @@ pub(crate) fn put_part<'a>(
         AtomItem::Const(_) => Ok(()),
         AtomItem::Whole(sources) => {
             let texts = sources_of(on, known, *sources)?;
-            put_wholes(&texts, found)
+            put_wholes(&texts, found)?;
+            known.put_last(*sources, texts);
+            Ok(())
         }
         AtomItem::Sub(sources, lefts, rights) => {
             let texts = sources_of(on, known, *sources)?;
-            put_subs(on, known, &texts, *lefts, *rights, few, found)
+            put_subs(on, known, &texts, *lefts, *rights, few, found)?;
+            known.put_last(*sources, texts);
+            Ok(())
         }
     }
 }
@@ -294,6 +301,7 @@ fn put_subs<'a>(
     requires known { AreKnown on.now known.old }
     requires within { EachIn IsWithin found.old.pieces.items }
     ensures known { OnOk result (AreKnown on.now known.new) }
+    ensures texts { OnOk result (known.new.texts ≡ known.old.texts) }
     ensures within { OnOk result (EachIn IsWithin found.new.pieces.items) }
     ensures some { OnOk result (GainsSome (PiecesHave found.old) (PiecesHave found.new) (ArePiecesOf on.now.arena.now lefts rights (NumberedHave texts.now))) }
     ensures all { OnOk result (few ≡ false → Gains (PiecesHave found.old) (PiecesHave found.new) (ArePiecesOf on.now.arena.now lefts rights (NumberedHave texts.now))) }

@@ -35,6 +35,7 @@ returns-clause-known c =
     on_two c.shape_positions-2.result c.shape_positions-2.ensures.stand c.shape_positions-2.ensures.there (λ stand there. record {
       sources = are.sources;
       numbers = are.numbers;
+      last = are.last;
       parts = are.parts;
       texts = λ i x at. ((are.texts i x at).0, there x.shape.text x.number (c.in_ok-shape_positions.ensures.there x.shape.text x.number (are.texts i x at).1));
       shapes = stand;

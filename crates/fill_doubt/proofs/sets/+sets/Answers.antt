@@ -138,24 +138,24 @@ pub put_part-returns-in-Const-clause-all : goal.put_part-returns-in-Const-clause
 put_part-returns-in-Const-clause-all n c = λ few.
     gains_none _ _ (λ o h. no_parts c.args.on.now c.requires.row c.args.item.now o _ c.in-Const.is h)
 
-pub put_part-returns-in_ok-texts-in-Whole-clause-some : goal.put_part-returns-in_ok-texts-in-Whole-clause-some
-put_part-returns-in_ok-texts-in-Whole-clause-some n c =
+pub put_part-returns-in_ok-put_wholes-in-Whole-clause-some : goal.put_part-returns-in_ok-put_wholes-in-Whole-clause-some
+put_part-returns-in_ok-put_wholes-in-Whole-clause-some n c =
     let on = c.args.on.now in
     let T = NumberedHave c.in_ok-texts-in-Whole.texts in
     let item : (o : Option (List ℕ)) → AreWholes T o ↔ PartItemAnswers on c.args.item.now o =
     rw c.in-Whole.is (wholes_by on c.requires.row c.in-Whole.sources T c.in_ok-texts-in-Whole.ensures.exact) in
-    on_ok c.put_wholes.result c.put_wholes.ensures.gains (λ g o h. some_into _ _ (AreWholes T) (PartItemAnswers on c.args.item.now) (λ q w. (item q).0 w) (λ q w. (g q).0 w) o h)
+    λ o h. some_into _ _ (AreWholes T) (PartItemAnswers on c.args.item.now) (λ q w. (item q).0 w) (λ q w. (c.in_ok-put_wholes-in-Whole.ensures.gains q).0 w) o h
 
-pub put_part-returns-in_ok-texts-in-Whole-clause-all : goal.put_part-returns-in_ok-texts-in-Whole-clause-all
-put_part-returns-in_ok-texts-in-Whole-clause-all n c =
+pub put_part-returns-in_ok-put_wholes-in-Whole-clause-all : goal.put_part-returns-in_ok-put_wholes-in-Whole-clause-all
+put_part-returns-in_ok-put_wholes-in-Whole-clause-all n c =
     let on = c.args.on.now in
     let T = NumberedHave c.in_ok-texts-in-Whole.texts in
     let item : (o : Option (List ℕ)) → AreWholes T o ↔ PartItemAnswers on c.args.item.now o =
     rw c.in-Whole.is (wholes_by on c.requires.row c.in-Whole.sources T c.in_ok-texts-in-Whole.ensures.exact) in
-    on_ok c.put_wholes.result c.put_wholes.ensures.gains (λ g few. gains_alike _ _ (AreWholes T) (PartItemAnswers on c.args.item.now) item g)
+    λ few. gains_alike _ _ (AreWholes T) (PartItemAnswers on c.args.item.now) item c.in_ok-put_wholes-in-Whole.ensures.gains
 
-pub put_part-returns-in_ok-texts-in-Sub-clause-some : goal.put_part-returns-in_ok-texts-in-Sub-clause-some
-put_part-returns-in_ok-texts-in-Sub-clause-some n c =
+pub put_part-returns-in_ok-put_subs-in-Sub-clause-some : goal.put_part-returns-in_ok-put_subs-in-Sub-clause-some
+put_part-returns-in_ok-put_subs-in-Sub-clause-some n c =
     let on = c.args.on.now in
     let T = NumberedHave c.in_ok-texts-in-Sub.texts in
     let l = c.in-Sub.lefts in
@@ -163,10 +163,10 @@ put_part-returns-in_ok-texts-in-Sub-clause-some n c =
     let older = rw c.in-Sub.is at c.requires.item in
     let item : (o : Option (List ℕ)) → ArePiecesOf on.arena.now l r T o ↔ PartItemAnswers on c.args.item.now o =
     rw c.in-Sub.is (subs_by on c.requires.row c.in-Sub.sources l r T older.1.0 older.2.0 c.in_ok-texts-in-Sub.ensures.exact) in
-    on_ok c.put_subs.result c.put_subs.ensures.some (some_into _ _ (ArePiecesOf on.arena.now l r T) (PartItemAnswers on c.args.item.now) (λ o h. (item o).0 h))
+    some_into _ _ (ArePiecesOf on.arena.now l r T) (PartItemAnswers on c.args.item.now) (λ o h. (item o).0 h) c.in_ok-put_subs-in-Sub.ensures.some
 
-pub put_part-returns-in_ok-texts-in-Sub-clause-all : goal.put_part-returns-in_ok-texts-in-Sub-clause-all
-put_part-returns-in_ok-texts-in-Sub-clause-all n c =
+pub put_part-returns-in_ok-put_subs-in-Sub-clause-all : goal.put_part-returns-in_ok-put_subs-in-Sub-clause-all
+put_part-returns-in_ok-put_subs-in-Sub-clause-all n c =
     let on = c.args.on.now in
     let T = NumberedHave c.in_ok-texts-in-Sub.texts in
     let l = c.in-Sub.lefts in
@@ -174,19 +174,13 @@ put_part-returns-in_ok-texts-in-Sub-clause-all n c =
     let older = rw c.in-Sub.is at c.requires.item in
     let item : (o : Option (List ℕ)) → ArePiecesOf on.arena.now l r T o ↔ PartItemAnswers on c.args.item.now o =
     rw c.in-Sub.is (subs_by on c.requires.row c.in-Sub.sources l r T older.1.0 older.2.0 c.in_ok-texts-in-Sub.ensures.exact) in
-    on_ok c.put_subs.result c.put_subs.ensures.all (λ g few. gains_alike _ _ (ArePiecesOf on.arena.now l r T) (PartItemAnswers on c.args.item.now) item (g few))
+    λ few. gains_alike _ _ (ArePiecesOf on.arena.now l r T) (PartItemAnswers on c.args.item.now) item (c.in_ok-put_subs-in-Sub.ensures.all few)
 
 pub sources_of-returns-in-Some-clause-exact : goal.sources_of-returns-in-Some-clause-exact
-sources_of-returns-in-Some-clause-exact n c =
-    let on = c.args.on.now in
-    let found = c.in-Some.found.now in
-    let exact = c.in-Some.ensures.answers on c.requires.known in
-    if_ok c.copy.result c.copy.ensures (λ f same. have_same (λ x. x.text.now) f.texts.items found.texts.items f.none found.none same.0 same.1 (SourceAnswers on c.args.s) exact)
+sources_of-returns-in-Some-clause-exact n c = c.in-Some.ensures.answers c.args.on.now c.requires.known
 
 pub sources_of-returns-in-Some-clause-numbered : goal.sources_of-returns-in-Some-clause-numbered
-sources_of-returns-in-Some-clause-numbered n c =
-    let found = c.in-Some.found.now in
-    if_ok c.copy.result c.copy.ensures (λ f same. numbered_same c.args.known.now.texts.items found f same.0 (c.in-Some.ensures.numbered c.args.on.now c.requires.known))
+sources_of-returns-in-Some-clause-numbered n c = subst (λ v. AreNumbered v.items c.in-Some.found) (sym c.in-Some.ensures.texts) (c.in-Some.ensures.numbered c.args.on.now c.requires.known)
 
 pub sources_of-returns-clause-exact : goal.sources_of-returns-clause-exact
 sources_of-returns-clause-exact n c = λ o.

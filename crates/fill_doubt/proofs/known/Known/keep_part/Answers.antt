@@ -13,6 +13,7 @@ returns-in-Ok c on known within exact =
     record {
       sources = known.sources;
       numbers = known.numbers;
+      last = known.last;
       parts = put_right (λ q. get nat_eq c.args.self.now.parts q) (λ q. get nat_eq c.insert.new.self q) (λ q f. EachIn IsWithin f.pieces.items × ((o : Option (List ℕ)) → PiecesHave f o ↔ PartAnswers on q o)) c.args.s c.args.found u.1 u.2 known.parts (within, exact);
       texts = known.texts;
       shapes = known.shapes;

@@ -14,6 +14,7 @@ returns-in-Ok-clause-known c on known numbered exact =
     record {
       sources = put_right old new (λ q f. (o : Option (List ℕ)) → NumberedHave f o ↔ SourceAnswers on q o) c.args.s c.args.found u.1 u.2 known.sources exact;
       numbers = put_right old new (λ q f. AreNumbered c.args.self.now.texts.items f) c.args.s c.args.found u.1 u.2 known.numbers numbered;
+      last = known.last;
       parts = known.parts;
       texts = known.texts;
       shapes = known.shapes;

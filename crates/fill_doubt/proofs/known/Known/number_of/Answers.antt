@@ -3,7 +3,7 @@ use Rattle.fill_doubt.specs.Shapes.{IsReadAt, IsShapeOf}
 use Rattle.fill_doubt.specs.declared.shaped.Shaped.{Shaped}
 use Rattle.fill_doubt.proofs.Cut.{last_at}
 use Rattle.fill_doubt.proofs.Maps.{pushed_right}
-use Rattle.fill_doubt.proofs.Numbers.{keeps_pushed, numbered_kept}
+use Rattle.fill_doubt.proofs.Numbers.{keeps_pushed, last_kept, numbered_kept}
 use Rattle.fill_doubt.proofs.known.Known.number_of.Goals as goal
 
 pub returns-clause-known : goal.returns-clause-known
@@ -12,6 +12,7 @@ returns-clause-known c = λ on are.
     record {
       sources = are.sources;
       numbers = λ s f at. numbered_kept c.args.self.now.texts.items c.put_text.new.texts.items f (keeps_pushed c.args.self.now.texts.items c.put_text.new.texts.items x c.in_ok-put_text.ensures) (are.numbers s f at);
+      last = last_kept on c.args.self.now.texts.items c.put_text.new.texts.items c.args.self.now.last (keeps_pushed c.args.self.now.texts.items c.put_text.new.texts.items x c.in_ok-put_text.ensures) are.last;
       parts = are.parts;
       texts = pushed_right (λ (y : Shaped). IsShapeOf y × IsReadAt c.number_of.new.self y.shape.text y.number) c.args.self.now.texts.items c.put_text.new.texts.items x c.in_ok-put_text.ensures
           (c.in_ok-shape.ensures, c.in_ok-number.ensures.there) (λ i y at. ((are.texts i y at).0, c.in_ok-number.ensures.kept y.shape.text y.number (are.texts i y at).1));
