@@ -6,6 +6,8 @@ mod best;
 #[cfg(test)]
 mod edit;
 #[cfg(test)]
+mod laws;
+#[cfg(test)]
 mod moves;
 #[cfg(test)]
 mod session;
