@@ -6,7 +6,7 @@ ghost use Rattle.fill_edge.specs.Outside.{IsPieceOf};
 ghost use Rattle.fill_edge.specs.Real.{counts_after, IsPlaced, GivesFrom};
 
 use crate::interruption::is_interrupted;
-use crate::outside::LARGEST_FILE;
+use crate::outside::LAST_PLACE;
 use crate::{Cabinet, ReadRefusal};
 use std::io::{ErrorKind, Read, Seek, SeekFrom};
 use std::marker::Model;
@@ -78,7 +78,7 @@ impl<R: Files + Drop> Cabinet for FolderCabinet<R> {
 
     fn read(&mut self, name: &str, at: u64, buf: &mut [u8]) -> Result<usize, ReadRefusal>
         requires room { 0 < length buf.old }
-        requires place { at ≤ LARGEST_FILE }
+        requires place { at ≤ LAST_PLACE }
 
         ensures bound { IfOk result (λ n. n ≤ length buf.old) }
         ensures there { OnErr result (IsErrOf result ReadRefusal.Failed) }

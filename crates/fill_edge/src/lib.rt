@@ -14,7 +14,7 @@ mod writing;
 pub use folder::FolderCabinet;
 pub use memory_cabinet::MemoryCabinet;
 pub use memory_sink::MemorySink;
-pub use outside::{Cabinet, Failed, LARGEST_FILE, ReadRefusal, Sink};
+pub use outside::{Cabinet, Failed, LARGEST_FILE, LAST_PLACE, ReadRefusal, Sink};
 pub use reading::{ReadError, read_all};
 pub use std::sync::ledger::Ledger;
 pub use steps::Steps;

@@ -4,7 +4,7 @@ ghost use Rattle.std.specs.Str.{bytes_eq};
 ghost use Rattle.fill_edge.specs.Outside.{counted, GivesPiece};
 ghost use Rattle.fill_edge.specs.Memory.{held, rest_from, after_read};
 
-use crate::outside::LARGEST_FILE;
+use crate::outside::LAST_PLACE;
 use crate::{Cabinet, ReadRefusal};
 use fill_text::NoMemory;
 use std::alloc::Global;
@@ -126,7 +126,7 @@ impl Cabinet for MemoryCabinet {
     /// where there is none. It gives as many bytes as `most`, the buffer and the file allow.
     fn read(&mut self, name: &str, at: u64, buf: &mut [u8]) -> Result<usize, ReadRefusal>
         requires room { 0 < length buf.old }
-        requires place { at ≤ LARGEST_FILE }
+        requires place { at ≤ LAST_PLACE }
 
         ensures bound { IfOk result (λ n. n ≤ length buf.old) }
         ensures piece { IfOk result (λ n. GivesPiece (Some (λ x. held self.old.files x)) name.now at n buf.new) }

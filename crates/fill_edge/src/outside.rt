@@ -5,8 +5,11 @@ ghost use Rattle.fill_edge.specs.Outside.{Files, Rose, counted, NoneFell, NoneCh
 
 use thiserror::Error;
 
-/// The most bytes that a file may have, 16 MiB, and the last place at which one is read.
+/// The most bytes that a file may have which is kept whole, 16 MiB.
 pub const LARGEST_FILE: usize = 16_777_216;
+
+/// The last place at which a file is read, and so the most bytes of a sheet: 1 TiB.
+pub const LAST_PLACE: usize = 1_099_511_627_776;
 
 /// A write failed, and the sink counted it.
 #[derive(Clone, Copy, Debug, PartialEq, Eq, Error)]
@@ -41,7 +44,7 @@ pub trait Cabinet {
     /// answers how many. They may be fewer than there is room for.
     fn read(&mut self, name: &str, at: u64, buf: &mut [u8]) -> Result<usize, ReadRefusal>
         requires room { 0 < length buf.old }
-        requires place { at ≤ LARGEST_FILE }
+        requires place { at ≤ LAST_PLACE }
 
         // The bytes are those of the map, which never changes.
         ensures bound { IfOk result (λ n. n ≤ length buf.old) }

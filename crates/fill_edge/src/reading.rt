@@ -4,7 +4,7 @@ ghost use Rattle.fill_edge.specs.Outside.{Rose, RoseBeyond, counted, NoneFell, N
 ghost use Rattle.fill_edge.specs.Reading.{read_error};
 ghost use Rattle.fill_edge.specs.declared.reading.ReadError.TheVariants as error;
 
-use crate::outside::LARGEST_FILE;
+use crate::outside::LAST_PLACE;
 use crate::{Cabinet, ReadRefusal};
 use fill_text::{List, NoMemory};
 use std::alloc::Global;
@@ -59,7 +59,7 @@ pub fn read_all<C: Cabinet>(
     name: &str,
     limit: usize,
 ) -> Result<List<u8>, ReadError>
-    requires { limit ≤ LARGEST_FILE }
+    requires { limit ≤ LAST_PLACE }
 
     ensures whole { IfOk result (λ bytes. IsFile (C.files cabinet.old) name.now bytes) }
     ensures fits { IfOk result (λ bytes. length bytes ≤ limit) }

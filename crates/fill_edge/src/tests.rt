@@ -183,7 +183,7 @@ fn comes_to(
     answer: Result<usize, ReadRefusal>,
     wanted: [u8; 4],
 ) -> bool
-    requires { at ≤ LARGEST_FILE }
+    requires { at ≤ LAST_PLACE }
 {
     let mut buf = [0u8; 4];
     cabinet.read(name, at, &mut buf) == answer && buf == wanted

@@ -2,7 +2,7 @@
 ghost use Rattle.std.specs.Prelude.{◌≡◌, ◌<◌, ◌≤◌, length, IfOk, OnErr, IsErrOf};
 ghost use Rattle.fill_edge.specs.Real.{counts_after};
 
-use fill_edge::{Cabinet, LARGEST_FILE, ReadRefusal};
+use fill_edge::{Cabinet, LAST_PLACE, ReadRefusal};
 use std::io::{ErrorKind, Read};
 use std::marker::Model;
 
@@ -75,7 +75,7 @@ impl<C: Cabinet + Drop, R: Read + Drop> Cabinet for InputCabinet<C, R> {
 
     fn read(&mut self, name: &str, at: u64, buf: &mut [u8]) -> Result<usize, ReadRefusal>
         requires room { 0 < length buf.old }
-        requires place { at ≤ LARGEST_FILE }
+        requires place { at ≤ LAST_PLACE }
 
         ensures bound { IfOk result (λ n. n ≤ length buf.old) }
         ensures there { OnErr result (IsErrOf result ReadRefusal.Failed) }
