@@ -2,6 +2,7 @@
 ghost use Rattle.std.specs.Prelude.{◌≡◌, ℕ, ◌<◌, length, slice_get, option_copied, All, IfOk, IsTrue};
 ghost use Rattle.std.specs.List.{list_all};
 ghost use Rattle.std.specs.Str.{is_utf8};
+ghost use Rattle.csv.specs.Records.{fields_of};
 ghost use Rattle.fill_records.specs.Records.{field_of};
 ghost use Rattle.fill_records.specs.Texts.{bad_column, text_in};
 
@@ -27,6 +28,13 @@ impl Model for Record {
 }
 
 impl Record {
+    /// The record that was read into a row.
+    pub fn of(row: ByteRecord) -> Record
+        ensures { result ≡ fields_of row }
+    {
+        Record { row }
+    }
+
     /// The number of fields.
     pub fn len(&self) -> usize
         ensures { result ≡ length self.now }

@@ -56,7 +56,7 @@ fn given_in(alloc: Global, fields: &Record, output: Option<u32>) -> Result<Optio
 }
 
 /// The row of a record.
-fn row_of(
+pub(crate) fn row_of(
     alloc: Global,
     fields: &Record,
     inputs: &[u32],

@@ -1,13 +1,15 @@
 //! Sheets.
-ghost use Rattle.std.specs.Prelude.{◌≡◌, ◌≢◌, ◌≤◌, ◌==◌, length, position, Contains, Ok, Err, Some, IfOk, IfErr, option_copied};
+ghost use Rattle.std.specs.Prelude.{◌≡◌, ◌≢◌, ◌<◌, ◌≤◌, ◌==◌, [], ◌∷◌, ◌++◌, length, position, Contains, Ok, Err, Some, IfOk, IfErr, OnOk, OnErr, option_copied, option_to_list};
 ghost use Rattle.std.specs.List.Sorted.{IsPermutation};
+ghost use Rattle.std.specs.Option.{ForSome};
 ghost use Rattle.fill_text.specs.Data.{cell_at};
-ghost use Rattle.fill_sheet.specs.Columns.{AreInputs, IsOutput};
-ghost use Rattle.fill_sheet.specs.Sheet.{IsSheet, given_at, read_sheet, read_up_to, row_sheet, sheet_of};
+ghost use Rattle.fill_records.specs.Texts.{IsText};
+ghost use Rattle.fill_sheet.specs.Columns.{AreInputs, IsColumn, IsOutput, rising};
+ghost use Rattle.fill_sheet.specs.Sheet.{IsSheet, given_at, read_sheet, read_up_to, row_of, row_sheet, sheet_of};
 
 use crate::SheetError;
 use crate::columns::{rising, used};
-use crate::reading::{first_number, row_records, rows_of};
+use crate::reading::{first_number, row_of, row_records, rows_of};
 use crate::row::Row;
 use fill_records::{Record, first_bad, read_records};
 use fill_text::{NoMemory, Text};
@@ -118,6 +120,35 @@ impl Sheet {
         let mut rows = Vec::new(alloc);
         rows.push(Row { cells, given: None })?;
         Ok(Sheet { inputs, rows })
+    }
+
+    /// The sheet of these input columns, in any order, without rows.
+    pub fn without_rows(alloc: Global, inputs: &[u32]) -> Result<Sheet, NoMemory>
+        requires { AreInputs inputs.now }
+        ensures { IfOk result (λ sheet. sheet ≡ record { inputs = rising inputs.now; rows = [] }) }
+    {
+        Ok(Sheet {
+            inputs: rising(alloc, inputs)?,
+            rows: Vec::new(alloc),
+        })
+    }
+
+    /// Adds the row of a record after the last one; where the output is set, it may give a text.
+    pub fn add_row(
+        &mut self,
+        alloc: Global,
+        fields: &Record,
+        output: Option<u32>,
+    ) -> Result<(), NoMemory>
+        requires room { length self.old.rows < 16777216 }
+        requires output { ForSome output IsColumn }
+        requires text { IsText (self.old.inputs ++ option_to_list output) fields.now }
+        ensures ok { OnOk result (self.new ≡ record self.old { rows = self.old.rows ++ row_of self.old.inputs output fields.now ∷ [] }) }
+        ensures err { OnErr result (self.new ≡ self.old) }
+    {
+        let row = row_of(alloc, fields, &self.inputs, output)?;
+        self.rows.push(row)?;
+        Ok(())
     }
 
     /// The number of rows.
