@@ -1,13 +1,13 @@
 //! Texts.
 ghost use Rattle.std.specs.Prelude.{All, ◌≡◌, ◌+◌, ◌<◌, ◌≤◌, ◌^◌, ◌↔◌, IsTrue, [], ◌++◌, length, IfOk, IfErr, OnOk, OnErr, IsUtf8, encode_utf8_all, slice_index, slice_range, string_bytes};
 ghost use Rattle.std.specs.Char.{IsScalar};
-ghost use Rattle.std.specs.Str.{chars};
+ghost use Rattle.std.specs.Str.{IsAscii, chars};
 ghost use Rattle.std.specs.Ordering.{nat_cmp};
 ghost use Rattle.std.specs.Cmp.Lexicographic.{slice_cmp};
 ghost use Rattle.fill_text.specs.Text.{Refuses};
 
 use crate::{List, NoMemory, TextError};
-use std::alloc::Global;
+use std::alloc::{AllocError, Global};
 use std::cmp::Ordering;
 use std::marker::Model;
 
@@ -46,6 +46,21 @@ impl Text {
         ensures spelled { OnOk result (IsUtf8 bytes.now) }
         ensures err { IfErr result (λ e. Refuses bytes.now e) }
     {
+        if bytes.is_ascii() {
+            return match Text::from_ascii(alloc, bytes) {
+                Ok(text) => Ok(text),
+                Err(_) => Err(TextError::NoMemory),
+            };
+        }
+        Text::decoded(alloc, bytes)
+    }
+
+    /// The text that these bytes spell, character by character.
+    fn decoded(alloc: Global, bytes: &[u8]) -> Result<Text, TextError>
+        ensures ok { IfOk result (λ text. text ≡ chars bytes.now) }
+        ensures spelled { OnOk result (IsUtf8 bytes.now) }
+        ensures err { IfErr result (λ e. Refuses bytes.now e) }
+    {
         match str::from_utf8(bytes) {
             Ok(spelled) => match spelled.chars().collect(alloc) {
                 Ok(chars) => Ok(Text { chars }),
@@ -55,6 +70,18 @@ impl Text {
                 at: e.valid_up_to(),
             }),
         }
+    }
+
+    /// The text of these bytes, each of which is a character of ASCII.
+    fn from_ascii(alloc: Global, bytes: &[u8]) -> Result<Text, AllocError>
+        requires { IsAscii bytes.now }
+        ensures { IfOk result (λ text. text ≡ bytes.now) }
+    {
+        let mut chars = Vec::with_capacity(alloc, bytes.len())?;
+        for byte in bytes {
+            chars.push(char::from(*byte))?;
+        }
+        Ok(Text { chars })
     }
 
     /// The number of characters.
