@@ -1,6 +1,8 @@
 //! The lesser of two places or trees, by cost and then by their order.
 ghost use Rattle.std.specs.Prelude.{◌↔◌, ◌≡◌, ◌<◌, ◌^◌, IsTrue, IfSome, length};
 ghost use Rattle.std.specs.declared.cmp.Ordering.TheVariants.{Less};
+ghost use Rattle.fill_tokens.specs.Prices.{place_cost};
+ghost use Rattle.fill_tokens.specs.declared.prices.Prices.{Prices};
 ghost use Rattle.fill_tree.specs.Cost.{atom_cost, source_cost};
 ghost use Rattle.fill_tree.specs.Meaning.{atom_tree, source_tree};
 ghost use Rattle.fill_arena.specs.Contents.{In};
@@ -16,18 +18,25 @@ pub(crate) fn least_place(prices: &Prices, places: &[Place]) -> Place
     ensures { IsBest (place_rank prices.now) (λ p. In p places.now) result }
 {
     let mut best = places[0];
+    let mut cost = best.cost(prices);
     for i in 1..places.len() {
-        if place_before(prices, &places[i], &best) {
+        let other = places[i].cost(prices);
+        if place_before(&places[i], other, &best, cost) {
             best = places[i];
+            cost = other;
         }
     }
     best
 }
 
-fn place_before(prices: &Prices, a: &Place, b: &Place) -> bool
-    ensures { IsTrue result ↔ (place_rank prices.now a.now b.now ≡ Less) }
+/// Whether the first place is before the second, with their costs.
+fn place_before(a: &Place, a_cost: u64, b: &Place, b_cost: u64) -> bool
+    ensures { (prices : Prices) → a_cost ≡ place_cost prices a.now → b_cost ≡ place_cost prices b.now → IsTrue result ↔ (place_rank prices a.now b.now ≡ Less) }
 {
-    a.cost(prices).cmp(&b.cost(prices)).then(a.compare(b)) == Ordering::Less
+    if a_cost != b_cost {
+        return a_cost < b_cost;
+    }
+    a.compare(b) == Ordering::Less
 }
 
 /// Whether the first source is before the second.

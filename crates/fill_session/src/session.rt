@@ -198,6 +198,14 @@ impl Session {
         self.spaces.sheet()
     }
 
+    /// The tables, once the session is let go.
+    pub fn into_tables(self) -> Tables
+        ensures { result ≡ self.spaces.ground.tables }
+    {
+        let Session { spaces, .. } = self;
+        spaces.into_tables()
+    }
+
     /// The examples in the order of their rows.
     pub fn examples(&self) -> &[Example]
         ensures same { result.now ≡ self.now.examples }

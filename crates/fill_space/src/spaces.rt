@@ -85,6 +85,15 @@ impl Spaces {
         &self.ground.tables
     }
 
+    /// The tables, once the spaces are let go.
+    pub fn into_tables(self) -> Tables
+        ensures { result ≡ self.ground.tables }
+    {
+        let Spaces { ground, .. } = self;
+        let Ground { tables, .. } = ground;
+        tables
+    }
+
     /// The bounds of the grammar.
     pub fn settings(&self) -> &Settings
         ensures same { result.now ≡ self.now.ground.settings }
