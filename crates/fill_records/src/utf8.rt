@@ -4,11 +4,15 @@ ghost use Rattle.std.specs.Str.{is_utf8};
 ghost use Rattle.fill_records.specs.Texts.{first_bad};
 
 use crate::Record;
+use fill_text::is_ascii;
 
 /// Whether bytes are UTF-8.
 pub fn is_text(bytes: &[u8]) -> bool
     ensures { result ≡ is_utf8 bytes.now }
 {
+    if is_ascii(bytes) {
+        return true;
+    }
     match str::from_utf8(bytes) {
         Ok(_) => true,
         Err(_) => false,

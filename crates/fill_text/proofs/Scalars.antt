@@ -1,10 +1,10 @@
 -- Lists of Unicode scalar values.
-use Rattle.std.proofs.Common.{◌≡◌, ℕ, zero, suc, ◌-◌, List, [], ◌∷◌, drop, Bool, true, false, refl, subst, arith}
+use Rattle.std.proofs.Common.{◌≡◌, ℕ, zero, suc, ◌-◌, List, [], ◌∷◌, drop, Bool, true, false, refl, arith}
 use Rattle.std.specs.Prelude.{All, ◌&&◌, IsUtf8, slice_range}
 use Rattle.std.specs.Char.{IsScalar}
-use Rattle.std.specs.Str.{IsAscii, chars, all_scalars}
+use Rattle.std.specs.Str.{chars, all_scalars}
 use Rattle.std.proofs.lemmas.List.Elements.{All-take, All-drop}
-use Rattle.std.proofs.lemmas.Str.{IsUtf8-from_ascii, chars-IsAscii, scalars-chars}
+use Rattle.std.proofs.lemmas.Str.{scalars-chars}
 
 first : (b c : Bool) → (b && c) ≡ true → b ≡ true
 first true c h = refl
@@ -24,7 +24,3 @@ All-chars bytes u = All-from_scalars (chars bytes) (scalars-chars bytes u)
 
 pub All-range : (cs : List ℕ) (a b : ℕ) → All IsScalar cs → All IsScalar (slice_range cs a b)
 All-range cs a b h = All-take IsScalar (b - a) (drop a cs) (All-drop IsScalar a cs h)
-
--- the bytes of ASCII are characters
-pub All-ascii : (bytes : List ℕ) → IsAscii bytes → All IsScalar bytes
-All-ascii bytes are = subst (All IsScalar) (chars-IsAscii bytes are) (All-chars bytes (IsUtf8-from_ascii bytes are))

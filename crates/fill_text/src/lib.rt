@@ -11,4 +11,4 @@ pub use class::{Class, class_of, is_separator};
 pub use error::{NoMemory, TextError};
 pub use list::List;
 pub use name::Name;
-pub use text::Text;
+pub use text::{Text, is_ascii};

@@ -30,6 +30,18 @@ impl Model for Text {
     ghost invariant = { λ text. All IsScalar text.chars.items };
 }
 
+/// Whether each byte is a character of ASCII.
+pub fn is_ascii(bytes: &[u8]) -> bool
+    ensures { IsTrue result ↔ IsAscii bytes.now }
+{
+    for byte in bytes {
+        if *byte >= 128 {
+            return false;
+        }
+    }
+    true
+}
+
 impl Text {
     /// The empty text, which takes no memory.
     pub fn new(alloc: Global) -> Text
@@ -46,7 +58,7 @@ impl Text {
         ensures spelled { OnOk result (IsUtf8 bytes.now) }
         ensures err { IfErr result (λ e. Refuses bytes.now e) }
     {
-        if bytes.is_ascii() {
+        if is_ascii(bytes) {
             return match Text::from_ascii(alloc, bytes) {
                 Ok(text) => Ok(text),
                 Err(_) => Err(TextError::NoMemory),
@@ -77,9 +89,9 @@ impl Text {
         requires { IsAscii bytes.now }
         ensures { IfOk result (λ text. text ≡ bytes.now) }
     {
-        let mut chars = Vec::with_capacity(alloc, bytes.len())?;
-        for byte in bytes {
-            chars.push(char::from(*byte))?;
+        let mut chars = vec![in alloc; '\0'; bytes.len()]?;
+        for i in 0..bytes.len() {
+            chars[i] = char::from(bytes[i]);
         }
         Ok(Text { chars })
     }
