@@ -1,7 +1,7 @@
 //! Numbers of sets and graphs.
 //!
 //! Each kind has a type of its own, so that a number of one kind is not taken for one of another.
-ghost use Rattle.std.specs.Prelude.{◌≡◌};
+ghost use Rattle.std.specs.Prelude.{◌≡◌, ◌↔◌, ◌<◌, IsTrue};
 
 use std::marker::Model;
 
@@ -119,6 +119,13 @@ impl GraphId {
         ensures { result ≡ number }
     {
         GraphId { number }
+    }
+
+    /// Whether the graph was there when the mark was taken, so that a cut to the mark leaves it.
+    pub fn is_before(self, mark: Mark) -> bool
+        ensures { IsTrue result ↔ self < mark }
+    {
+        self.number < mark.count
     }
 
     pub(crate) fn index(self) -> usize
