@@ -10,7 +10,7 @@ use Rattle.fill_columns.specs.Columns.{names_of, width}
 use Rattle.fill_columns.specs.Choice.{ChoiceData, Refusal, choice_after, choice_in}
 use Rattle.fill_tree.specs.declared.user.Example.{Example}
 use Rattle.fill_words.specs.Words.{AskedData, New, TargetData, There, TypedData}
-use Rattle.fill_lookups.specs.Files.{file_opens}
+use Rattle.fill_lookups.specs.Files.{file_opens, most_of_sheet}
 use Rattle.fill_csv.specs.Lines.{choice_line, row_line, sheet_line}
 use Rattle.fill_lookups.specs.Tables.{lookups_open}
 
@@ -23,7 +23,7 @@ pub record SheetRead : Type 0 where
   pub typed : List Example
   pub tables : List TableData
 
--- how many records a sheet may have: more than there can be in a file of 16 MiB
+-- how many records a sheet may have, the header among them
 abbrev pub most_records : ℕ
 most_records = 16777216
 
@@ -112,7 +112,7 @@ from_bytes asked held bytes = and_then (at_once (sheet_in asked bytes)) (from_sh
 
 -- the sheet's file is read and checked, and then those of its tables
 abbrev pub sheet_opens : AskedData → Held → Opening SheetRead
-sheet_opens asked held = and_then (file_opens held asked.file) (from_bytes asked held)
+sheet_opens asked held = and_then (file_opens most_of_sheet held asked.file) (from_bytes asked held)
 
 -- the byte order mark
 abbrev pub mark : List ℕ

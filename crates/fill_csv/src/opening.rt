@@ -16,7 +16,7 @@ use crate::lines::{choice_line, sheet_line};
 use crate::typed::examples_in;
 use fill_columns::{Choice, ChoiceError, choose, choose_new, width};
 use fill_edge::Cabinet;
-use fill_lookups::{open_file, open_tables, refused};
+use fill_lookups::{LARGEST_SHEET, open_file, open_tables, refused};
 use fill_open::Stop;
 use fill_records::{Record, read_records};
 use fill_sheet::Sheet;
@@ -26,7 +26,7 @@ use fill_tree::Example;
 use fill_words::{Asked, Target};
 use std::alloc::Global;
 
-/// The most records that are read, the header among them: more than there can be in a file of 16 MiB.
+/// The most records that are read, the header among them.
 const MOST_RECORDS: u32 = 16_777_216;
 
 /// A sheet that was read.
@@ -59,7 +59,7 @@ pub(crate) fn open_sheet<C: Cabinet>(
     ensures files { C.files cabinet.new ≡ C.files cabinet.old }
     ensures later { NoneFell (C.faults cabinet.old) (C.faults cabinet.new) }
 {
-    let bytes = match open_file(alloc, cabinet, asked.file.as_str()) {
+    let bytes = match open_file(alloc, cabinet, LARGEST_SHEET, asked.file.as_str()) {
         Ok(bytes) => bytes,
         Err(stop) => return Err(stop),
     };

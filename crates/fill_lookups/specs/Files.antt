@@ -3,11 +3,16 @@ use Rattle.std.specs.Prelude.{ℕ, List, [], ◌∷◌, length, if◌then◌else
 use Rattle.fill_open.specs.Opened.{Held, Opened, Opening, Unread, Refused, Passed}
 use Rattle.fill_lookups.specs.Lines.{long_line}
 
--- the bytes of a file that is there and not too long
-abbrev pub bytes_of : List ℕ → Option (List ℕ) → Opened (List ℕ)
-bytes_of name None = Unread name
-bytes_of name (Some bytes) = if nat_lt 16777216 (length bytes) then Refused (long_line name) else Passed bytes
+-- how many bytes a table may have, and a sheet: 16 MiB and 1 GiB
+abbrev pub most_of_table most_of_sheet : ℕ
+most_of_table = 16777216
+most_of_sheet = 1073741824
 
--- the file of this name is read
-abbrev pub file_opens : Held → List ℕ → Opening (List ℕ)
-file_opens held name = record { reads = name ∷ []; outcome = bytes_of name (held name) }
+-- the bytes of a file that is there and has at most these bytes
+abbrev pub bytes_of : ℕ → List ℕ → Option (List ℕ) → Opened (List ℕ)
+bytes_of most name None = Unread name
+bytes_of most name (Some bytes) = if nat_lt most (length bytes) then Refused (long_line most name) else Passed bytes
+
+-- the file of this name is read, which may have at most these bytes
+abbrev pub file_opens : ℕ → Held → List ℕ → Opening (List ℕ)
+file_opens most held name = record { reads = name ∷ []; outcome = bytes_of most name (held name) }

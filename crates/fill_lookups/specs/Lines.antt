@@ -8,8 +8,9 @@ use Rattle.fill_tables.specs.declared.error.TableError.TheVariants as table
 abbrev pub line_of : List ℕ → List ℕ → List ℕ
 line_of name text = codes "fillcsv: " ++ (name ++ (codes ": " ++ text))
 
-abbrev pub long_line : List ℕ → List ℕ
-long_line name = line_of name (codes "more than 16777216 bytes\n")
+-- the line of a file that has more than these bytes
+abbrev pub long_line : ℕ → List ℕ → List ℕ
+long_line most name = line_of name (codes "more than " ++ (decimal most ++ codes " bytes\n"))
 
 abbrev pub memory_line : List ℕ
 memory_line = codes "fillcsv: out of memory\n"

@@ -5,7 +5,7 @@ use Rattle.fill_text.specs.Data.{TableData}
 use Rattle.fill_tables.specs.Tables.{add_key_to, add_table_to}
 use Rattle.fill_open.specs.Opened.{Held, Opened, Opening, Passed, and_then, at_once, checked}
 use Rattle.fill_words.specs.Words.{LookupData, Key, Table}
-use Rattle.fill_lookups.specs.Files.{file_opens}
+use Rattle.fill_lookups.specs.Files.{file_opens, most_of_table}
 use Rattle.fill_lookups.specs.Lines.{lookup_line}
 
 -- the tables with that of a file's bytes
@@ -18,7 +18,7 @@ key_in name columns tables = checked (lookup_line name) (add_key_to tables (char
 
 -- the tables with one more: its file is read, and then it is added. Or with one more key
 abbrev pub lookup_opens : Held → List TableData → LookupData → Opening (List TableData)
-lookup_opens held tables (Table name file) = and_then (file_opens held file) (λ bytes. at_once (table_in name file tables bytes))
+lookup_opens held tables (Table name file) = and_then (file_opens most_of_table held file) (λ bytes. at_once (table_in name file tables bytes))
 lookup_opens held tables (Key name columns) = at_once (key_in name columns tables)
 
 -- the tables with these and their keys, one after the other

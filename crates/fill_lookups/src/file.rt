@@ -1,27 +1,36 @@
 //! Reading a file.
-ghost use Rattle.std.specs.Prelude.{◌≡◌, IfOk, IfErr, MatchResult};
+ghost use Rattle.std.specs.Prelude.{◌≡◌, ◌≤◌, IfOk, IfErr, MatchResult};
 ghost use Rattle.fill_edge.specs.Outside.{NoneFell};
 ghost use Rattle.fill_open.specs.Opened.{Told, Passed};
 ghost use Rattle.fill_open.specs.Stops.{Stops};
 ghost use Rattle.fill_lookups.specs.Files.{file_opens};
 
 use crate::lines::long_line;
-use fill_edge::{Cabinet, LARGEST_FILE, ReadError, read_all};
+use fill_edge::{Cabinet, LAST_PLACE, ReadError, read_all};
 use fill_open::Stop;
 use fill_text::List;
 use std::alloc::{AllocError, Global};
 
-/// The bytes of a file.
-pub fn open_file<C: Cabinet>(alloc: Global, cabinet: &mut C, name: &str) -> Result<List<u8>, Stop>
-    ensures ready { IfOk result (λ bytes. Told (C.files cabinet.old) (λ held. (file_opens held name.now).outcome ≡ Passed bytes)) }
-    ensures stopped { IfErr result (Stops (λ held. file_opens held name.now) (C.files cabinet.old) (C.faults cabinet.old) (C.faults cabinet.new)) }
+/// The most bytes of a sheet that is filled, 1 GiB.
+pub const LARGEST_SHEET: usize = 1_073_741_824;
+
+/// The bytes of a file, which may have at most `most`.
+pub fn open_file<C: Cabinet>(
+    alloc: Global,
+    cabinet: &mut C,
+    most: usize,
+    name: &str,
+) -> Result<List<u8>, Stop>
+    requires { most ≤ LAST_PLACE }
+    ensures ready { IfOk result (λ bytes. Told (C.files cabinet.old) (λ held. (file_opens most held name.now).outcome ≡ Passed bytes)) }
+    ensures stopped { IfErr result (Stops (λ held. file_opens most held name.now) (C.files cabinet.old) (C.faults cabinet.old) (C.faults cabinet.new)) }
     ensures files { C.files cabinet.new ≡ C.files cabinet.old }
     ensures later { NoneFell (C.faults cabinet.old) (C.faults cabinet.new) }
 {
-    match read_all(alloc, cabinet, name, LARGEST_FILE) {
+    match read_all(alloc, cabinet, name, most) {
         Ok(bytes) => Ok(bytes),
         Err(ReadError::NoMemory) => Err(Stop::NoMemory),
-        Err(ReadError::TooLong { .. }) => Err(refused(long_line(alloc, name))),
+        Err(ReadError::TooLong { .. }) => Err(refused(long_line(alloc, most, name))),
         Err(_) => match String::from_str(alloc, name) {
             Ok(name) => Err(Stop::Unread(name)),
             Err(_) => Err(Stop::NoMemory),

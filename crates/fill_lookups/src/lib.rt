@@ -5,5 +5,5 @@ mod file;
 mod lines;
 mod tables;
 
-pub use file::{open_file, refused};
+pub use file::{LARGEST_SHEET, open_file, refused};
 pub use tables::open_tables;

@@ -6,10 +6,10 @@ use fill_tables::TableError;
 use std::alloc::{AllocError, Global};
 
 /// The line of a file that has more bytes than one may have.
-pub(crate) fn long_line(alloc: Global, name: &str) -> Result<String, AllocError>
-    ensures { IfOk result (λ line. string_bytes line ≡ long_line name.now) }
+pub(crate) fn long_line(alloc: Global, most: usize, name: &str) -> Result<String, AllocError>
+    ensures { IfOk result (λ line. string_bytes line ≡ long_line most name.now) }
 {
-    format!(in alloc; "fillcsv: {name}: more than 16777216 bytes\n")
+    format!(in alloc; "fillcsv: {name}: more than {most} bytes\n")
 }
 
 /// The line of a table or a key that is not added; it begins with the file of the table, or with the table of the key.

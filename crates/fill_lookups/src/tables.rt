@@ -9,7 +9,7 @@ ghost use Rattle.fill_lookups.specs.Tables.{key_in, lookup_opens, lookups_open, 
 
 use crate::file::{open_file, refused};
 use crate::lines::lookup_line;
-use fill_edge::Cabinet;
+use fill_edge::{Cabinet, LARGEST_FILE};
 use fill_open::Stop;
 use fill_tables::Tables;
 use fill_words::Lookup;
@@ -53,7 +53,7 @@ fn add<C: Cabinet>(
     match lookup {
         Lookup::Table { name, file } => {
             let file = file.as_str();
-            match open_file(alloc, cabinet, file) {
+            match open_file(alloc, cabinet, LARGEST_FILE, file) {
                 Ok(bytes) => add_table(alloc, tables, name.as_str(), file, bytes.as_slice()),
                 Err(stop) => Err(stop),
             }
