@@ -33,7 +33,7 @@ abbrev pub IsCovered : OnRow → List ℕ → List Edge → ℕ → ℕ → Type
 IsCovered on out edges from to =
     SomeIn (IsBetween from to) edges ⊎ ((a : AtomTree) → ¬ (PieceAtom on (slice_range out from to) a))
 
--- the edges of the pieces that begin before node i, or at it and have at most so many characters
+-- the edges of the pieces that begin before node i, or at it and have at most n characters
 pub record EdgesSoFar (on : OnRow) (out : List ℕ) (i width : ℕ) (c : List Entry) (edges : List Edge) : Type 0 where
   pub each : EachIn (IsPieceEdge on out c) edges
   pub before : EachIn (λ e. e.from ≤ i) edges
@@ -55,7 +55,7 @@ abbrev pub IsPut : ℕ → ℕ → Option ℕ → List Edge → List Edge → Ty
 IsPut from to None old new = new ≡ old
 IsPut from to (Some s) old new = new ≡ old ++ (record { from = from; to = to; atoms = s }) ∷ []
 
--- the edges of the pieces that begin at the node and have at most so many characters were put to those of earlier nodes,
+-- the edges of the pieces that begin at the node and have at most n characters were put to those of earlier nodes,
 -- for whatever row and arena these are
 pub record TakesEdges (n : Node) (width : ℕ) (old new : List Edge) : Type 0 where
   pub taken : (on : OnRow) (c : List Entry) → EdgesSoFar on n.text.now n.from 0 c old → EdgesSoFar on n.text.now n.from width c new

@@ -17,7 +17,7 @@ use Rattle.fill_sources.specs.declared.row.OnRow.{OnRow}
 use Rattle.fill_build.specs.declared.hits.Hit.{Hit}
 use Rattle.fill_build.specs.declared.piece.Piece.{Piece}
 
--- the first so many characters may stand in a constant together, and no more
+-- the first n characters may stand in a constant together, and no more
 abbrev pub AreAllowed : Constants → List ℕ → ℕ → Type 0
 AreAllowed constants rest n = (m : ℕ) → m ≤ length rest → (m ≤ n) ↔ Allows constants (take m rest)
 
@@ -54,7 +54,7 @@ pub record AreConstants (p : Piece) (items : List AtomItem) : Type 0 where
   pub each : (c : List Entry) → EachIn (IsAtomItem c (length c)) items
   pub exact : (d : List Entry) (a : AtomTree) → SomeIn (AtomFits a d) items ↔ ((p.constant ≡ true) × (a ≡ constant (piece_text p)))
 
--- so many characters of the hit's text follow from its place on
+-- n characters of the hit's text follow from its place on
 abbrev pub IsReadable : List (List ℕ) → Hit → ℕ → Type 0
 IsReadable texts h width = (t : List ℕ) × (slice_get texts h.text ≡ Some t) × (h.at + width ≤ length t)
 
@@ -64,7 +64,7 @@ ReadsWhole on texts h width (constant u) = ⊥
 ReadsWhole on texts h width (whole x) = (t : List ℕ) × (slice_get texts h.text ≡ Some t) × Gives on t x × (width ≡ length t)
 ReadsWhole on texts h width (sub x p q) = ⊥
 
--- the piece of a source's text between a place at the hit and one so many characters after it
+-- the piece of a source's text between a place at the hit and one n characters after it
 abbrev pub ReadsBetween : OnRow → List (List ℕ) → Hit → ℕ → AtomTree → Type 0
 ReadsBetween on texts h width (constant u) = ⊥
 ReadsBetween on texts h width (whole x) = ⊥

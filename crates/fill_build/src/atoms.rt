@@ -39,7 +39,7 @@ pub(crate) fn piece_atoms<'a>(
 }
 
 /// The constant, where the piece may be one, in a list with room for it and for one item of each hit. The set will have at most
-/// so many items, and one more for each hit that is a whole text. An arena keeps a set's list with the room that it was given.
+/// this many items, and one more for each hit that is a whole text. An arena keeps a set's list with the room that it was given.
 fn piece_constants(
     alloc: Global,
     piece: &Piece<'_>,

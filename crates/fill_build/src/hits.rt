@@ -58,7 +58,7 @@ pub(crate) fn common(xs: &[char], ys: &[char]) -> usize
     most
 }
 
-/// Keeps the places that go together with so many characters.
+/// Keeps the places that go together for this many characters.
 pub(crate) fn narrow(hits: &mut Vec<Hit>, width: usize)
     ensures { hits.new.items ≡ wide width hits.old.items }
 {

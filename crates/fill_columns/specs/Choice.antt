@@ -57,7 +57,7 @@ of_word word (Err column.NoMemory) = Err (Missing word)
 abbrev pub chosen : List (List ℕ) → ℕ → List ℕ → Result ℕ Refusal
 chosen names width word = of_word word (column_in names width word)
 
--- the number of a new column after so many, where these columns have its name
+-- the number of a new column after the last one, where these columns have its name
 abbrev pub new_among : List ℕ → ℕ → List ℕ → Result ℕ Refusal
 new_among [] width name = if nat_le 1000 width then Err Full else Ok (width + 1)
 new_among (column ∷ more) width name = Err (Present name)
@@ -99,7 +99,7 @@ sources_in names width to (word ∷ more) = with_words names width to [] (word �
 abbrev pub choice_with : List (List ℕ) → ℕ → List (List ℕ) → ℕ → Result ChoiceData Refusal
 choice_with names width from to = further (λ sources. Ok (record { to = to; from = sources })) (sources_in names width to from)
 
--- the columns that words choose in a sheet with these names and so many columns: the one to fill, and those to read
+-- the columns that words choose in a sheet with these names and this many columns: the one to fill, and those to read
 abbrev pub choice_in : List (List ℕ) → ℕ → List ℕ → List (List ℕ) → Result ChoiceData Refusal
 choice_in names width to from = further (choice_with names width from) (chosen names width to)
 

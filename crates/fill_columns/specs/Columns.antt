@@ -29,7 +29,7 @@ abbrev pub of_number : ℕ → Option ℕ → Result ℕ ColumnError
 of_number width None = Err error.Missing
 of_number width (Some column) = within width column
 
--- the column whose number this word is, in a sheet of so many columns
+-- the column whose number this word is, in a sheet of this many columns
 abbrev pub numbered : ℕ → List ℕ → Result ℕ ColumnError
 numbered width word = of_number width (number_in word)
 
@@ -39,6 +39,6 @@ column_of [] width word = numbered width word
 column_of (column ∷ []) width word = within 1000 column
 column_of (column ∷ other ∷ more) width word = Err error.Ambiguous
 
--- the column of a word in a sheet with these names and so many columns
+-- the column of a word in a sheet with these names and this many columns
 abbrev pub column_in : List (List ℕ) → ℕ → List ℕ → Result ℕ ColumnError
 column_in names width word = column_of (named word 1 names) width word

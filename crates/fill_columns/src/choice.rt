@@ -26,7 +26,7 @@ pub struct Choice {
     pub from: Vec<u32>,
 }
 
-/// The columns that words choose in a sheet of so many columns: the one to fill, and those to read, or without words
+/// The columns that words choose in a sheet of this many columns: the one to fill, and those to read, or without words
 /// all others, the first eight. A word is the name of a column in the header, or else its number.
 pub fn choose<'a>(
     alloc: Global,

@@ -12,7 +12,7 @@ use std::alloc::Global;
 /// The last column that a word can name.
 const LAST: usize = 1_000;
 
-/// The column of a word, from 1, in a sheet of so many columns: the one of this name in the header, or else the one of
+/// The column of a word, from 1, in a sheet of this many columns: the one of this name in the header, or else the one of
 /// this number.
 pub fn column_of(
     alloc: Global,
@@ -73,7 +73,7 @@ fn is_name(names: &Record, i: usize, word: &[u8]) -> bool
     names.get(i).unwrap_or(b"") == word
 }
 
-/// The column of this number in a sheet of so many columns.
+/// The column of this number in a sheet of this many columns.
 fn numbered(width: usize, word: &[u8]) -> Result<u32, ColumnError>
     ensures { result ≡ numbered width word.now }
 {

@@ -48,7 +48,7 @@ choice_of asked records = choice_for asked.to (names_of (header_of asked.header 
 
 -- ---- examples that are typed
 
--- a row as a spreadsheet shows it, where so many records stand above the rows, is one of so many
+-- a row as a spreadsheet shows it, where `above` records stand above the rows, is one of `rows`
 abbrev pub is_there : ℕ → ℕ → ℕ → Bool
 is_there above rows row = nat_lt above row && nat_le row (above + rows)
 
@@ -65,7 +65,7 @@ abbrev pub with_missing : AskedData → Option ℕ → Opened (List Example)
 with_missing asked None = Passed (map (example_of (headers asked.header)) asked.examples)
 with_missing asked (Some row) = Refused (row_line asked.file row)
 
--- the texts that the words give for rows of a sheet of so many, where each row is there
+-- the texts that the words give for rows of a sheet of this many, where each row is there
 abbrev pub examples_in : AskedData → ℕ → Opened (List Example)
 examples_in asked rows = with_missing asked (missing_row (headers asked.header) rows asked.examples)
 

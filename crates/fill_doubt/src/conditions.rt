@@ -139,10 +139,10 @@ pub(crate) fn lacks(conditions: &[Cells<'_>]) -> bool
     lacks
 }
 
-/// A look for a row by its key takes as long as comparing about so many texts.
+/// A look for a row by its key takes as long as comparing about this many texts.
 const LOOK: usize = 32;
 
-/// Whether a look for each way to put the texts together is no dearer than comparing them with the cells of so many rows.
+/// Whether a look for each way to put the texts together is no dearer than comparing them with the cells of this many rows.
 pub(crate) fn are_few(conditions: &[Cells<'_>], rows: usize) -> bool {
     let mut ways: usize = 1;
     let mut texts: usize = 0;

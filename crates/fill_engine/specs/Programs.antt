@@ -30,7 +30,7 @@ no_faults = λ name. 0
 
 -- what `flashfill` answers to these words over these files, of which no read fails; no write fails either
 pub record EndsFlashfill (words : List (List ℕ)) (files : Files) (a : AnswerData) : Type 0 where
-  -- it ends as its run does, its errors are the line of this ending, where it has one, and the run made so many steps
+  -- it ends as its run does, its errors are the line of this ending, where it has one, and the run made these steps
   pub ends : (ending : Ending) × (first : ℕ) × (last : ℕ) × (a.status ≡ status_of ending) × Says (Some []) (Some a.err) 0 0 (line_of ending)
       × RunEnds (command_in words) (world files no_faults (Some []) 0 first) (world files no_faults (Some a.out) 0 last) ending
   pub gives : Gives (command_in words) files a.status

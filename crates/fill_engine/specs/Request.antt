@@ -19,7 +19,7 @@ call_data a = record { program = a.program; words = map string_bytes a.words.ite
 abbrev pub number_in : List ℕ → Option (ℕ × List ℕ)
 number_in bytes = if nat_le 8 (length bytes) then Some (from_le_bytes w64 (take 8 bytes), drop 8 bytes) else None
 
--- so many bytes, and those after them
+-- the first n bytes, and those after them
 abbrev pub split_at : ℕ × List ℕ → Option (List ℕ × List ℕ)
 split_at at = if nat_le at.0 (length at.1) then Some (take at.0 at.1, drop at.0 at.1) else None
 
@@ -35,12 +35,12 @@ of_text piece = if is_utf8 piece.0 then Some piece else None
 abbrev pub text_in : List ℕ → Option (List ℕ × List ℕ)
 text_in bytes = option_and_then of_text (piece_in bytes)
 
--- so many words at the front, after those before them
+-- n words at the front, after those before them
 unfoldable pub words_from : ℕ → List (List ℕ) → List ℕ → Option (List (List ℕ) × List ℕ)
 words_from zero before bytes = Some (before, bytes)
 words_from (suc n) before bytes = option_and_then (λ word. words_from n (before ++ word.0 ∷ []) word.1) (text_in bytes)
 
--- so many files at the front, each its name and its bytes; the last comes first
+-- n files at the front, each its name and its bytes; the last comes first
 unfoldable pub files_from : ℕ → List (List ℕ × List ℕ) → List ℕ → Option (List (List ℕ × List ℕ) × List ℕ)
 files_from zero before bytes = Some (before, bytes)
 files_from (suc n) before bytes =

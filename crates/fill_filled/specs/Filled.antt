@@ -71,7 +71,7 @@ head_fields form name fields = with_word form.states (name_of form name fields +
 abbrev pub IsCellState : List Example → Ground → List Example → ℕ → RowState → Type 0
 IsCellState typed g examples row s = (a : Answer) × AnswerIs g examples row a × (s ≡ cell_state (given_for typed g.sheet row) a)
 
--- the states of the cells of so many first rows, in order
+-- the states of the cells of the first n rows, in order
 abbrev pub AreCellStates : List Example → Ground → List Example → ℕ → List RowState → Type 0
 AreCellStates typed g examples n states = AllZip (IsCellState typed g examples) (range_with_len 1 n) states
 
@@ -83,7 +83,7 @@ is_unsure state.Doubt = true
 is_unsure state.Nothing = true
 is_unsure state.NothingInDoubt = true
 
--- the flag tells now whether it told so before or one of the cells of so many first rows is neither given nor sure
+-- the flag tells now whether it told so before or one of the cells of the first n rows is neither given nor sure
 abbrev pub TellsUnsure : List Example → Ground → List Example → ℕ → Bool → Bool → Type 0
 TellsUnsure typed g examples n before now = (states : List RowState) × AreCellStates typed g examples n states
     × (now ≡ (before || list_any is_unsure states))
@@ -94,16 +94,16 @@ IsFilledRow form typed g examples records row made = (fields : Fields) × (a : A
     × (nth records row ≡ Some fields) × AnswerIs g examples row a
     × (made ≡ filled_fields form (typed_at typed row) (given_at g.sheet row) a fields)
 
--- the records of so many first rows, in order
+-- the records of the first n rows, in order
 abbrev pub AreFilledRows : Form → List Example → Ground → List Example → List Fields → ℕ → List Fields → Type 0
 AreFilledRows form typed g examples records n made = AllZip (IsFilledRow form typed g examples records) (range_with_len 1 n) made
 
--- the head was written, and the records of so many first rows
+-- the head was written, and the records of the first n rows
 abbrev pub WritesRows : Form → List Example → Ground → List Example → List Fields → List ℕ → ℕ → Option (List ℕ) → Option (List ℕ) → Type 0
 WritesRows form typed g examples records head n old new =
     (made : List Fields) × AreFilledRows form typed g examples records n made × Appends old new (head ++ report_text made)
 
--- a proper prefix of the head and of the records of so many first rows was written
+-- a proper prefix of the head and of the records of the first n rows was written
 abbrev pub WritesPart : Form → List Example → Ground → List Example → List Fields → List ℕ → ℕ → Option (List ℕ) → Option (List ℕ) → Type 0
 WritesPart form typed g examples records head n old new =
     (made : List Fields) × AreFilledRows form typed g examples records n made × AppendsPart old new (head ++ report_text made)

@@ -38,7 +38,7 @@ Learns typed g a [] b refused = (b ≡ a) × (refused ≡ [])
 Learns typed g a (row ∷ more) b refused = (mid : List Example) × (here : List Refused) × (later : List Refused)
     × Gives g a row (given_for typed g.sheet row) mid here × Learns typed g mid more b later × (refused ≡ here ++ later)
 
--- the examples that so many first rows give, and which of them are refused
+-- the examples that the first n rows give, and which of them are refused
 abbrev pub LearnsFirst : List Example → Ground → ℕ → List Example → List Refused → Type 0
 LearnsFirst typed g n examples refused = Learns typed g [] (range_with_len 1 n) examples refused
 
@@ -46,7 +46,7 @@ LearnsFirst typed g n examples refused = Learns typed g [] (range_with_len 1 n) 
 abbrev pub AreLearned : List Example → Ground → List Example → List Refused → Type 0
 AreLearned typed g examples refused = LearnsFirst typed g (length g.sheet.rows) examples refused
 
--- a refusal counts, but for that of an example after the sixty-fourth
+-- a refusal counts, apart from that of an example after the sixty-fourth
 abbrev pub counts_for : EditError → Bool
 counts_for error.TooMany = false
 counts_for reason = true

@@ -147,7 +147,7 @@ fn put_behind(to: &mut String, seq: &Seq, front: usize, number: i32) -> Result<(
     put_tokens(to, seq, 0, front)
 }
 
-/// Puts so many characters at the front or the back at the end.
+/// Puts the words for this many characters at the front or the back at the end.
 fn put_count(to: &mut String, side: &str, count: u32) -> Result<(), AllocError> {
     to.push_str("the ")?;
     to.push_str(side)?;

@@ -50,7 +50,7 @@ if_apart inputs column = if list_any (λ other. other == column) inputs then Non
 abbrev pub output_in : List ℕ → List (List ℕ) → Option ℕ
 output_in inputs line = if has_form (codes "output") 2 line then option_and_then (if_apart inputs) (number_between 1 1000 (field_of 2 line)) else None
 
--- the names of so many inputs and of the output
+-- the names of n inputs and of the output
 abbrev pub names_in : ℕ → List (List ℕ) → Option Names
 names_in count line =
     if has_form (codes "names") (count + 2) line then Some (record { inputs = take count (drop 1 line); output = field_of (count + 2) line }) else None

@@ -88,7 +88,7 @@ fn output_at(lines: &[Record], number: usize, inputs: &[u32]) -> Result<u32, Rul
     }
 }
 
-/// The names that the line of a number has, those of so many inputs and of the output.
+/// The names that the line of a number has, those of this many inputs and of the output.
 fn names_at(
     alloc: Global,
     lines: &[Record],

@@ -17,7 +17,7 @@ const LAST: u32 = 1_000;
 /// The most columns that a rule may read.
 const MOST: usize = 8;
 
-/// Whether a line has this word and so many fields.
+/// Whether a line has this word and this many fields.
 pub(crate) fn has_form(line: &Record, word: &[u8], fields: usize) -> bool
     ensures { result ≡ has_form word.now fields line.now }
 {
@@ -139,7 +139,7 @@ pub(crate) fn output_in(inputs: &[u32], line: &Record) -> Option<u32>
     }
 }
 
-/// The names of a line of names, those of so many inputs and of the output.
+/// The names of a line of names, those of this many inputs and of the output.
 pub(crate) fn names_in(
     alloc: Global,
     count: usize,

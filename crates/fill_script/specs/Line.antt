@@ -10,7 +10,7 @@ use Rattle.fill_script.specs.declared.script.TableLine.TheVariants.{Table, Key}
 use Rattle.fill_script.specs.declared.statement.Statement.{Statement}
 use Rattle.fill_script.specs.declared.statement.Statement.TheVariants as says
 
--- a line of this word and so many fields
+-- a line of this word and n fields
 abbrev pub has_form : List ℕ → ℕ → List (List ℕ) → Bool
 has_form word fields line = (length line == fields) && bytes_eq (field_of 1 line) word
 
@@ -49,7 +49,7 @@ is_distinct (x ∷ xs) = not (list_any (λ y. y == x) xs) && is_distinct xs
 abbrev pub if_distinct : List ℕ → Option (List ℕ)
 if_distinct columns = if is_distinct columns then Some columns else None
 
--- distinct columns up to the highest that a line has from a field on, at least one and at most so many
+-- distinct columns up to the highest that a line has from a field on, at least one and at most n
 abbrev pub columns_in : ℕ → ℕ → ℕ → List (List ℕ) → Option (List ℕ)
 columns_in first most high line =
     if nat_le (first + 1) (length line) && nat_le (length line) (first + most) then option_and_then if_distinct (numbers_in high (drop first line)) else None

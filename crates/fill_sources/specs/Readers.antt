@@ -13,7 +13,7 @@ use Rattle.fill_sources.specs.Gives.{ArePartsIn, AreSourcesIn, Gives, PartGives}
 use Rattle.fill_sources.specs.declared.row.OnRow.{OnRow}
 use Rattle.fill_sources.specs.declared.spots.Spot.{Spot}
 
--- so many characters of the spot's text follow from its place on
+-- n characters of the spot's text follow from its place on
 abbrev pub IsReadable : List (List ℕ) → Spot → ℕ → Type 0
 IsReadable texts h width = (t : List ℕ) × (slice_get texts h.text ≡ Some t) × (h.at + width ≤ length t)
 
@@ -29,13 +29,13 @@ StandsAt texts w h = (t : List ℕ) × (slice_get texts h.text ≡ Some t) × (h
 abbrev pub GainsSpots : List Spot → List Spot → (Spot → Type 0) → Type 0
 GainsSpots old new Q = (h : Spot) → In h new ↔ (In h old ⊎ Q h)
 
--- the whole text of a source, which has just so many characters
+-- the whole text of a source, which has exactly n characters
 abbrev pub ReadsWhole : OnRow → List (List ℕ) → Spot → ℕ → AtomTree → Type 0
 ReadsWhole on texts h width (constant u) = ⊥
 ReadsWhole on texts h width (whole x) = (t : List ℕ) × (slice_get texts h.text ≡ Some t) × Gives on t x × (width ≡ length t)
 ReadsWhole on texts h width (sub x p q) = ⊥
 
--- the piece of a source's text between a place at the spot and one so many characters after it
+-- the piece of a source's text between a place at the spot and one n characters after it
 abbrev pub ReadsBetween : OnRow → List (List ℕ) → Spot → ℕ → AtomTree → Type 0
 ReadsBetween on texts h width (constant u) = ⊥
 ReadsBetween on texts h width (whole x) = ⊥
@@ -45,7 +45,7 @@ ReadsBetween on texts h width (sub x p q) = (t : List ℕ) × (slice_get texts h
 abbrev pub ReadsSpot : OnRow → List (List ℕ) → Spot → ℕ → AtomTree → Type 0
 ReadsSpot on texts h width a = ReadsWhole on texts h width a ⊎ ReadsBetween on texts h width a
 
--- what reads so many characters at one of the first of the spots
+-- what reads n characters at one of the first of the spots
 abbrev pub ReadsFirst : OnRow → List (List ℕ) → List Spot → ℕ → ℕ → AtomTree → Type 0
 ReadsFirst on texts spots n width a = (i : ℕ) × (h : Spot) × (i < n) × (slice_get spots i ≡ Some h) × ReadsSpot on texts h width a
 

@@ -37,7 +37,7 @@ pub(crate) struct Memo<'a> {
 }
 
 impl TextPlaces {
-    /// Puts what was found of a position of the text, which has so many.
+    /// Puts what was found of a position of the text, which has this many.
     fn put(
         &mut self,
         alloc: Global,
@@ -54,7 +54,7 @@ impl TextPlaces {
     }
 }
 
-/// Begins with nothing found of each of so many positions, where there is no room for that one.
+/// Begins with nothing found of each of these positions, where there is no room for that one.
 fn make_room(
     alloc: Global,
     found: &mut Vec<Found>,
@@ -144,7 +144,7 @@ impl<'a> Memo<'a> {
         }
     }
 
-    /// Keeps the set of the places at a position of a text that has so many.
+    /// Keeps the set of the places at a position of a text that has this many.
     pub(crate) fn keep_place(
         &mut self,
         alloc: Global,

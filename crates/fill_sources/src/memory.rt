@@ -105,7 +105,7 @@ impl PlaceMemory {
         }
     }
 
-    /// Forgets all where the texts are too many, or too long with so many characters more, so that memory stays bounded.
+    /// Forgets all where the texts are too many, or too long with this many more characters, so that memory stays bounded.
     fn make_room(&mut self, alloc: Global, more: usize)
         ensures { (c : Listed Entry) → PlacesStand c self.old → PlacesStand c self.new }
     {

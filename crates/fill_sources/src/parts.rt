@@ -19,7 +19,7 @@ use crate::texts::Texts;
 use fill_arena::{Arena, AtomItem, AtomSet, SourceSet};
 use fill_text::{List, NoMemory, Text};
 
-/// Puts the sources' whole text, if it has just so many characters.
+/// Puts the sources' whole text, if it has exactly this many characters.
 fn put_whole(
     texts: &Texts<'_>,
     sources: SourceSet,
@@ -70,7 +70,7 @@ fn put_between(
     items.push(AtomItem::Sub(sources, left, right))
 }
 
-/// Puts what reads so many characters at the spot.
+/// Puts what reads this many characters at the spot.
 #[cycle(sources)]
 fn put_readers<'a>(
     look: &Look<'_, 'a>,

@@ -19,7 +19,7 @@ taken_out Remove = 1
 abbrev pub changed : {I : Type 0} → Change I → ℕ → List I → List I
 changed change at items = take at items ++ put_in change ++ drop (at + taken_out change) items
 
--- the place is one for the change of so many items
+-- the place is one for the change of n items
 abbrev pub IsPlace : {I : Type 0} → Change I → ℕ → ℕ → Type 0
 IsPlace (Insert x) at count = at ≤ count
 IsPlace (Replace x) at count = at < count

@@ -16,7 +16,7 @@ fn have_ends(files: &MadeFiles, size: usize, last: &[u8]) -> bool {
         && sheet.starts_with(b"Ab Cd,Cd\n")
 }
 
-/// Whether so many lines are made with these ends.
+/// Whether this many lines are made with these ends.
 fn made_with(alloc: Global, n: u32, size: usize, last: &[u8]) -> Result<bool, NoMemory> {
     if n < 1 || 2_000 < n {
         return Ok(false);

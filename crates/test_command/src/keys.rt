@@ -79,7 +79,7 @@ fn keys_of_files(rt: HostRuntime) -> Result<(), Fail> {
     Ok(())
 }
 
-/// Whether a file of these bytes and so many lines behind them has no keys, for the reason that this line says.
+/// Whether a file of these bytes and this many lines behind them has no keys, for the reason that this line says.
 fn fills_and_ends(
     alloc: Global,
     bytes: &mut List<u8>,

@@ -73,7 +73,7 @@ fn ends(alloc: Global, scene: &Scene, line: &str) -> Result<bool, NoMemory> {
     plays(alloc, &mut cabinet, scene, line)
 }
 
-/// Puts a text at the end so many times.
+/// Puts a text at the end this many times.
 fn append_times(bytes: &mut List<u8>, text: &[u8], times: usize) -> Result<(), NoMemory> {
     for _ in 0..times {
         bytes.append(text)?;
@@ -125,7 +125,7 @@ fn sessions_are_ready_or_refused(rt: HostRuntime) -> Result<(), Fail> {
     Ok(())
 }
 
-/// Lines of a session after its sheet and its inputs: some first, and one that comes so many times after them.
+/// Lines of a session after its sheet and its inputs: some first, and one that comes this many times after them.
 #[derive(Clone, Copy)]
 struct Lines<'a> {
     first: &'a [u8],
@@ -197,7 +197,7 @@ fn tables_and_keys_are_added_or_refused(rt: HostRuntime) -> Result<(), Fail> {
     Ok(())
 }
 
-/// Whether this line says why the session is not ready where `t.csv` has so many records.
+/// Whether this line says why the session is not ready where `t.csv` has this many records.
 fn fills_and_ends(
     alloc: Global,
     other: &mut List<u8>,
@@ -307,7 +307,7 @@ fn a_failed_read_is_told(rt: HostRuntime) -> Result<(), Fail> {
     Ok(())
 }
 
-/// Whether the generated session over so many lines is ready.
+/// Whether the generated session over this many lines is ready.
 fn generates(alloc: Global, n: u32) -> bool {
     if n < 1 || 2_000 < n {
         return false;

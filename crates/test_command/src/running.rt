@@ -360,7 +360,7 @@ fn a_failed_read_is_told(rt: HostRuntime) -> Result<(), Fail> {
     Ok(())
 }
 
-/// How a run ends whose writes fail after so many bytes of the report.
+/// How a run ends whose writes fail after this many bytes of the report.
 fn ending_after(report: &[u8], written: usize) -> Ending {
     if written == report.len() {
         Ending {
@@ -377,7 +377,7 @@ fn ending_after(report: &[u8], written: usize) -> Ending {
     }
 }
 
-/// Whether so many bytes of the report are written where this write of at most forty bytes fails.
+/// Whether this many bytes of the report are written where this write of at most forty bytes fails.
 fn writes_until(alloc: Global, failing_write: u64, written: usize) -> Result<bool, Fail> {
     let given = Given {
         write: 40,
@@ -396,7 +396,7 @@ fn a_failed_write_leaves_the_front_of_the_report(rt: HostRuntime) -> Result<(), 
     Ok(())
 }
 
-/// Whether the words end so with room for so many bytes of the report and of the line.
+/// Whether the words end so with room for this many bytes of the report and of the line.
 fn ends_within(
     alloc: Global,
     words: &[&str],

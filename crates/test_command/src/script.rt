@@ -220,7 +220,7 @@ fn lines_after_begin(rt: HostRuntime) -> Result<(), Fail> {
     Ok(())
 }
 
-/// Whether this is the refusal of a session of these bytes, a sheet, inputs, `begin` and so many lines `clear`.
+/// Whether this is the refusal of a session of these bytes, a sheet, inputs, `begin` and this many lines `clear`.
 fn clears_behind(
     alloc: Global,
     bytes: &mut List<u8>,
@@ -234,7 +234,7 @@ fn clears_behind(
     Ok(refusal_is(alloc, bytes.as_slice(), expected))
 }
 
-/// Whether this is the refusal of a session of a sheet, inputs, `begin` and so many lines `clear`.
+/// Whether this is the refusal of a session of a sheet, inputs, `begin` and this many lines `clear`.
 fn clears_are(
     alloc: Global,
     count: usize,

@@ -120,7 +120,7 @@ const LINES: &[u8] = b"a,b,c\rd,b,c\na,b,e\r\na,f,c";
 /// What is to be done with tables, from none on.
 #[derive(Clone, Copy)]
 enum Task<'a> {
-    /// To have so many rows and columns of a file.
+    /// To have this many rows and columns of a file.
     Size(&'a [u8], u32, u32),
     /// To have this row of these cells of a file.
     Row(&'a [u8], u32, &'a [&'a str]),
@@ -185,12 +185,12 @@ fn key_comes_to(tables: &mut Tables, name: &str, column: u32, reason: Option<Tab
     tables.add_key(name, &[column]).err() == reason
 }
 
-/// Whether there is one table, of so many rows and columns.
+/// Whether there is one table, of this many rows and columns.
 fn has_size(tables: &Tables, rows: u32, width: u32) -> bool {
     tables.count() == 1 && tables.rows(1) == rows && tables.width(1) == width
 }
 
-/// Whether a file is one table of so many rows and columns.
+/// Whether a file is one table of this many rows and columns.
 fn adds_size(tables: &mut Tables, bytes: &[u8], rows: u32, width: u32) -> bool {
     table_comes_to(tables, "t", bytes, None) && has_size(tables, rows, width)
 }

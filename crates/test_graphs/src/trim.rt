@@ -73,7 +73,7 @@ fn same(left: &[Edge], right: &[Edge]) -> bool {
     true
 }
 
-/// Whether so many nodes and these edges are left.
+/// Whether this many nodes and these edges are left.
 fn leaves(
     alloc: Global,
     nodes: usize,

@@ -333,7 +333,7 @@ fn holds(sheet: &Sheet, negated: bool, token: Token, least: u8) -> (bool, bool) 
     }
 }
 
-/// Whether so many matches are there, or where not expected are not, and the other way round where negated.
+/// Whether this many matches are there, or where not expected are not, and the other way round where negated.
 fn counts(sheet: &Sheet, token: Token, least: u8, expected: bool) -> bool {
     holds(sheet, false, token, least) == (expected, expected)
         && holds(sheet, true, token, least) == (!expected, !expected)

@@ -30,7 +30,7 @@ fn places_of_the_empty_text(rt: HostRuntime) -> Result<(), Fail> {
     Ok(())
 }
 
-/// Whether of so many places this one stands there.
+/// Whether of these places this one stands there.
 fn stands_at(places: &[Place], count: usize, at: usize, place: Place) -> bool {
     places.len() == count && at < places.len() && places[at] == place
 }

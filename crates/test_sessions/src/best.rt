@@ -39,7 +39,7 @@ impl Work for First<'_> {
     }
 }
 
-/// Whether so many programs are the first `k` for this text of a name.
+/// Whether this many programs are the first `k` for this text of a name.
 fn finds(alloc: Global, text: &str, k: u32, count: usize) -> Result<bool, NoMemory> {
     goes(alloc, "John Smith\n", &First { text, k, count })
 }

@@ -393,7 +393,7 @@ fn rows_hold<L: Ledger>(
     Ok(true)
 }
 
-/// Whether an item that is too large by itself is refused, and all is as before but for the call that was made for it.
+/// Whether an item that is too large by itself is refused, and all is as before apart from the call that was made for it.
 fn refuses<L: Ledger>(
     sums: &mut Sums,
     held: &mut Held,

@@ -86,7 +86,7 @@ fn programs_are_applied(rt: HostRuntime) -> Result<(), Fail> {
     Ok(())
 }
 
-/// Whether so many bytes of the records are written where this write fails.
+/// Whether this many bytes of the records are written where this write fails.
 fn writes_until(alloc: Global, failing_write: u64, written: usize) -> Result<bool, Fail> {
     let given = Given {
         failing_write,

@@ -57,7 +57,7 @@ fn keys_are_listed(rt: HostRuntime) -> Result<(), Fail> {
     Ok(())
 }
 
-/// Whether so many bytes of the keys are written where this write fails.
+/// Whether this many bytes of the keys are written where this write fails.
 fn writes_until(alloc: Global, failing_write: u64, written: usize) -> Result<bool, Fail> {
     let given = Given {
         failing_write,

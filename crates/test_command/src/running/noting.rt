@@ -14,7 +14,7 @@ pub struct NotingCabinet {
 }
 
 impl NotingCabinet {
-    /// No files, with reads of at most so many bytes.
+    /// No files, with reads of at most this many bytes.
     pub fn new(alloc: Global, most: usize) -> NotingCabinet
         requires { 0 < most }
     {

@@ -18,7 +18,7 @@ const THIRD: &[u8] = b"r,Monday\n";
 /// A sheet, the whole session over it, and its status and report.
 type Row = (&'static [u8], &'static str, u8, &'static [u8]);
 
-/// Whether the session of the row ends as it says, with reads and writes of so many bytes.
+/// Whether the session of the row ends as it says, with reads and writes of this many bytes.
 fn holds(alloc: Global, (sheet, session, status, report): Row, most: usize) -> Result<bool, Fail> {
     let files = [
         ("sheet.csv", sheet),

@@ -102,7 +102,7 @@ fn a_notation_has_names_for_its_own_tokens(rt: HostRuntime) -> Result<(), Fail> 
     Ok(())
 }
 
-/// A beginning, and then these bytes so many times.
+/// A beginning, and then these bytes this many times.
 fn repeated(
     alloc: Global,
     beginning: &[u8],
