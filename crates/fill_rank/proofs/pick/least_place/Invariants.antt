@@ -1,4 +1,4 @@
-use Rattle.std.proofs.Common.{◌≡◌, ◌×◌}
+use Rattle.std.proofs.Common.{◌≡◌}
 use Rattle.fill_tokens.specs.Prices.{place_cost}
 use Rattle.fill_rank.proofs.Scan.{BestBelow}
 use Rattle.fill_rank.proofs.pick.least_place.Given as goal
