@@ -1,12 +1,15 @@
 -- What a session holds, over spaces that were compacted.
-use Rattle.std.proofs.Common.{◌≡◌, ℕ, List, Some, sym, ap, ◌∙◌, subst}
+use Rattle.std.proofs.Common.{◌≡◌, ℕ, Bool, List, Some, sym, ap, ◌∙◌, subst}
 use Rattle.std.specs.Prelude.{All, ◌↔◌, slice_get}
 use Rattle.fill_split.specs.Standing.{rule_of}
+use Rattle.fill_tree.specs.declared.user.Edit.{Edit}
+use Rattle.fill_tree.specs.declared.user.Edit.TheVariants.{Clear}
 use Rattle.fill_tree.specs.declared.user.Example.{Example}
 use Rattle.fill_space.specs.declared.ground.Ground.{Ground}
 use Rattle.fill_space.specs.Ground.{FitsOn, WeighsOn, MayStand}
 use Rattle.fill_space.specs.Spaces.{SpacesData}
 use Rattle.fill_session.specs.Branches.{rule_of_profile}
+use Rattle.fill_session.specs.Compaction.{IsCompactionDue, LeavesSpaces}
 use Rattle.fill_session.specs.State.{AreShown, IsHeld, SpacesStand}
 use Rattle.fill_session.specs.declared.branch.Branch.{Branch}
 use Rattle.fill_session.proofs.Held.{SpaceFolds}
@@ -37,3 +40,7 @@ same_weights a b same l n = subst (λ g. WeighsOn a l n ↔ WeighsOn g l n) (sym
 -- each item, by its place
 pub each_at : {A : Type 0} (P : A → Type 0) (xs : List A) → All P xs → (k : ℕ) (x : A) → slice_get xs k ≡ Some x → P x
 each_at P xs all k x at = subst P (read xs k x x at) (all k x (below xs k x at))
+
+-- clearing makes no compaction due
+pub clear_is_not_due : (edit : Edit) (forgets : Bool) (size last : ℕ) → IsCompactionDue edit forgets size last → edit ≡ Clear → ⊥
+clear_is_not_due edit forgets size last due clear = subst (λ e. LeavesSpaces e forgets) clear due.leaves

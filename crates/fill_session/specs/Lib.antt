@@ -2,6 +2,7 @@ pub mod Answers
 pub mod Before
 pub mod Branches
 pub mod Change
+pub mod Compaction
 pub mod Edits
 pub mod Fate
 pub mod Folded

@@ -1,6 +1,7 @@
 //! Compaction: the spaces forget what neither what is present nor a state of the history needs.
-ghost use Rattle.std.specs.Prelude.{◌≡◌, ◌≢◌, ◌++◌, length, IfOk, IsTrue};
+ghost use Rattle.std.specs.Prelude.{◌≡◌, ◌↔◌, ◌++◌, length, IfOk, IsTrue};
 ghost use Rattle.fill_split.specs.Standing.{kept_of};
+ghost use Rattle.fill_session.specs.Compaction.{IsCompactionDue, LeavesSpaces};
 ghost use Rattle.fill_session.specs.Renewed.{AllReplaced, AreRenewed, all_moves, spaces_of};
 ghost use Rattle.fill_session.specs.State.{AreHeld, IsHeld, seen_as};
 
@@ -21,20 +22,14 @@ const SLACK: u128 = 1024;
 /// A correction and a retraction leave spaces behind once the history forgets the state before them, and any edit does where
 /// it makes the history forget one. Clearing takes no memory, so what it leaves behind stays until a later edit.
 pub(crate) fn is_due(edit: &Edit, forgets: bool, size: u128, last: u128) -> bool
-    ensures { IsTrue result → edit.now ≢ Edit.Clear }
+    ensures { IsTrue result ↔ IsCompactionDue edit.now forgets size last }
 {
-    if !leaves_spaces(edit, forgets) {
-        return false;
-    }
-    match last.checked_mul(2) {
-        Some(twice) => size > twice && size - twice > SLACK,
-        None => false,
-    }
+    leaves_spaces(edit, forgets) && size.saturating_sub(last).saturating_sub(last) > SLACK
 }
 
 /// Whether an edit leaves spaces behind that a compaction may take.
 fn leaves_spaces(edit: &Edit, forgets: bool) -> bool
-    ensures { IsTrue result → edit.now ≢ Edit.Clear }
+    ensures { IsTrue result ↔ LeavesSpaces edit.now forgets }
 {
     match edit {
         Edit::Correct { .. } | Edit::Retract { .. } => true,

@@ -3,6 +3,7 @@ use Rattle.fill_undo.specs.Done.{done_of}
 use Rattle.fill_session.specs.State.{SessionData, seen_as}
 use Rattle.fill_session.specs.Timeline.{edited, timeline}
 use Rattle.fill_session.specs.declared.present.Present.{Present}
+use Rattle.fill_session.proofs.Compacting.{clear_is_not_due}
 use Rattle.fill_session.proofs.Held.{held_stays, as_before, next_held, states_stay}
 use Rattle.fill_session.proofs.Moving.{edited_is}
 use Rattle.fill_session.proofs.session.Session.edit.Goals as goal
@@ -46,7 +47,7 @@ returns-in-Err-clause-as_before g c =
     c.in-Err.ensures.ground c.in-Err.ensures.older c.in-Err.ensures.cut
 
 pub returns-then-is_due-clause-same : goal.returns-then-is_due-clause-same
-returns-then-is_due-clause-same g c = λ clear. absurd (c.is_due.ensures c.if-is_due.true clear)
+returns-then-is_due-clause-same g c = λ clear. absurd (clear_is_not_due _ _ _ _ (c.is_due.ensures.0 c.if-is_due.true) clear)
 
 pub returns-else-is_due-clause-same : goal.returns-else-is_due-clause-same
 returns-else-is_due-clause-same g c = λ clear. c.in-Ok.ensures.same clear ∙ ap (λ (v : SessionData). v.spaces) c.self.view_is
