@@ -82,7 +82,7 @@ out_shared c k x zs hx n j y apart = λ w hw e. apart_shared c zs w y (subst (λ
 
 module _ (c : List Entry) (k : Task) (task : IsTask c k) where
   -- after all items that may have something in common with the task's
-  pub made_next : (x : AtomItem) (zs : List AtomItem) → slice_get k.xs.now k.place ≡ Some x → AreDone c k.guide.index.now.labels.sets.items (IsSharedOf c k zs) → IsMadeTo c k k.place zs → IsMadeTo c k (k.place + 1) zs
+  pub made_next : (x : AtomItem) (zs : List AtomItem) → slice_get k.xs.now k.place ≡ Some x → AreDone c k.guide.now.index.labels.sets.items (IsSharedOf c k zs) → IsMadeTo c k k.place zs → IsMadeTo c k (k.place + 1) zs
   made_next x zs hx done made =
       record {
         first = made.first;
@@ -104,28 +104,28 @@ module _ (c : List Entry) (k : Task) (task : IsTask c k) where
       }
 
   -- the item of an entry of the task's second set
-  pub task_listed : (z : Item) (y : AtomItem) → z.set ≡ k.number → slice_get k.ys.now z.place ≡ Some y → IsListed c k.guide.index.now.labels.sets.items z.set z.place y
-  task_listed z y e at = (task.set, k.ys.now, subst (λ n. slice_get k.guide.index.now.labels.sets.items n ≡ Some task.set) (sym e) task.number, task.items, at)
+  pub task_listed : (z : Item) (y : AtomItem) → z.set ≡ k.number → slice_get k.ys.now z.place ≡ Some y → IsListed c k.guide.now.index.labels.sets.items z.set z.place y
+  task_listed z y e at = (task.set, k.ys.now, subst (λ n. slice_get k.guide.now.index.labels.sets.items n ≡ Some task.set) (sym e) task.number, task.items, at)
 
-  pub task_within : (z : Item) (y : AtomItem) → z.set ≡ k.number → IsListed c k.guide.index.now.labels.sets.items z.set z.place y → z.place < length k.ys.now
+  pub task_within : (z : Item) (y : AtomItem) → z.set ≡ k.number → IsListed c k.guide.now.index.labels.sets.items z.set z.place y → z.place < length k.ys.now
   task_within z y e listed =
-      let set : listed.0 ≡ task.set = same_value k.guide.index.now.labels.sets.items z.set k.number listed.0 task.set e listed.2 task.number in
+      let set : listed.0 ≡ task.set = same_value k.guide.now.index.labels.sets.items z.set k.number listed.0 task.set e listed.2 task.number in
       let both : Some (kind.Atoms listed.1) ≡ Some (kind.Atoms k.ys.now) = sym listed.3 ∙ subst (λ n. slice_get c n ≡ Some (kind.Atoms k.ys.now)) (sym set) task.items in
       let same : listed.1 ≡ k.ys.now = cc in
       slice_get_within k.ys.now z.place y (subst (λ l. slice_get l z.place ≡ Some y) same listed.4)
 
 -- an entry of another set, and one whose item was made
-module _ (c : List Entry) (k : Task) (hash e : ℕ) (z : Item) (hz : slice_get k.guide.index.now.items.items e ≡ Some z) where
-  pub entry_of_other : (zs : List AtomItem) → (z.set ≡ k.number → ⊥) → IsEntryDone c k.guide.index.now (IsSharedOf c k zs) hash e
+module _ (c : List Entry) (k : Task) (hash e : ℕ) (z : Item) (hz : slice_get k.guide.now.index.items.items e ≡ Some z) where
+  pub entry_of_other : (zs : List AtomItem) → (z.set ≡ k.number → ⊥) → IsEntryDone c k.guide.now.index (IsSharedOf c k zs) hash e
   entry_of_other zs other =
-      record { each = λ u y hu same listed x hx number. (let is : z ≡ u = same_value k.guide.index.now.items.items e e z u refl hz hu in absurd (other (ap (λ v. v.set) is ∙ number))) }
+      record { each = λ u y hu same listed x hx number. (let is : z ≡ u = same_value k.guide.now.index.items.items e e z u refl hz hu in absurd (other (ap (λ v. v.set) is ∙ number))) }
 
-  pub entry_shared : (zs : List AtomItem) (x y : AtomItem) → slice_get k.xs.now k.place ≡ Some x → IsListed c k.guide.index.now.labels.sets.items z.set z.place y → IsShared c zs x y → IsEntryDone c k.guide.index.now (IsSharedOf c k zs) hash e
+  pub entry_shared : (zs : List AtomItem) (x y : AtomItem) → slice_get k.xs.now k.place ≡ Some x → IsListed c k.guide.now.index.labels.sets.items z.set z.place y → IsShared c zs x y → IsEntryDone c k.guide.now.index (IsSharedOf c k zs) hash e
   entry_shared zs x y hx at shared =
       record {
         each = λ u v hu same listed w hw number.
-            (let labels = k.guide.index.now.labels.sets.items in
-            let is : z ≡ u = same_value k.guide.index.now.items.items e e z u refl hz hu in
+            (let labels = k.guide.now.index.labels.sets.items in
+            let is : z ≡ u = same_value k.guide.now.index.items.items e e z u refl hz hu in
             let one : y ≡ v = listed_once c labels z.set z.place y v at (subst (λ i. IsListed c labels i.set i.place v) (sym is) listed) in
             let this : x ≡ w = same_value k.xs.now k.place k.place x w refl hx hw in
             subst (λ i. IsShared c zs i v) this (subst (IsShared c zs x) one shared));
@@ -168,12 +168,12 @@ module _ (c d : List Entry) (o : Extends c d) where
   pub guide_stays : (g : Guide) → IsGuide c g → IsGuide d g
   guide_stays g is =
       record {
-        index = (is.index.0, index_stays is.index.0 g.index.now is.index.1);
-        mates = mates_stay g.index.now.places.sets.items g.mates.now.lists.numbers.items g.mates.now.known.items is.mates;
+        index = (is.index.0, index_stays is.index.0 g.index is.index.1);
+        mates = mates_stay g.index.places.sets.items g.mates.lists.numbers.items g.mates.known.items is.mates;
       }
 
   pub task_stays : (k : Task) → IsTask c k → IsTask d k
-  task_stays k is = record { guide = guide_stays k.guide is.guide; within = is.within; set = is.set; number = is.number; items = o is.set (kind.Atoms k.ys.now) is.items }
+  task_stays k is = record { guide = guide_stays k.guide.now is.guide; within = is.within; set = is.set; number = is.number; items = o is.set (kind.Atoms k.ys.now) is.items }
 
 -- so where there may be none
 pub guides_stay : (c d : List Entry) → Extends c d → (g : Option Guide) → IfSome g (IsGuide c) → IfSome g (IsGuide d)

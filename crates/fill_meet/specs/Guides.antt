@@ -14,15 +14,15 @@ use Rattle.fill_meet.specs.declared.makes.Task.{Task}
 
 -- an index, and mates in it
 pub record IsGuide (c : List Entry) (g : Guide) : Type 0 where
-  pub index : IsSomeIndex c g.index.now
-  pub mates : AreMates c g.index.now.places.sets.items g.mates.now
+  pub index : IsSomeIndex c g.index
+  pub mates : AreMates c g.index.places.sets.items g.mates
 
 -- the guide is one, the item is one of the first ones, and the set of the number has the second ones
 pub record IsTask (c : List Entry) (k : Task) : Type 0 where
-  pub guide : IsGuide c k.guide
+  pub guide : IsGuide c k.guide.now
   pub within : k.place < length k.xs.now
   pub set : ℕ
-  pub number : slice_get k.guide.index.now.labels.sets.items k.number ≡ Some set
+  pub number : slice_get k.guide.now.index.labels.sets.items k.number ≡ Some set
   pub items : slice_get c set ≡ Some (kind.Atoms k.ys.now)
 
 -- in every later arena an atom of x and of y is one of the list

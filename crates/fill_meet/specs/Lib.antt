@@ -11,6 +11,7 @@ pub mod Product
 pub mod Rows
 pub mod Runs
 pub mod Sets
+pub mod Tied
 pub mod Ties
 pub mod Tried
 pub mod Walked

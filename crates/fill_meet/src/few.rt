@@ -13,7 +13,7 @@ ghost use Rattle.fill_meet.specs.Tried.{AreTried};
 use crate::apart::atoms_may_meet;
 use crate::bits::Bits;
 use crate::groups::Groups;
-use crate::ties::{Graphs, Sweep, tie_reached};
+use crate::ties::{Graphs, Sweep, Tie, tie_reached};
 use crate::tried::Tried;
 use fill_arena::{Arena, AtomItem, Edge};
 use fill_text::{List, NoMemory};
@@ -22,7 +22,7 @@ use std::alloc::Global;
 /// The most pairs that the edges of the first one of two small graphs make with the items of the second one.
 ///
 /// An index goes through all items of the second graph, and pays only where the pairs are many.
-const FEW_PAIRS: usize = 32_768;
+const SMALL_PAIRS: usize = 32_768;
 
 /// How many answers on pairs of sets of places are kept for each edge of the second graph.
 const ANSWERS_AN_EDGE: usize = 2;
@@ -40,10 +40,10 @@ pub(crate) fn are_few(arena: &Arena, graphs: Graphs<'_>) -> bool
     requires { EachIn (λ e. IsAtomSet arena.now e.atoms) graphs.ys.now }
 {
     let edges = graphs.xs.len();
-    if edges.saturating_mul(graphs.ys.len()) > FEW_PAIRS {
+    if edges.saturating_mul(graphs.ys.len()) > SMALL_PAIRS {
         return false;
     }
-    edges.saturating_mul(count_items(arena, graphs.ys)) <= FEW_PAIRS
+    edges.saturating_mul(count_items(arena, graphs.ys)) <= SMALL_PAIRS
 }
 
 /// How many items the sets of the edges have.
@@ -58,13 +58,17 @@ fn count_items(arena: &Arena, edges: &[Edge]) -> usize
 }
 
 /// The ties between pairs of nodes to which something leads from the first pair, as `find_ties` finds them.
-pub(crate) fn find_few(alloc: Global, arena: &Arena, graphs: Graphs<'_>) -> Result<Few, NoMemory>
+pub(crate) fn find_few(
+    alloc: Global,
+    arena: &Arena,
+    graphs: Graphs<'_>,
+) -> Result<List<Tie>, NoMemory>
     requires some { 0 < graphs.height * graphs.width }
     requires nodes { graphs.height * graphs.width < 2 ^ 64 }
     requires edges { ArePairable arena.now graphs.height graphs.width graphs.xs.now graphs.ys.now }
-    ensures ties { IfOk result (λ few. AreTies arena.now graphs.entry.width graphs.entry.xs.now graphs.entry.ys.now few.sweep.ties) }
-    ensures ordered { IfOk result (λ few. AreOrdered (graphs.entry.height * graphs.entry.width) few.sweep.ties) }
-    ensures sets { IfOk result (λ few. NameSets arena.now few.sweep.ties) }
+    ensures ties { IfOk result (AreTies arena.now graphs.entry.width graphs.entry.xs.now graphs.entry.ys.now) }
+    ensures ordered { IfOk result (AreOrdered (graphs.entry.height * graphs.entry.width)) }
+    ensures sets { IfOk result (NameSets arena.now) }
 {
     let mut reached = Bits::new(alloc, graphs.height, graphs.width)?;
     reached.put(0, 0);
@@ -79,7 +83,7 @@ pub(crate) fn find_few(alloc: Global, arena: &Arena, graphs: Graphs<'_>) -> Resu
     for k in 0..graphs.xs.len() {
         try_edge(arena, graphs, &by_from, k, &mut few)?;
     }
-    Ok(few)
+    Ok(few.sweep.ties)
 }
 
 /// The nodes that the edges come from.

@@ -17,17 +17,17 @@ use fill_arena::{Arena, AtomItem, AtomSet};
 use fill_text::{List, NoMemory};
 
 /// What finds the items of the second graph's sets that may have something in common with one of the first.
-#[derive(Clone, Copy)]
-pub(crate) struct Guide<'a> {
-    pub(crate) index: &'a Index,
-    pub(crate) mates: &'a Mates,
+#[derive(Drop)]
+pub(crate) struct Guide {
+    pub(crate) index: Index,
+    pub(crate) mates: Mates,
 }
 
 /// An item of a set of the first graph, by its place; the items of a set of the second graph, with the set's number; and what
 /// finds those.
 #[derive(Clone, Copy)]
 pub(crate) struct Task<'a> {
-    pub(crate) guide: Guide<'a>,
+    pub(crate) guide: &'a Guide,
     pub(crate) of: AtomSet,
     pub(crate) xs: &'a [AtomItem],
     pub(crate) place: usize,
@@ -40,12 +40,12 @@ pub(crate) struct Task<'a> {
 pub(crate) fn make_guided(
     arena: &mut Arena,
     memo: &mut Memo,
-    guide: Guide<'_>,
+    guide: &Guide,
     s: AtomSet,
     t: AtomSet,
 ) -> Result<Option<AtomSet>, NoMemory>
     requires memo { IsRight arena.old memo.old }
-    requires guide { IsGuide arena.old guide }
+    requires guide { IsGuide arena.old guide.now }
     requires first { IsAtomSet arena.old s }
     requires second { IsAtomSet arena.old t }
     ensures kept { Extends arena.old arena.new }
@@ -119,14 +119,14 @@ fn make_pieces(
 ) -> Result<(), NoMemory>
     requires memo { IsRight arena.old memo.old }
     requires task { IsTask arena.old task.now }
-    requires begins { begins.end ≤ length task.now.guide.mates.now.lists.numbers.items }
-    requires ends { ends.end ≤ length task.now.guide.mates.now.lists.numbers.items }
+    requires begins { begins.end ≤ length task.now.guide.now.mates.lists.numbers.items }
+    requires ends { ends.end ≤ length task.now.guide.now.mates.lists.numbers.items }
     requires made { IsMadeTo arena.old task.now task.now.place zs.old }
     ensures kept { Extends arena.old arena.new }
     ensures memo { OnOk result (IsRight arena.new memo.new) }
     ensures made { OnOk result (IsMadeTo arena.new task.now task.now.place zs.new) }
     ensures grown { OnOk result (Grows zs.old zs.new) }
-    ensures done { OnOk result (ArePiecesDone arena.new task.now.guide.index.now (IsSharedOf arena.new task.now zs.new) task.now.guide.mates.now.lists.numbers.items begins ends) }
+    ensures done { OnOk result (ArePiecesDone arena.new task.now.guide.now.index (IsSharedOf arena.new task.now zs.new) task.now.guide.now.mates.lists.numbers.items begins ends) }
 {
     let numbers = task.guide.mates.lists.numbers.as_slice();
     for k in begins.start..begins.end {
@@ -147,13 +147,13 @@ fn make_ends(
 ) -> Result<(), NoMemory>
     requires memo { IsRight arena.old memo.old }
     requires task { IsTask arena.old task.now }
-    requires ends { ends.end ≤ length task.now.guide.mates.now.lists.numbers.items }
+    requires ends { ends.end ≤ length task.now.guide.now.mates.lists.numbers.items }
     requires made { IsMadeTo arena.old task.now task.now.place zs.old }
     ensures kept { Extends arena.old arena.new }
     ensures memo { OnOk result (IsRight arena.new memo.new) }
     ensures made { OnOk result (IsMadeTo arena.new task.now task.now.place zs.new) }
     ensures grown { OnOk result (Grows zs.old zs.new) }
-    ensures done { OnOk result (AreEndsDone arena.new task.now.guide.index.now (IsSharedOf arena.new task.now zs.new) task.now.guide.mates.now.lists.numbers.items left ends.start ends.end) }
+    ensures done { OnOk result (AreEndsDone arena.new task.now.guide.now.index (IsSharedOf arena.new task.now zs.new) task.now.guide.now.mates.lists.numbers.items left ends.start ends.end) }
 {
     let numbers = task.guide.mates.lists.numbers.as_slice();
     for k in ends.start..ends.end {
@@ -177,9 +177,9 @@ fn make_alike(
     ensures memo { OnOk result (IsRight arena.new memo.new) }
     ensures made { OnOk result (IsMadeTo arena.new task.now task.now.place zs.new) }
     ensures grown { OnOk result (Grows zs.old zs.new) }
-    ensures done { OnOk result (AreAlikeDone arena.new task.now.guide.index.now (IsSharedOf arena.new task.now zs.new) hash) }
+    ensures done { OnOk result (AreAlikeDone arena.new task.now.guide.now.index (IsSharedOf arena.new task.now zs.new) hash) }
 {
-    let index = task.guide.index;
+    let index = &task.guide.index;
     let mut e = index.groups.first_of(hash);
     while e < index.items.len() {
         make_one(arena, memo, task, e, hash, zs)?;
@@ -199,13 +199,13 @@ fn make_one(
 ) -> Result<(), NoMemory>
     requires memo { IsRight arena.old memo.old }
     requires task { IsTask arena.old task.now }
-    requires within { e < length task.now.guide.index.now.items.items }
+    requires within { e < length task.now.guide.now.index.items.items }
     requires made { IsMadeTo arena.old task.now task.now.place zs.old }
     ensures kept { Extends arena.old arena.new }
     ensures memo { OnOk result (IsRight arena.new memo.new) }
     ensures made { OnOk result (IsMadeTo arena.new task.now task.now.place zs.new) }
     ensures grown { OnOk result (Grows zs.old zs.new) }
-    ensures done { OnOk result (IsEntryDone arena.new task.now.guide.index.now (IsSharedOf arena.new task.now zs.new) hash e) }
+    ensures done { OnOk result (IsEntryDone arena.new task.now.guide.now.index (IsSharedOf arena.new task.now zs.new) hash e) }
 {
     let item = task.guide.index.items[e];
     if item.hash != hash {

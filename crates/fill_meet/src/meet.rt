@@ -1,16 +1,16 @@
 //! The intersection of graphs.
 ghost use Rattle.std.specs.Prelude.{◌≡◌, ◌+◌, Ok, Some, IfOk, OnErr, OnSome, IfNone, MatchOption};
 ghost use Rattle.fill_tree.specs.Tree.{Atoms};
-ghost use Rattle.fill_arena.specs.Contents.{Extends, HasEdges, IsGraph};
+ghost use Rattle.fill_arena.specs.Contents.{Extends, IsGraph};
 ghost use Rattle.fill_arena.specs.Stands.{ProgramStands};
 ghost use Rattle.fill_meet.specs.Meet.{IsMeet, NoneInBoth};
 ghost use Rattle.fill_meet.specs.Walked.{IsWalked};
 
-use crate::product::pair_edges;
+use crate::product::{pair_edges, tie_graphs};
 use crate::ties::Graphs;
-use fill_arena::{Arena, Edge, GraphId};
+use fill_arena::{Arena, GraphId};
 use fill_edge::{Ledger, Steps};
-use fill_text::{List, NoMemory};
+use fill_text::NoMemory;
 use fill_trim::trim::{Trimmed, trim};
 use std::alloc::Global;
 
@@ -102,30 +102,18 @@ fn meet_walks(
     arena.keeps_made();
     let height = arena.nodes(a);
     let width = arena.nodes(b);
-    let xs = copy_edges(alloc, arena, a)?;
-    let ys = copy_edges(alloc, arena, b)?;
     let Some(nodes) = height.checked_mul(width) else {
         return Err(NoMemory);
     };
     let graphs = Graphs {
         height,
         width,
-        xs: xs.as_slice(),
-        ys: ys.as_slice(),
+        xs: arena.edges(a),
+        ys: arena.edges(b),
     };
-    let edges = pair_edges(alloc, arena, graphs, nodes)?;
+    let tied = tie_graphs(alloc, arena, graphs)?;
+    let edges = pair_edges(alloc, arena, &tied, nodes)?;
     // Their room is for what comes now.
-    drop(xs);
-    drop(ys);
+    drop(tied);
     trim(alloc, nodes, edges.as_slice())
-}
-
-/// The edges of the graph.
-fn copy_edges(alloc: Global, arena: &Arena, g: GraphId) -> Result<List<Edge>, NoMemory>
-    requires { IsGraph arena.now g }
-    ensures { IfOk result (HasEdges arena.now g) }
-{
-    let mut edges = List::new(alloc);
-    edges.append(arena.edges(g))?;
-    Ok(edges)
 }

@@ -1,6 +1,7 @@
 //! The edges of two graphs in pairs.
-ghost use Rattle.std.specs.Prelude.{◌≡◌, ◌<◌, ◌*◌, length, IfOk, IfSome, OnOk};
+ghost use Rattle.std.specs.Prelude.{◌≡◌, ◌<◌, ◌*◌, ◌^◌, ℕ, List as Listed, length, IfOk, IfSome, OnOk};
 ghost use Rattle.fill_arena.specs.Contents.{Extends, IsAtomSet};
+ghost use Rattle.fill_arena.specs.declared.entry.Edge.{Edge};
 ghost use Rattle.fill_trim.specs.Marks.{spread};
 ghost use Rattle.fill_trim.specs.Trim.{AreEdges};
 ghost use Rattle.fill_meet.specs.Guides.{IsGuide};
@@ -8,7 +9,8 @@ ghost use Rattle.fill_meet.specs.Joins.{AreClosed, AreJoined, AreLive, IsJoinedT
 ghost use Rattle.fill_meet.specs.Memory.{IsRight};
 ghost use Rattle.fill_meet.specs.Product.{ArePairable, IsProduct};
 ghost use Rattle.fill_meet.specs.Sets.{AtomSetsMeet};
-ghost use Rattle.fill_meet.specs.Ties.{AreOrdered, NameSets};
+ghost use Rattle.fill_meet.specs.Ties.{AreOrdered, AreTies, NameSets};
+ghost use Rattle.fill_meet.specs.Tied.{AreTied};
 
 use crate::apart::are_many;
 use crate::few::{are_few, find_few};
@@ -16,78 +18,63 @@ use crate::index::Index;
 use crate::makes::{Guide, make_guided};
 use crate::memo::{Memo, find_atoms};
 use crate::sets::make_atoms;
-use crate::ties::{Graphs, Tie, find_ties};
+use crate::ties::{Graphs, Net, Tie, find_ties};
 use fill_arena::{Arena, AtomSet, Edge};
 use fill_text::{List, NoMemory};
 use std::alloc::Global;
 
+/// The ties of two graphs; of large ones also what finds the items of the second one's sets.
+#[derive(Drop)]
+pub(crate) struct Tied {
+    pub(crate) ties: List<Tie>,
+    pub(crate) guide: Option<Guide>,
+}
+
+/// The pairs of edges that may have an atom in common, which makes no set.
+pub(crate) fn tie_graphs(alloc: Global, arena: &Arena, graphs: Graphs<'_>) -> Result<Tied, NoMemory>
+    requires some { 0 < graphs.height * graphs.width }
+    requires nodes { graphs.height * graphs.width < 2 ^ 64 }
+    requires edges { ArePairable arena.now graphs.height graphs.width graphs.xs.now graphs.ys.now }
+    ensures { IfOk result (AreTied arena.now graphs.entry) }
+{
+    if are_few(arena, graphs) {
+        let ties = find_few(alloc, arena, graphs)?;
+        return Ok(Tied { ties, guide: None });
+    }
+    let index = Index::new(alloc, arena, graphs.ys)?;
+    let Net { sweep, rows } = find_ties(alloc, arena, &index, graphs)?;
+    let search = rows.search;
+    let guide = Guide {
+        index,
+        mates: search.mates,
+    };
+    Ok(Tied {
+        ties: sweep.ties,
+        guide: Some(guide),
+    })
+}
+
 /// The edges that pair an edge of each graph and have the atoms of both, those that some walk from the first pair of nodes
 /// to the last one may take.
 ///
-/// First the pairs that may have an atom in common are found, which makes no set; then those of them that lead to the last
-/// pair get their sets.
+/// Of the ties those that lead to the last pair get their sets.
 pub(crate) fn pair_edges(
     alloc: Global,
     arena: &mut Arena,
-    graphs: Graphs<'_>,
+    tied: &Tied,
     nodes: usize,
 ) -> Result<List<Edge>, NoMemory>
     requires some { 0 < nodes }
-    requires nodes { nodes ≡ graphs.height * graphs.width }
-    requires edges { ArePairable arena.old graphs.height graphs.width graphs.xs.now graphs.ys.now }
+    requires ordered { AreOrdered nodes tied.now.ties }
+    requires sets { NameSets arena.old tied.now.ties }
+    requires guide { IfSome tied.now.guide (IsGuide arena.old) }
     ensures kept { Extends arena.old arena.new }
-    ensures product { IfOk result (IsProduct arena.new graphs.entry.height graphs.entry.width graphs.entry.xs.now graphs.entry.ys.now) }
+    ensures product { (h w : ℕ) (xs ys : Listed Edge) → nodes ≡ h * w → AreTies arena.old w xs ys tied.now.ties → IfOk result (IsProduct arena.new h w xs ys) }
     ensures edges { IfOk result (AreEdges nodes) }
 {
-    if are_few(arena, graphs) {
-        return pair_few(alloc, arena, graphs, nodes);
-    }
-    pair_many(alloc, arena, graphs, nodes)
-}
-
-/// The same, of two small graphs.
-fn pair_few(
-    alloc: Global,
-    arena: &mut Arena,
-    graphs: Graphs<'_>,
-    nodes: usize,
-) -> Result<List<Edge>, NoMemory>
-    requires some { 0 < nodes }
-    requires nodes { nodes ≡ graphs.height * graphs.width }
-    requires edges { ArePairable arena.old graphs.height graphs.width graphs.xs.now graphs.ys.now }
-    ensures kept { Extends arena.old arena.new }
-    ensures product { IfOk result (IsProduct arena.new graphs.entry.height graphs.entry.width graphs.entry.xs.now graphs.entry.ys.now) }
-    ensures edges { IfOk result (AreEdges nodes) }
-{
-    let few = find_few(alloc, arena, graphs)?;
-    let found = few.sweep.ties.as_slice();
-    let live = leading_to_last(alloc, nodes, found)?;
-    join_ties(alloc, arena, None, live.as_slice(), found)
-}
-
-/// The same, of two large graphs.
-fn pair_many(
-    alloc: Global,
-    arena: &mut Arena,
-    graphs: Graphs<'_>,
-    nodes: usize,
-) -> Result<List<Edge>, NoMemory>
-    requires some { 0 < nodes }
-    requires nodes { nodes ≡ graphs.height * graphs.width }
-    requires edges { ArePairable arena.old graphs.height graphs.width graphs.xs.now graphs.ys.now }
-    ensures kept { Extends arena.old arena.new }
-    ensures product { IfOk result (IsProduct arena.new graphs.entry.height graphs.entry.width graphs.entry.xs.now graphs.entry.ys.now) }
-    ensures edges { IfOk result (AreEdges nodes) }
-{
-    let index = Index::new(alloc, arena, graphs.ys)?;
-    let net = find_ties(alloc, arena, &index, graphs)?;
-    let found = net.sweep.ties.as_slice();
-    let live = leading_to_last(alloc, nodes, found)?;
-    let guide = Guide {
-        index: &index,
-        mates: &net.rows.search.mates,
-    };
-    join_ties(alloc, arena, Some(guide), live.as_slice(), found)
+    let ties = tied.ties.as_slice();
+    let live = leading_to_last(alloc, nodes, ties)?;
+    join_ties(alloc, arena, &tied.guide, live.as_slice(), ties)
 }
 
 /// The nodes that lead to the last one, found by a pass from the back.
@@ -130,11 +117,11 @@ fn spread(marks: &mut [bool], from: usize, to: usize)
 fn join_ties(
     alloc: Global,
     arena: &mut Arena,
-    guide: Option<Guide<'_>>,
+    guide: &Option<Guide>,
     live: &[bool],
     ties: &[Tie],
 ) -> Result<List<Edge>, NoMemory>
-    requires guide { IfSome guide (IsGuide arena.old) }
+    requires guide { IfSome guide.now (IsGuide arena.old) }
     requires ties { AreOrdered (length live.now) ties.now }
     requires sets { NameSets arena.old ties.now }
     ensures kept { Extends arena.old arena.new }
@@ -168,12 +155,12 @@ fn count_live(live: &[bool], ties: &[Tie]) -> usize {
 fn join(
     arena: &mut Arena,
     memo: &mut Memo,
-    guide: Option<Guide<'_>>,
+    guide: &Option<Guide>,
     tie: Tie,
     edges: &mut List<Edge>,
 ) -> Result<(), NoMemory>
     requires memo { IsRight arena.old memo.old }
-    requires guide { IfSome guide (IsGuide arena.old) }
+    requires guide { IfSome guide.now (IsGuide arena.old) }
     requires first { IsAtomSet arena.old tie.left }
     requires second { IsAtomSet arena.old tie.right }
     ensures kept { Extends arena.old arena.new }
@@ -196,12 +183,12 @@ fn join(
 fn edge_atoms(
     arena: &mut Arena,
     memo: &mut Memo,
-    guide: Option<Guide<'_>>,
+    guide: &Option<Guide>,
     s: AtomSet,
     t: AtomSet,
 ) -> Result<Option<AtomSet>, NoMemory>
     requires memo { IsRight arena.old memo.old }
-    requires guide { IfSome guide (IsGuide arena.old) }
+    requires guide { IfSome guide.now (IsGuide arena.old) }
     requires first { IsAtomSet arena.old s }
     requires second { IsAtomSet arena.old t }
     ensures kept { Extends arena.old arena.new }

@@ -12,7 +12,7 @@ use Rattle.fill_meet.proofs.makes.make_alike.Goals as goal
 
 pub loop-e-init : goal.loop-e-init
 loop-e-init c =
-    let index = c.args.task.now.guide.index.now in
+    let index = c.args.task.now.guide.now.index in
     let groups = c.requires.task.guide.index.1.groups in
     let count = length index.groups.firsts.items in
     let P = IsSharedOf c.args.arena.now c.args.task.now c.args.zs.now in
@@ -28,7 +28,7 @@ loop-e-init c =
 
 pub loop-e-smaller : goal.loop-e-smaller
 loop-e-smaller c =
-    let index = c.args.task.now.guide.index.now in
+    let index = c.args.task.now.guide.now.index in
     let groups = c.requires.task.guide.index.1.groups in
     let count = length index.groups.firsts.items in
     let test : c.loop-e.e < length index.items.items = (let at = c.loop-e-test.true in let len = c.len.ensures in omega arith) in
@@ -40,7 +40,7 @@ pub loop-e-preserved : goal.loop-e-preserved
 loop-e-preserved c =
     let inv = c.loop-e.invariant in
     let task = c.args.task.now in
-    let index = c.args.task.now.guide.index.now in
+    let index = c.args.task.now.guide.now.index in
     let is = inv.task.guide.index in
     let groups = c.requires.task.guide.index.1.groups in
     let count = length index.groups.firsts.items in
@@ -71,5 +71,5 @@ returns-in_err-make_one-clause-kept c = extends_on c.args.arena.now c.loop-e.are
 
 pub returns-clause-done : goal.returns-clause-done
 returns-clause-done c =
-    let past : length c.args.task.now.guide.index.now.items.items ≤ c.loop-e.e = (let at = c.loop-e-test.false in let len = c.len.ensures in omega arith) in
-    entries_end c.loop-e.arena c.args.task.now.guide.index.now (IsSharedOf c.loop-e.arena c.args.task.now c.loop-e.zs) c.args.hash c.loop-e.e past c.loop-e.invariant.below
+    let past : length c.args.task.now.guide.now.index.items.items ≤ c.loop-e.e = (let at = c.loop-e-test.false in let len = c.len.ensures in omega arith) in
+    entries_end c.loop-e.arena c.args.task.now.guide.now.index (IsSharedOf c.loop-e.arena c.args.task.now c.loop-e.zs) c.args.hash c.loop-e.e past c.loop-e.invariant.below

@@ -15,9 +15,9 @@ invariant-loop-e l =
       task : IsTask l.arena l.task;
       made : IsMadeTo l.arena l.task l.task.place l.zs;
       grown : Grows l.initial.zs l.zs;
-      group : (keys : List ℕ) → AreGroups keys l.task.guide.index.now.groups → (v : ℕ) → slice_get keys l.e ≡ Some v → v ≡ l.hash % length l.task.guide.index.now.groups.firsts.items;
-      below : EntriesBelow l.arena l.task.guide.index.now (IsSharedOf l.arena l.task l.zs) l.hash l.e;
+      group : (keys : List ℕ) → AreGroups keys l.task.guide.now.index.groups → (v : ℕ) → slice_get keys l.e ≡ Some v → v ≡ l.hash % length l.task.guide.now.index.groups.firsts.items;
+      below : EntriesBelow l.arena l.task.guide.now.index (IsSharedOf l.arena l.task l.zs) l.hash l.e;
     }
 
 abbrev pub decreases-loop-e : goal.decreases-loop-e
-decreases-loop-e l = length l.task.guide.index.now.items.items - l.e
+decreases-loop-e l = length l.task.guide.now.index.items.items - l.e

@@ -12,8 +12,8 @@ use Rattle.fill_meet.proofs.makes.make_ends.Goals as goal
 
 pub loop-k-init : goal.loop-k-init
 loop-k-init c =
-    let index = c.args.task.now.guide.index.now in
-    let numbers = c.args.task.now.guide.mates.now.lists.numbers.items in
+    let index = c.args.task.now.guide.now.index in
+    let numbers = c.args.task.now.guide.now.mates.lists.numbers.items in
     let P = IsSharedOf c.args.arena.now c.args.task.now c.args.zs.now in
     record {
       kept = extends_same c.args.arena.now;
@@ -28,8 +28,8 @@ pub loop-k-preserved : goal.loop-k-preserved
 loop-k-preserved c =
     let inv = c.loop-k.invariant in
     let task = c.args.task.now in
-    let index = c.args.task.now.guide.index.now in
-    let numbers = c.args.task.now.guide.mates.now.lists.numbers.items in
+    let index = c.args.task.now.guide.now.index in
+    let numbers = c.args.task.now.guide.now.mates.lists.numbers.items in
     let is = inv.task.guide.index in
     let old = c.loop-k.arena in
     let new = c.make_alike.new.arena in

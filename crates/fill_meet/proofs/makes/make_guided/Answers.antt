@@ -42,7 +42,7 @@ loop-place-preserved c =
     record {
       kept = extends_on _ _ _ inv.kept o;
       memo = made.memo;
-      guide = guide_stays c.loop-place.arena c.make_row.new.arena o c.args.guide inv.guide;
+      guide = guide_stays c.loop-place.arena c.make_row.new.arena o c.args.guide.now inv.guide;
       pairs = made.made;
     }
 

@@ -13,7 +13,7 @@ use Rattle.fill_meet.proofs.makes.make_one.Goals as goal
 pub returns-then-item-hash-clause-done : goal.returns-then-item-hash-clause-done
 returns-then-item-hash-clause-done c =
     let task = c.args.task.now in
-    let index = c.args.task.now.guide.index.now in
+    let index = c.args.task.now.guide.now.index in
     let z = c.index-item.result.now in
     let hz = here index.items.items c.args.e z c.requires.within c.index-item.ensures in
     entry_other c.args.arena.now index c.args.hash c.args.e z hz (IsSharedOf c.args.arena.now task c.args.zs.now) (λ same. c.if-item-hash.true same)
@@ -21,7 +21,7 @@ returns-then-item-hash-clause-done c =
 pub returns-then-item-task-clause-done : goal.returns-then-item-task-clause-done
 returns-then-item-task-clause-done c =
     let task = c.args.task.now in
-    let index = c.args.task.now.guide.index.now in
+    let index = c.args.task.now.guide.now.index in
     let z = c.index-item.result.now in
     let hz = here index.items.items c.args.e z c.requires.within c.index-item.ensures in
     entry_of_other c.args.arena.now task c.args.hash c.args.e z hz c.args.zs.now (λ same. c.if-item-task.true same)
@@ -32,7 +32,7 @@ bounds-task-task c = c.requires.task.within
 pub bounds-task-item : goal.bounds-task-item
 bounds-task-item c =
     let task = c.args.task.now in
-    let index = c.args.task.now.guide.index.now in
+    let index = c.args.task.now.guide.now.index in
     let z = c.index-item.result.now in
     let hz = here index.items.items c.args.e z c.requires.within c.index-item.ensures in
     let listed = c.requires.task.guide.index.1.items.real c.args.e z hz in
@@ -48,7 +48,7 @@ meet_atom_items-requires-clause-first c =
 pub meet_atom_items-requires-clause-second : goal.meet_atom_items-requires-clause-second
 meet_atom_items-requires-clause-second c =
     let task = c.args.task.now in
-    let index = c.args.task.now.guide.index.now in
+    let index = c.args.task.now.guide.now.index in
     let z = c.index-item.result.now in
     let hz = here index.items.items c.args.e z c.requires.within c.index-item.ensures in
     let listed = c.requires.task.guide.index.1.items.real c.args.e z hz in
@@ -62,7 +62,7 @@ returns-clause-memo c = done_any c.push_some.result _ c.in_ok-made.ensures.memo
 pub returns-clause-made : goal.returns-clause-made
 returns-clause-made c =
     let task = c.args.task.now in
-    let index = c.args.task.now.guide.index.now in
+    let index = c.args.task.now.guide.now.index in
     let old = c.args.arena.now in
     let new = c.meet_atom_items.new.arena in
     let zs = c.args.zs.now in
@@ -81,7 +81,7 @@ returns-clause-made c =
 pub returns-clause-grown : goal.returns-clause-grown
 returns-clause-grown c =
     let task = c.args.task.now in
-    let index = c.args.task.now.guide.index.now in
+    let index = c.args.task.now.guide.now.index in
     let old = c.args.arena.now in
     let new = c.meet_atom_items.new.arena in
     let zs = c.args.zs.now in
@@ -100,7 +100,7 @@ returns-clause-grown c =
 pub returns-clause-done : goal.returns-clause-done
 returns-clause-done c =
     let task = c.args.task.now in
-    let index = c.args.task.now.guide.index.now in
+    let index = c.args.task.now.guide.now.index in
     let old = c.args.arena.now in
     let new = c.meet_atom_items.new.arena in
     let o = c.meet_atom_items.ensures.kept in

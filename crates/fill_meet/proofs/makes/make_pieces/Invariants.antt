@@ -13,5 +13,5 @@ invariant-loop-k l =
       task : IsTask l.arena l.task;
       made : IsMadeTo l.arena l.task l.task.place l.zs;
       grown : Grows l.initial.zs l.zs;
-      done : ArePiecesDone l.arena l.task.guide.index.now (IsSharedOf l.arena l.task l.zs) l.task.guide.mates.now.lists.numbers.items (record { start = l.fn.begins.start; end = l.k }) l.fn.ends;
+      done : ArePiecesDone l.arena l.task.guide.now.index (IsSharedOf l.arena l.task l.zs) l.task.guide.now.mates.lists.numbers.items (record { start = l.fn.begins.start; end = l.k }) l.fn.ends;
     }

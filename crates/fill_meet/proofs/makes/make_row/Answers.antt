@@ -13,7 +13,7 @@ use Rattle.fill_meet.proofs.makes.make_row.Goals as goal
 pub returns-in-Const-clause-made : goal.returns-in-Const-clause-made
 returns-in-Const-clause-made c =
     let task = c.args.task.now in
-    let index = c.args.task.now.guide.index.now in
+    let index = c.args.task.now.guide.now.index in
     let new = c.make_alike.new.arena in
     let zs = c.make_alike.new.zs in
     let u = c.in-Const.text in
@@ -27,7 +27,7 @@ returns-in-Const-clause-made c =
 pub returns-in-Whole-clause-made : goal.returns-in-Whole-clause-made
 returns-in-Whole-clause-made c =
     let task = c.args.task.now in
-    let index = c.args.task.now.guide.index.now in
+    let index = c.args.task.now.guide.now.index in
     let new = c.make_alike-in-Whole.new.arena in
     let zs = c.make_alike-in-Whole.new.zs in
     let b = c.in-Whole.field-0 in
@@ -40,8 +40,8 @@ returns-in-Whole-clause-made c =
 pub returns-in-Some-told-clause-made : goal.returns-in-Some-told-clause-made
 returns-in-Some-told-clause-made c =
     let task = c.args.task.now in
-    let index = c.args.task.now.guide.index.now in
-    let mates = c.args.task.now.guide.mates.now in
+    let index = c.args.task.now.guide.now.index in
+    let mates = c.args.task.now.guide.now.mates in
     let new = c.make_pieces.new.arena in
     let zs = c.make_pieces.new.zs in
     let b = c.in-Sub.field-0 in

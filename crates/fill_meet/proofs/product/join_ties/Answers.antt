@@ -46,7 +46,7 @@ loop-i-preserved c =
     record {
       kept = extends_on _ _ _ inv.kept o;
       memo = done.memo;
-      guide = guides_stay c.loop-i.arena c.join.new.arena o c.args.guide inv.guide;
+      guide = guides_stay c.loop-i.arena c.join.new.arena o c.args.guide.now inv.guide;
       sets = sets_stay c.loop-i.arena c.join.new.arena o c.args.ties.now inv.sets;
       joined = joined_put c.join.new.arena c.args.live.now (length c.args.live.now) c.args.ties.now c.requires.ties c.loop-i.i c.loop-i.edges
           (joined_stays c.loop-i.arena c.join.new.arena o c.args.live.now c.args.ties.now c.loop-i.i c.loop-i.edges inv.joined) c.index-ties-i.result (here _ _ _ c.loop-i-test.true c.index-ties-i.is) c.join.new.edges done.joined;
