@@ -10,5 +10,5 @@ mod saved;
 
 pub use error::ApplyError;
 pub use laws::saved_programs_are_one;
-pub use record::apply_record;
+pub use record::{applied_record, apply_record};
 pub use saved::{open_switch, open_switch_by};

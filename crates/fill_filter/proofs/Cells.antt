@@ -10,7 +10,7 @@ use Rattle.fill_records.proofs.Texts.{texts_from_no_bad}
 use Rattle.fill_tree.specs.Guard.{SwitchIs}
 use Rattle.fill_tree.specs.Switch.{SwitchTree}
 use Rattle.fill_tree.specs.Value.{IsValue}
-use Rattle.fill_apply.specs.Applied.{answer_field}
+use Rattle.fill_output.specs.Fields.{answer_field}
 use Rattle.fill_sheet.specs.Report.{record_text}
 use Rattle.fill_sheet.specs.Sheet.{row_sheet}
 use Rattle.fill_columns.specs.Fields.{with_field}

@@ -7,7 +7,7 @@ use Rattle.fill_sheet.specs.Report.{record_text}
 use Rattle.fill_sheet.specs.Sheet.{row_sheet}
 use Rattle.fill_tree.specs.Guard.{SwitchIs}
 use Rattle.fill_tree.specs.Value.{IsValue}
-use Rattle.fill_apply.specs.Applied.{answer_field}
+use Rattle.fill_output.specs.Fields.{answer_field}
 use Rattle.fill_columns.specs.Fields.{with_field}
 use Rattle.fill_rule.specs.declared.rule.Names.{Names}
 use Rattle.fill_filter.specs.Loaded.{LoadedData}

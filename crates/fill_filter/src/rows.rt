@@ -4,7 +4,7 @@ ghost use Rattle.csv.specs.Records.{fields_of};
 ghost use Rattle.fill_records.specs.Records.{field_of};
 ghost use Rattle.fill_records.specs.Texts.{IsText, bad_column};
 ghost use Rattle.fill_sheet.specs.Report.{record_text};
-ghost use Rattle.fill_apply.specs.Applied.{answer_field};
+ghost use Rattle.fill_output.specs.Fields.{answer_field};
 ghost use Rattle.fill_columns.specs.Fields.{with_field};
 ghost use Rattle.fill_stream.specs.Filters.{Puts, Tells};
 ghost use Rattle.fill_filter.specs.Filled.{GivesValue};
