@@ -84,7 +84,7 @@ fn second_profile(depth: u8) -> Settings
     }
 }
 
-fn settings(with: With) -> Settings
+pub(crate) fn settings(with: With) -> Settings
     ensures { AreSettings result }
 {
     match with {

@@ -8,6 +8,8 @@ mod best;
 #[cfg(test)]
 mod build;
 #[cfg(test)]
+mod joined;
+#[cfg(test)]
 mod learn;
 #[cfg(test)]
 mod meet;
