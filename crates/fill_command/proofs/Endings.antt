@@ -12,8 +12,8 @@ use Rattle.fill_open.specs.declared.stop.Stop.TheVariants as stop
 use Rattle.fill_open.proofs.Applies.{IsOne}
 use Rattle.fill_open.proofs.Binds.{told_one}
 use Rattle.fill_report.specs.Output.{Writes, WritesPart, WritesRecords}
-use Rattle.fill_report.specs.declared.halt.Halt.{Halt}
-use Rattle.fill_report.specs.declared.halt.Halt.TheVariants as halt
+use Rattle.fill_output.specs.declared.halt.Halt.{Halt}
+use Rattle.fill_output.specs.declared.halt.Halt.TheVariants as halt
 use Rattle.fill_command.specs.Asked.{Asked, IsRefused, Opens, StepsEnd, files_of}
 use Rattle.fill_command.specs.Ending.{IsOfStop, halt_ending, report_ending, status_of}
 use Rattle.fill_command.specs.Output.{WritesAll, WritesFirst}

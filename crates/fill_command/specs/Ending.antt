@@ -8,8 +8,8 @@ use Rattle.fill_open.specs.Lines.{memory_line}
 use Rattle.fill_open.specs.Stops.{stop_line}
 use Rattle.fill_open.specs.declared.stop.Stop.{Stop}
 use Rattle.fill_open.specs.declared.stop.Stop.TheVariants as stop
-use Rattle.fill_report.specs.declared.halt.Halt.{Halt}
-use Rattle.fill_report.specs.declared.halt.Halt.TheVariants as halt
+use Rattle.fill_output.specs.declared.halt.Halt.{Halt}
+use Rattle.fill_output.specs.declared.halt.Halt.TheVariants as halt
 use Rattle.fill_command.specs.declared.ending.Ending.{Ending}
 use Rattle.fill_command.specs.declared.ending.Ending.TheVariants as ending
 

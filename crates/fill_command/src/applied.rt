@@ -9,11 +9,10 @@ ghost use Rattle.fill_sheet.specs.Report.{record_text};
 ghost use Rattle.fill_tree.specs.Switch.{switch_tree};
 ghost use Rattle.fill_command.specs.Output.{WritesPartOfRows, WritesRows};
 
-use fill_apply::apply_record;
-use fill_edge::{Sink, write_all};
+use fill_apply::applied_record;
+use fill_edge::Sink;
 use fill_open::Application;
-use fill_report::Halt;
-use fill_text::List;
+use fill_output::Halt;
 use std::alloc::Global;
 
 /// Writes the records of what the conditional program gives on the rows of the sheet, each when it is made.
@@ -45,10 +44,5 @@ fn write_row<O: Sink>(alloc: Global, a: &Application, row: u32, out: &mut O) -> 
     ensures memory { IsErrOf result Halt.NoMemory → out.new ≡ out.old }
     ensures later { O.faults out.old ≤ O.faults out.new }
 {
-    let mut line = List::new(alloc);
-    apply_record(alloc, &mut line, &a.switch, row, &a.sheet, &a.tables)?;
-    match write_all(out, line.as_slice()) {
-        Ok(()) => Ok(()),
-        Err(_) => Err(Halt::Fault),
-    }
+    applied_record(alloc, &a.switch, row, &a.sheet, &a.tables)?.write(out)
 }

@@ -4,7 +4,7 @@ ghost use Rattle.fill_command.specs.Ending.{IsOfStop, Says, halt_ending, line_of
 
 use fill_edge::{Sink, write_all};
 use fill_open::Stop;
-use fill_report::Halt;
+use fill_output::Halt;
 use std::alloc::{AllocError, Global};
 
 /// How a run ends.

@@ -5,9 +5,8 @@ ghost use Rattle.fill_edge.specs.Outside.{AppendsPart, Rose};
 ghost use Rattle.fill_sheet.specs.Report.{record_text};
 ghost use Rattle.fill_command.specs.Output.{key_record, keys_text};
 
-use fill_edge::{Sink, write_all};
-use fill_report::Halt;
-use fill_sheet::put_record;
+use fill_edge::Sink;
+use fill_output::{Halt, Record};
 use fill_text::{List, NoMemory};
 use std::alloc::Global;
 
@@ -35,33 +34,16 @@ fn write_key<O: Sink>(alloc: Global, key: &[u32], out: &mut O) -> Result<(), Hal
     ensures memory { IsErrOf result Halt.NoMemory → out.new ≡ out.old }
     ensures later { O.faults out.old ≤ O.faults out.new }
 {
-    let fields = key_fields(alloc, key)?;
-    let mut line = List::new(alloc);
-    put_record(alloc, &mut line, &fields)?;
-    match write_all(out, line.as_slice()) {
-        Ok(()) => Ok(()),
-        Err(_) => Err(Halt::Fault),
-    }
+    key_record(alloc, key)?.write(out)
 }
 
-/// The fields of the record of a key.
-fn key_fields(alloc: Global, key: &[u32]) -> Result<List<List<u8>>, NoMemory>
-    ensures { IfOk result (λ fields. fields ≡ key_record key.now) }
+/// The record of a key.
+fn key_record(alloc: Global, key: &[u32]) -> Result<Record, NoMemory>
+    ensures { IfOk result (λ made. made ≡ key_record key.now) }
 {
-    let mut fields = List::new(alloc);
-    fields.push(field(alloc, b"key")?)?;
+    let mut record = Record::of(alloc, b"key")?;
     for column in key {
-        let mut buffer = itoa::Buffer::new();
-        fields.push(field(alloc, buffer.format(*column).as_bytes())?)?;
+        record = record.with_number(*column)?;
     }
-    Ok(fields)
-}
-
-/// A field of these bytes.
-fn field(alloc: Global, bytes: &[u8]) -> Result<List<u8>, NoMemory>
-    ensures { IfOk result (λ made. made ≡ bytes.now) }
-{
-    let mut made = List::new(alloc);
-    made.append(bytes)?;
-    Ok(made)
+    Ok(record)
 }

@@ -9,18 +9,17 @@ use Rattle.fill_tree.specs.Meaning.{program_tree}
 use Rattle.fill_tree.specs.Tree.{Atoms}
 use Rattle.fill_tree.specs.declared.tree.Program.{Program}
 use Rattle.fill_tree.specs.declared.user.Example.{Example}
-use Rattle.fill_script.specs.declared.script.Entry.TheVariants as entry
 use Rattle.fill_space.specs.Best.{AreBestOn}
 use Rattle.fill_space.specs.declared.ground.Ground.{Ground}
 use Rattle.fill_session.specs.Branches.{AreBranches, BranchData, lists_of}
 use Rattle.fill_session.specs.State.{AreShown, IsBranch, Shows}
 use Rattle.fill_session.specs.declared.branch.Branch.{Branch}
-use Rattle.fill_report.specs.Entries.{BestOf, QueryBegins, QueryWrites, told}
+use Rattle.fill_report.specs.Entries.{BestOf, QueryBegins, QueryWrites, refusal, told}
 use Rattle.fill_report.specs.Output.{Leaves, WritesRecords}
 use Rattle.fill_report.specs.Records.{Fields, best_record, best_records, no_branch_record}
-use Rattle.fill_report.specs.Runs.{Written}
 use Rattle.fill_report.specs.Writing.{LeavesFirst, LeavesOne}
-use Rattle.fill_report.specs.declared.halt.Halt.{Halt}
+use Rattle.fill_output.specs.declared.halt.Halt.{Halt}
+use Rattle.fill_report.specs.declared.tasks.Query.TheVariants as query
 use Rattle.fill_report.proofs.Leaving.{leaves_answer, leaves_first, leaves_nothing, one_refused, query_none}
 
 -- the record of a program stands at its place
@@ -85,32 +84,30 @@ module _ (g : Ground) (examples : List Example) (branch k : ℕ) (old new : Opti
   -- the best programs of a branch that there is
   pub best_left : (shown : List Branch) (programs : List Atoms) (r : Result Bool Halt) → AreShown g examples shown → 1 ≤ branch → branch ≤ length shown
       → ((list : List Example) → IsBranch g examples branch list → AreBestOn g list k programs) → LeavesFirst (best_records branch 1 programs) r old new
-      → Leaves (QueryWrites g examples (entry.Best branch k)) (QueryBegins g examples (entry.Best branch k)) r old new 0 0
+      → Leaves (QueryWrites g examples (query.Best branch k)) (QueryBegins g examples (query.Best branch k)) r old new 0 0
   best_left shown programs r are first last best l =
       let records = best_records branch 1 programs in
-      let whole = told g.sheet examples (entry.Best branch k) records in
+      let whole = told records in
       let it = of_shown g examples branch shown are first last in
-      let of : BestOf g examples branch k (nth are.0 branch) whole =
-      subst (λ (o : Option BranchData). BestOf g examples branch k o whole) (sym it.1) (programs, best it.0.examples it.2, refl) in
-      let q : QueryWrites g examples (entry.Best branch k) whole = (are.0, are.1, of) in
-      leaves_first (QueryWrites g examples (entry.Best branch k)) (QueryBegins g examples (entry.Best branch k)) old new 0 0 0 (omega arith)
-      (query_none g examples (entry.Best branch k) tt) records r q (λ n. inr (whole, n, q, refl)) l
+      let of : BestOf g branch k (nth are.0 branch) whole =
+      subst (λ (o : Option BranchData). BestOf g branch k o whole) (sym it.1) (programs, best it.0.examples it.2, refl) in
+      let q : QueryWrites g examples (query.Best branch k) whole = (are.0, are.1, of) in
+      leaves_first (QueryWrites g examples (query.Best branch k)) (QueryBegins g examples (query.Best branch k)) old new 0 0 0 (omega arith)
+      (query_none g examples (query.Best branch k)) records r q (λ n. inr (whole, n, q, refl)) l
 
   -- the refusal where there is no such branch
   pub no_branch_left : (shown : List Branch) (made : Result Fields NoMemory) (r : Result Bool Halt) → AreShown g examples shown → ¬ ((1 ≤ branch) × (branch ≤ length shown))
       → IfOk made (λ m. m ≡ no_branch_record branch) → LeavesOne made true r old new
-      → Leaves (QueryWrites g examples (entry.Best branch k)) (QueryBegins g examples (entry.Best branch k)) r old new 0 0
+      → Leaves (QueryWrites g examples (query.Best branch k)) (QueryBegins g examples (query.Best branch k)) r old new 0 0
   no_branch_left shown made r are none h l =
-      let one : Fields → Written = λ (fields : Fields). record { records = fields ∷ []; refused = 1; term = 0 } in
       let long : length are.0 ≡ length shown = AllZip-long Shows shown are.0 are.2 in
       let missing : nth are.0 branch ≡ None = past are.0 branch (λ there. none (there.0, (let last = there.1 in omega arith))) in
-      let q : (fields : Fields) → fields ≡ no_branch_record branch → QueryWrites g examples (entry.Best branch k) (one fields) =
-      λ fields m. (are.0, are.1, subst (λ (o : Option BranchData). BestOf g examples branch k o (one fields)) (sym missing) (ap one m)) in
-      leaves_answer g examples (entry.Best branch k) made (λ m. m ≡ no_branch_record branch) true 1 r old new tt h q
-      (λ fields m. inr (one fields, 1, q fields m, refl)) (one_refused true refl) l
+      let q : (fields : Fields) → fields ≡ no_branch_record branch → QueryWrites g examples (query.Best branch k) (refusal fields) =
+      λ fields m. (are.0, are.1, subst (λ (o : Option BranchData). BestOf g branch k o (refusal fields)) (sym missing) (ap refusal m)) in
+      leaves_answer g examples (query.Best branch k) made (λ m. m ≡ no_branch_record branch) true 1 r old new h q (λ w b. b) (one_refused true refl) l
 
   -- there was no memory for the programs
-  pub best_lost : new ≡ old → WritesRecords (QueryBegins g examples (entry.Best branch k)) old new 0 0
+  pub best_lost : new ≡ old → WritesRecords (QueryBegins g examples (query.Best branch k)) old new 0 0
   best_lost same =
-      leaves_nothing (QueryWrites g examples (entry.Best branch k)) (QueryBegins g examples (entry.Best branch k)) old new 0 0 0 (omega arith)
-      (query_none g examples (entry.Best branch k) tt) same
+      leaves_nothing (QueryWrites g examples (query.Best branch k)) (QueryBegins g examples (query.Best branch k)) old new 0 0 0 (omega arith)
+      (query_none g examples (query.Best branch k)) same

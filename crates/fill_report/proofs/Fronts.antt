@@ -2,20 +2,26 @@
 use Rattle.std.proofs.Common.{◌≡◌, ◌⊎◌, ℕ, zero, suc, ◌+◌, ◌≤◌, List, [], ◌∷◌, ◌++◌, length, take, Option, None, Some, inl, inr, sym, ap, ◌∙◌, refl, subst, arith}
 use Rattle.std.proofs.Math.Seq.{take-append-add}
 use Rattle.std.specs.List.{AllZip, range_with_len}
+use Rattle.std.specs.Prelude.{codes}
 use Rattle.fill_text.specs.Data.{nth}
 use Rattle.fill_tree.specs.declared.user.Edit.{Edit}
 use Rattle.fill_tree.specs.declared.user.Example.{Example}
 use Rattle.fill_script.specs.declared.script.Entry.{Entry}
-use Rattle.fill_script.specs.declared.script.Entry.TheVariants as entry
 use Rattle.fill_space.specs.declared.ground.Ground.{Ground}
 use Rattle.fill_session.specs.Branches.{BranchData}
+use Rattle.fill_session.specs.Outcome.{term}
 use Rattle.fill_session.specs.Timeline.{Timeline, forgotten}
-use Rattle.fill_report.specs.Entries.{AnswerWrites, BestOf, EditWrites, EntryBegins, EntryWrites, FillBegins, ObjectWrites, QueryFirst, QueryWrites, RedoWrites, UndoWrites, entry_term, told}
+use Rattle.fill_report.specs.Entries.{BestOf, EditWrites, EntryBegins, EntryWrites, FillBegins, MoveWrites, QueryBegins, QueryWrites, RowWrites, TaskBegins, TaskWrites, edit_told, told}
 use Rattle.fill_report.specs.Laws.{IsFrontOf}
+use Rattle.fill_report.specs.Objections.{IsObjectRecord}
+use Rattle.fill_report.specs.Records.{Fields}
 use Rattle.fill_report.specs.Report.{BeginsReport, EntriesBegin, EntriesWrite, IsReport, additions, start}
 use Rattle.fill_report.specs.Rows.{IsRowRecord}
 use Rattle.fill_report.specs.Runs.{Begins, FirstOf, Runs, Written, first_of, followed, nothing}
-use Rattle.fill_report.proofs.Moved.{moved_free, redo_writes_one, undo_writes_one}
+use Rattle.fill_report.specs.Tasks.{TaskData, ask, change, go, task_in}
+use Rattle.fill_report.specs.declared.tasks.Query.{Query}
+use Rattle.fill_report.specs.declared.tasks.Query.TheVariants as query
+use Rattle.fill_report.proofs.Moved.{move_writes_one}
 use Rattle.fill_report.proofs.Unique.{ReportParts, edit_is_one, entries_are_one, entry_is_one, query_is_one, report_opens, row_record_is_one}
 
 -- first items of a list are first items of a longer one
@@ -81,70 +87,58 @@ kind_front Kind none w v one empty steps (inr h) =
 
 module _ (g : Ground) where
   -- whatever an edit writes, it may take the steps of the edit
-  edit_steps : (t : Timeline) (e : Edit) (w : Written) (next : Timeline) → EditWrites g t e w next → w.term ≡ entry_term g.sheet t.examples (entry.Edit e)
+  edit_steps : (t : Timeline) (e : Edit) (w : Written) (next : Timeline) → EditWrites g t e w next → w.term ≡ term g.sheet t.examples e
   edit_steps t e w next (inl h) = ap (λ (x : Written). x.term) h.1
   edit_steps t e w next (inr h) = ap (λ (x : Written). x.term) h.2
 
-  answer_steps : (examples : List Example) (row : ℕ) (w : Written) → AnswerWrites g examples row w → w.term ≡ 0
-  answer_steps examples row w (inl h) = ap (λ (x : Written). x.term) h.1.2
-  answer_steps examples row w (inr h) = ap (λ (x : Written). x.term) h.1
+  row_steps : (word : List ℕ) (row : ℕ) (Kind : Fields → Type 0) (w : Written) → RowWrites g.sheet word row Kind w → w.term ≡ 0
+  row_steps word row Kind w (inl h) = ap (λ (x : Written). x.term) h.3
+  row_steps word row Kind w (inr h) = ap (λ (x : Written). x.term) h.1
 
-  object_steps : (examples : List Example) (row : ℕ) (w : Written) → ObjectWrites g examples row w → w.term ≡ 0
-  object_steps examples row w (inl h) = ap (λ (x : Written). x.term) h.1.2
-  object_steps examples row w (inr h) = ap (λ (x : Written). x.term) h.1
-
-  best_of_steps : (examples : List Example) (branch k : ℕ) (o : Option BranchData) (w : Written) → BestOf g examples branch k o w → w.term ≡ 0
-  best_of_steps examples branch k None w h = ap (λ (x : Written). x.term) h
-  best_of_steps examples branch k (Some b) w h = ap (λ (x : Written). x.term) h.2
+  best_of_steps : (branch k : ℕ) (o : Option BranchData) (w : Written) → BestOf g branch k o w → w.term ≡ 0
+  best_of_steps branch k None w h = ap (λ (x : Written). x.term) h
+  best_of_steps branch k (Some b) w h = ap (λ (x : Written). x.term) h.2
 
   -- a question takes none
-  query_steps : (examples : List Example) (e : Entry) (w : Written) → QueryWrites g examples e w → w.term ≡ 0
-  query_steps examples (entry.Edit e) w h = absurd h
-  query_steps examples entry.Undo w h = absurd h
-  query_steps examples entry.Redo w h = absurd h
-  query_steps examples entry.Programs w h = ap (λ (x : Written). x.term) h.2
-  query_steps examples entry.Switch w h = ap (λ (x : Written). x.term) h.2
-  query_steps examples entry.Fill w h = ap (λ (x : Written). x.term) h.2
-  query_steps examples entry.Count w h = ap (λ (x : Written). x.term) h.2
-  query_steps examples (entry.Answer row) w h = answer_steps examples row w h
-  query_steps examples (entry.Object row) w h = object_steps examples row w h
-  query_steps examples (entry.Best branch k) w h = best_of_steps examples branch k (nth h.0 branch) w h.2
+  query_steps : (examples : List Example) (q : Query) (w : Written) → QueryWrites g examples q w → w.term ≡ 0
+  query_steps examples query.Programs w h = ap (λ (x : Written). x.term) h.2
+  query_steps examples query.Switch w h = ap (λ (x : Written). x.term) h.2
+  query_steps examples query.Fill w h = ap (λ (x : Written). x.term) h.2
+  query_steps examples query.Count w h = ap (λ (x : Written). x.term) h.2
+  query_steps examples (query.Answer row) w h = row_steps (codes "answer") row (IsRowRecord g examples row) w h
+  query_steps examples (query.Object row) w h = row_steps (codes "object") row (IsObjectRecord g examples row) w h
+  query_steps examples (query.Best branch k) w h = best_of_steps branch k (nth h.0 branch) w h.2
 
-  query_front : (examples : List Example) (e : Entry) (w v : Written) → QueryFirst g examples e w → QueryWrites g examples e v → IsFrontOf v w
-  query_front examples e w v h k =
-      kind_front (QueryWrites g examples e) nothing w v (λ x q. query_is_one g examples e x v q k) refl (sym (query_steps examples e v k)) h
+  first_front : (examples : List Example) (q : Query) (w v : Written) → FirstOf (QueryWrites g examples q) nothing w → QueryWrites g examples q v → IsFrontOf v w
+  first_front examples q w v h k =
+      kind_front (QueryWrites g examples q) nothing w v (λ x r. query_is_one g examples q x v r k) refl (sym (query_steps examples q v k)) h
 
-  fill_front : (examples : List Example) (w v : Written) → FillBegins g examples w → QueryWrites g examples entry.Fill v → IsFrontOf v w
+  fill_front : (examples : List Example) (w v : Written) → FillBegins g examples w → QueryWrites g examples query.Fill v → IsFrontOf v w
   fill_front examples w v h k =
-      let all : v ≡ told g.sheet examples entry.Fill k.0 = k.2 in
+      let all : v ≡ told k.0 = k.2 in
       let rows : h.1 ≡ take h.0 k.0 = zip_front (IsRowRecord g examples) (row_record_is_one g examples) 1 h.0 (length g.sheet.rows) h.1 k.0 h.2 h.3 k.1 in
       let ours : w.term ≡ 0 = ap (λ (x : Written). x.term) h.4 in
       (h.0, ap (λ (x : Written). x.records) h.4 ∙ rows ∙ ap (λ (x : Written). take h.0 x.records) (sym all), (omega arith))
 
-  edit_front : (t : Timeline) (e : Edit) (w v : Written) (next : Timeline) → EntryBegins g t (entry.Edit e) w → EditWrites g t e v next → IsFrontOf v w
-  edit_front t e w v next h k =
-      kind_front (λ x. (to : Timeline) × EditWrites g t e x to) (told g.sheet t.examples (entry.Edit e) []) w v (λ x p. (edit_is_one g t e x v p.0 next p.1 k).0) refl
+  query_front : (examples : List Example) (q : Query) (w v : Written) → QueryBegins g examples q w → QueryWrites g examples q v → IsFrontOf v w
+  query_front examples query.Programs w v h k = first_front examples query.Programs w v h k
+  query_front examples query.Switch w v h k = first_front examples query.Switch w v h k
+  query_front examples query.Fill w v h k = fill_front examples w v h k
+  query_front examples query.Count w v h k = first_front examples query.Count w v h k
+  query_front examples (query.Answer row) w v h k = first_front examples (query.Answer row) w v h k
+  query_front examples (query.Object row) w v h k = first_front examples (query.Object row) w v h k
+  query_front examples (query.Best branch n) w v h k = first_front examples (query.Best branch n) w v h k
+
+  task_front : (t : Timeline) (task : TaskData) (w v : Written) (next : Timeline) → TaskBegins g t task w → TaskWrites g t task v next → IsFrontOf v w
+  task_front t (change e) w v next h k =
+      kind_front (λ x. (to : Timeline) × EditWrites g t e x to) (edit_told g.sheet t.examples e nothing) w v (λ x p. (edit_is_one g t e x v p.0 next p.1 k).0) refl
       (sym (edit_steps t e v next k)) h
-
-  undo_front : (t : Timeline) (w v : Written) (next : Timeline) → EntryBegins g t entry.Undo w → UndoWrites t v next → IsFrontOf v w
-  undo_front t w v next h k =
-      kind_front (λ x. (to : Timeline) × UndoWrites t x to) nothing w v (λ x p. (undo_writes_one t x v p.0 next p.1 k).0) refl (sym (moved_free _ _ k.0 v k.2)) h
-
-  redo_front : (t : Timeline) (w v : Written) (next : Timeline) → EntryBegins g t entry.Redo w → RedoWrites t v next → IsFrontOf v w
-  redo_front t w v next h k =
-      kind_front (λ x. (to : Timeline) × RedoWrites t x to) nothing w v (λ x p. (redo_writes_one t x v p.0 next p.1 k).0) refl (sym (moved_free _ _ k.0 v k.2)) h
+  task_front t (go way) w v next h k =
+      kind_front (λ x. (to : Timeline) × MoveWrites way t x to) nothing w v (λ x p. (move_writes_one way t x v p.0 next p.1 k).0) refl (sym (ap (λ (x : Written). x.term) k.2)) h
+  task_front t (ask q) w v next h k = query_front t.examples q w v h k.0
 
   begun_is_front : (t : Timeline) (e : Entry) (w v : Written) (next : Timeline) → EntryBegins g t e w → EntryWrites g t e v next → IsFrontOf v w
-  begun_is_front t (entry.Edit e) w v next h k = edit_front t e w v next h k
-  begun_is_front t entry.Undo w v next h k = undo_front t w v next h k
-  begun_is_front t entry.Redo w v next h k = redo_front t w v next h k
-  begun_is_front t entry.Programs w v next h k = query_front t.examples entry.Programs w v h k.0
-  begun_is_front t entry.Switch w v next h k = query_front t.examples entry.Switch w v h k.0
-  begun_is_front t entry.Fill w v next h k = fill_front t.examples w v h k.0
-  begun_is_front t entry.Count w v next h k = query_front t.examples entry.Count w v h k.0
-  begun_is_front t (entry.Answer row) w v next h k = query_front t.examples (entry.Answer row) w v h k.0
-  begun_is_front t (entry.Object row) w v next h k = query_front t.examples (entry.Object row) w v h k.0
-  begun_is_front t (entry.Best branch n) w v next h k = query_front t.examples (entry.Best branch n) w v h k.0
+  begun_is_front t e w v next h k = task_front t (task_in e) w v next h k
 
   entries_front : (t : Timeline) (es : List Entry) (w v : Written) (next : Timeline) → EntriesBegin g t es w → EntriesWrite g t es v next → IsFrontOf v w
   entries_front t es w v next h k = begins_front (EntryWrites g) (EntryBegins g) (entry_is_one g) begun_is_front t es w v next h k

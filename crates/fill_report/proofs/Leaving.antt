@@ -1,5 +1,5 @@
 -- What writings of records leave.
-use Rattle.std.proofs.Common.{◌≡◌, ◌↔◌, ℕ, ◌+◌, ◌<◌, ◌≤◌, List, [], ◌∷◌, ◌++◌, length, take, Bool, true, false, Option, Result, Ok, Err, IfOk, inl, sym, ◌∙◌, refl, subst, arith}
+use Rattle.std.proofs.Common.{◌≡◌, ◌↔◌, ℕ, ◌+◌, ◌<◌, ◌≤◌, List, [], ◌∷◌, ◌++◌, length, take, Bool, true, false, Option, Result, Ok, Err, IfOk, inl, inr, sym, ◌∙◌, refl, subst, arith}
 use Rattle.std.proofs.lemmas.Bool.{false≢true}
 use Rattle.std.specs.Prelude.{IsTrue, OnOk}
 use Rattle.std.specs.Io.KnownBytes.{Appends}
@@ -8,18 +8,17 @@ use Rattle.fill_edge.specs.Outside.{AppendsPart}
 use Rattle.fill_sheet.specs.Report.{record_text}
 use Rattle.fill_text.specs.declared.error.NoMemory.{NoMemory}
 use Rattle.fill_tree.specs.declared.user.Example.{Example}
-use Rattle.fill_script.specs.declared.script.Entry.{Entry}
-use Rattle.fill_script.specs.declared.script.Entry.TheVariants as entry
 use Rattle.fill_space.specs.declared.ground.Ground.{Ground}
-use Rattle.fill_session.specs.Timeline.{Timeline}
-use Rattle.fill_report.specs.Entries.{EntryBegins, FillBegins, IsQuery, QueryBegins, QueryWrites, told}
+use Rattle.fill_report.specs.Entries.{FillBegins, QueryBegins, QueryWrites, told}
 use Rattle.fill_report.specs.Output.{Leaves, WritesRecords, report_text}
 use Rattle.fill_report.specs.Records.{Fields}
 use Rattle.fill_report.specs.Rows.{AreRowRecords, IsRowRecord}
-use Rattle.fill_report.specs.Runs.{Written, nothing}
+use Rattle.fill_report.specs.Runs.{FirstOf, Written, nothing}
 use Rattle.fill_report.specs.Writing.{LeavesFirst, LeavesOne}
-use Rattle.fill_report.specs.declared.halt.Halt.{Halt}
-use Rattle.fill_report.specs.declared.halt.Halt.TheVariants as halt
+use Rattle.fill_output.specs.declared.halt.Halt.{Halt}
+use Rattle.fill_output.specs.declared.halt.Halt.TheVariants as halt
+use Rattle.fill_report.specs.declared.tasks.Query.{Query}
+use Rattle.fill_report.specs.declared.tasks.Query.TheVariants as query
 use Rattle.fill_report.proofs.Bytes.{appends_more, appends_one, part_more, part_one}
 use Rattle.fill_report.proofs.Numbered.{rows_more}
 
@@ -77,44 +76,30 @@ module _ (W B : Written → Type 0) (old new : Option (List ℕ)) (before now te
   leaves_first records (Err halt.NoMemory) w b l = (record { records = take l.0 records; refused = 0; term = term }, b l.0, l.1, le)
 
 -- a question of which nothing was written
-pub query_none : (g : Ground) (examples : List Example) (e : Entry) → IsQuery e → QueryBegins g examples e nothing
-query_none g examples (entry.Edit e) q = absurd q
-query_none g examples entry.Undo q = absurd q
-query_none g examples entry.Redo q = absurd q
-query_none g examples entry.Programs q = inl refl
-query_none g examples entry.Switch q = inl refl
-query_none g examples entry.Fill q = (0, [], omega arith, tt, refl)
-query_none g examples entry.Count q = inl refl
-query_none g examples (entry.Answer row) q = inl refl
-query_none g examples (entry.Object row) q = inl refl
-query_none g examples (entry.Best branch k) q = inl refl
-
--- an entry of which nothing was written
-pub none_begun : (g : Ground) (t : Timeline) (e : Entry) → EntryBegins g t e (told g.sheet t.examples e [])
-none_begun g t (entry.Edit e) = inl refl
-none_begun g t entry.Undo = inl refl
-none_begun g t entry.Redo = inl refl
-none_begun g t entry.Programs = inl refl
-none_begun g t entry.Switch = inl refl
-none_begun g t entry.Fill = (0, [], omega arith, tt, refl)
-none_begun g t entry.Count = inl refl
-none_begun g t (entry.Answer row) = inl refl
-none_begun g t (entry.Object row) = inl refl
-none_begun g t (entry.Best branch k) = inl refl
+pub query_none : (g : Ground) (examples : List Example) (q : Query) → QueryBegins g examples q nothing
+query_none g examples query.Programs = inl refl
+query_none g examples query.Switch = inl refl
+query_none g examples query.Fill = (0, [], omega arith, tt, refl)
+query_none g examples query.Count = inl refl
+query_none g examples (query.Answer row) = inl refl
+query_none g examples (query.Object row) = inl refl
+query_none g examples (query.Best branch k) = inl refl
 
 pub made_so : {E : Type 0} (made : Result Fields E) (P : Fields → Type 0) → IfOk made P → (fields : Fields) → made ≡ Ok fields → P fields
 made_so {E} made P h fields e = subst (λ (r : Result Fields E). IfOk r P) e h
 
--- one question's record was to be written
-pub leaves_answer : (g : Ground) (examples : List Example) (e : Entry) (made : Result Fields NoMemory) (P : Fields → Type 0) (flag : Bool) (count : ℕ) (r : Result Bool Halt)
-    (old new : Option (List ℕ)) → IsQuery e → IfOk made P
-    → ((fields : Fields) → P fields → QueryWrites g examples e (record { records = fields ∷ []; refused = count; term = 0 }))
-    → ((fields : Fields) → P fields → QueryBegins g examples e (record { records = fields ∷ []; refused = 0; term = 0 }))
-    → IsTrue flag ↔ (1 ≤ count) → LeavesOne made flag r old new → Leaves (QueryWrites g examples e) (QueryBegins g examples e) r old new 0 0
-leaves_answer g examples e made P flag count r old new query h w b f l =
-    leaves_one (QueryWrites g examples e) (QueryBegins g examples e) old new 0 0 0 (omega arith)
-    (query_none g examples e query) made flag count r
-    (λ fields m. w fields (made_so made P h fields m)) (λ fields m. b fields (made_so made P h fields m)) f l
+-- the one record of a question was to be written
+pub leaves_answer : (g : Ground) (examples : List Example) (q : Query) (made : Result Fields NoMemory) (P : Fields → Type 0) (flag : Bool) (count : ℕ) (r : Result Bool Halt)
+    (old new : Option (List ℕ)) → IfOk made P
+    → ((fields : Fields) → P fields → QueryWrites g examples q (record { records = fields ∷ []; refused = count; term = 0 }))
+    → ((w : Written) → FirstOf (QueryWrites g examples q) nothing w → QueryBegins g examples q w)
+    → IsTrue flag ↔ (1 ≤ count) → LeavesOne made flag r old new → Leaves (QueryWrites g examples q) (QueryBegins g examples q) r old new 0 0
+leaves_answer g examples q made P flag count r old new h w first f l =
+    let one : Fields → Written = λ (fields : Fields). record { records = fields ∷ []; refused = count; term = 0 } in
+    leaves_one (QueryWrites g examples q) (QueryBegins g examples q) old new 0 0 0 (omega arith)
+    (query_none g examples q) made flag count r
+    (λ fields m. w fields (made_so made P h fields m))
+    (λ fields m. first (record { records = fields ∷ []; refused = 0; term = 0 }) (inr (one fields, 1, w fields (made_so made P h fields m), refl))) f l
 
 -- the first records of a list were written, and then one more
 pub first_next : (records : List Fields) (i : ℕ) (x : Fields) (made : Result Fields NoMemory) (flag : Bool) (old mid new : Option (List ℕ)) → IfOk made (λ m. m ≡ x)
@@ -159,31 +144,31 @@ module _ (g : Ground) (examples : List Example) (old mid new : Option (List ℕ)
 
   -- the next row was not written whole
   pub rows_stop : (n : ℕ) (made : Result Fields NoMemory) (why : Halt) → n < length g.sheet.rows → IfOk made (IsRowRecord g examples (n + 1)) → RowsWritten g examples n old mid
-      → LeavesOne made false (Err why) mid new → Leaves (QueryWrites g examples entry.Fill) (FillBegins g examples) (Err why) old new 0 0
+      → LeavesOne made false (Err why) mid new → Leaves (QueryWrites g examples query.Fill) (FillBegins g examples) (Err why) old new 0 0
   rows_stop n (Ok fields) halt.Fault lt h w l = (
-    told g.sheet examples entry.Fill (w.0 ++ fields ∷ []),
+    told (w.0 ++ fields ∷ []),
     (n + 1, w.0 ++ fields ∷ [], omega arith, rows_more (IsRowRecord g examples) n w.0 fields w.1 h, refl),
     part_more old mid new w.0 fields w.2 l,
     omega arith,
   )
   rows_stop n (Ok fields) halt.NoMemory lt h w l = (
-    told g.sheet examples entry.Fill w.0,
+    told w.0,
     (n, w.0, omega arith, w.1, refl),
     subst (λ (o : Option (List ℕ)). Appends old o (report_text w.0)) (sym l) w.2,
     omega arith,
   )
   rows_stop n (Err e) halt.Fault lt h w l = absurd l
   rows_stop n (Err e) halt.NoMemory lt h w l = (
-    told g.sheet examples entry.Fill w.0,
+    told w.0,
     (n, w.0, omega arith, w.1, refl),
     subst (λ (o : Option (List ℕ)). Appends old o (report_text w.0)) (sym l) w.2,
     omega arith,
   )
 
   -- all rows were written
-  pub rows_all : (n : ℕ) → n ≡ length g.sheet.rows → RowsWritten g examples n old new → Leaves (QueryWrites g examples entry.Fill) (FillBegins g examples) (Ok false) old new 0 0
+  pub rows_all : (n : ℕ) → n ≡ length g.sheet.rows → RowsWritten g examples n old new → Leaves (QueryWrites g examples query.Fill) (FillBegins g examples) (Ok false) old new 0 0
   rows_all n e w = (
-    told g.sheet examples entry.Fill w.0,
+    told w.0,
     (w.0, subst (λ (k : ℕ). AreRowRecords g examples k w.0) e w.1, refl),
     w.2,
     none_refused false refl,

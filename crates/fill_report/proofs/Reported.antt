@@ -5,19 +5,20 @@ use Rattle.std.specs.Prelude.{◌||◌}
 use Rattle.std.proofs.KnownBytes.{Appends-nil}
 use Rattle.fill_text.specs.Data.{SheetData}
 use Rattle.fill_sheet.specs.Sheet.{given_at}
+use Rattle.fill_tree.specs.declared.user.Edit.{Edit}
 use Rattle.fill_tree.specs.declared.user.Edit.TheVariants.{Add}
 use Rattle.fill_script.specs.declared.script.Entry.{Entry}
 use Rattle.fill_script.specs.declared.script.Entry.TheVariants as entry
 use Rattle.fill_space.specs.declared.ground.Ground.{Ground}
 use Rattle.fill_session.specs.Timeline.{Timeline, forgotten}
-use Rattle.fill_report.specs.Entries.{EntryBegins, EntryWrites, told}
+use Rattle.fill_report.specs.Entries.{EntryBegins, EntryWrites, edit_told}
 use Rattle.fill_report.specs.Output.{Leaves, Writes, WritesPart, WritesRecords}
 use Rattle.fill_report.specs.Report.{BeginsReport, EntriesBegin, EntriesWrite, IsReport, addition, addition_at, additions, start}
-use Rattle.fill_report.specs.Runs.{Written, followed}
-use Rattle.fill_report.specs.declared.halt.Halt.{Halt}
-use Rattle.fill_report.specs.declared.halt.Halt.TheVariants as halt
+use Rattle.fill_report.specs.Runs.{Written, followed, nothing}
+use Rattle.fill_output.specs.declared.halt.Halt.{Halt}
+use Rattle.fill_output.specs.declared.halt.Halt.TheVariants as halt
 use Rattle.fill_report.proofs.Bytes.{appends_then, part_then}
-use Rattle.fill_report.proofs.Leaving.{leaves_map, none_begun, stops_map}
+use Rattle.fill_report.proofs.Leaving.{leaves_map, stops_map}
 use Rattle.fill_report.proofs.Numbered.{additions_before, additions_more}
 use Rattle.fill_report.proofs.Walk.{Wrote, either, runs_one, stops_before, stops_then, wrote_then}
 
@@ -52,12 +53,12 @@ add_none sheet row e = ap (addition row) (sym e)
 pub add_some : (sheet : SheetData) (row : ℕ) (text : List ℕ) → Some text ≡ given_at sheet row → addition_at sheet row ≡ entry.Edit (Add row text) ∷ []
 add_some sheet row text e = ap (addition row) (sym e)
 
--- an entry that could not be made since memory ran out
-pub lost_single : (g : Ground) (first : Timeline) (e : Entry) (es : List Entry) (old : Option (List ℕ)) (steps : ℕ) → es ≡ e ∷ []
+-- an edit that could not be made since memory ran out
+pub lost_single : (g : Ground) (first : Timeline) (e : Edit) (es : List Entry) (old : Option (List ℕ)) (steps : ℕ) → es ≡ entry.Edit e ∷ []
     → WritesRecords (EntriesBegin g first es) old old steps steps
 lost_single g first e es old steps is = (
-  told g.sheet first.examples e [],
-  subst (λ (x : List Entry). EntriesBegin g first x (told g.sheet first.examples e [])) (sym is) (inl (none_begun g first e)),
+  edit_told g.sheet first.examples e nothing,
+  subst (λ (x : List Entry). EntriesBegin g first x (edit_told g.sheet first.examples e nothing)) (sym is) (inl (inl refl)),
   Appends-nil old,
   omega arith,
 )

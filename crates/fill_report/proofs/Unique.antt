@@ -3,12 +3,12 @@ use Rattle.std.proofs.Common.{◌≡◌, ℕ, List, [], ◌∷◌, length, Optio
 use Rattle.std.proofs.lemmas.Bool.{false≢true}
 use Rattle.std.proofs.lemmas.Option.{none-some, same_Some}
 use Rattle.std.specs.List.{AllZip, range_with_len}
+use Rattle.std.specs.Prelude.{codes}
 use Rattle.fill_text.specs.Data.{nth}
 use Rattle.fill_tree.specs.Tree.{Atoms}
 use Rattle.fill_tree.specs.declared.user.Edit.{Edit}
 use Rattle.fill_tree.specs.declared.user.Example.{Example}
 use Rattle.fill_script.specs.declared.script.Entry.{Entry}
-use Rattle.fill_script.specs.declared.script.Entry.TheVariants as entry
 use Rattle.fill_space.specs.declared.ground.Ground.{Ground}
 use Rattle.fill_space.proofs.Best.{best_are_one}
 use Rattle.fill_session.specs.Answers.{switch_of}
@@ -20,14 +20,17 @@ use Rattle.fill_session.proofs.Objecting.{objector_is_one}
 use Rattle.fill_session.proofs.OneAnswer.{answer_is_one}
 use Rattle.fill_session.proofs.OneFate.{branches_are_one}
 use Rattle.fill_session.proofs.OneOutcome.{outcome_is_one}
-use Rattle.fill_report.specs.Entries.{AnswerWrites, BestOf, BestWrites, EditWrites, EntryWrites, ObjectWrites, QueryWrites, refused, told}
+use Rattle.fill_report.specs.Entries.{BestOf, BestWrites, EditWrites, EntryWrites, QueryWrites, RowWrites, TaskWrites, edit_told, refusal, told}
 use Rattle.fill_report.specs.Objections.{IsObjectRecord, object_record}
 use Rattle.fill_report.specs.Records.{Fields, best_records, branch_records, refused_record, switch_record}
 use Rattle.fill_report.specs.Report.{EntriesWrite, IsReport, additions, start}
 use Rattle.fill_report.specs.Rows.{IsRowRecord, IsRowState, count_record, row_record, row_state}
 use Rattle.fill_report.specs.Runs.{Runs, Written, followed}
+use Rattle.fill_report.specs.Tasks.{TaskData, ask, change, go, task_in}
 use Rattle.fill_report.specs.declared.rows.RowState.{RowState}
-use Rattle.fill_report.proofs.Moved.{redo_writes_one, undo_writes_one}
+use Rattle.fill_report.specs.declared.tasks.Query.{Query}
+use Rattle.fill_report.specs.declared.tasks.Query.TheVariants as query
+use Rattle.fill_report.proofs.Moved.{move_writes_one}
 
 zip_is_one : {B : Type 0} (R : ℕ → B → Type 0) → ((n : ℕ) (x y : B) → R n x → R n y → x ≡ y) → (ns : List ℕ) (xs ys : List B) → AllZip R ns xs → AllZip R ns ys → xs ≡ ys
 zip_is_one R one [] [] [] h k = refl
@@ -68,65 +71,50 @@ module _ (g : Ground) where
   edit_is_one t e w v a b (inr h) (inl k) = absurd (none-some h.0 (sym (outcome_is_one g t.examples e (Some h.0) None h.1 k.0)))
   edit_is_one t e w v a b (inr h) (inr k) =
       let same : h.0 ≡ k.0 = same_Some h.0 k.0 (outcome_is_one g t.examples e (Some h.0) (Some k.0) h.1 k.1) in
-      (h.2 ∙ ap (λ (r : EditError). refused g.sheet t.examples (entry.Edit e) (refused_record e r)) same ∙ sym k.2, h.3 ∙ sym k.3)
-
-  row_is_one : (examples : List Example) (row : ℕ) (w v : Written) → AnswerWrites g examples row w → AnswerWrites g examples row v → w ≡ v
-  row_is_one examples row w v (inl h) (inl k) =
-      h.1.2 ∙ ap (λ (x : Fields). told g.sheet examples (entry.Answer row) (x ∷ [])) (row_record_is_one examples row h.1.0 k.1.0 h.1.1 k.1.1) ∙ sym k.1.2
-  row_is_one examples row w v (inl h) (inr k) = absurd (false≢true (sym k.0 ∙ h.0))
-  row_is_one examples row w v (inr h) (inl k) = absurd (false≢true (sym h.0 ∙ k.0))
-  row_is_one examples row w v (inr h) (inr k) = h.1 ∙ sym k.1
+      (h.2 ∙ ap (λ (r : EditError). edit_told g.sheet t.examples e (refusal (refused_record e r))) same ∙ sym k.2, h.3 ∙ sym k.3)
 
   object_record_is_one : (examples : List Example) (row : ℕ) (x y : Fields) → IsObjectRecord g examples row x → IsObjectRecord g examples row y → x ≡ y
   object_record_is_one examples row x y h k = h.2 ∙ ap (object_record row) (objector_is_one g examples row h.0 k.0 h.1 k.1) ∙ sym k.2
 
-  object_is_one : (examples : List Example) (row : ℕ) (w v : Written) → ObjectWrites g examples row w → ObjectWrites g examples row v → w ≡ v
-  object_is_one examples row w v (inl h) (inl k) =
-      h.1.2 ∙ ap (λ (x : Fields). told g.sheet examples (entry.Object row) (x ∷ [])) (object_record_is_one examples row h.1.0 k.1.0 h.1.1 k.1.1) ∙ sym k.1.2
-  object_is_one examples row w v (inl h) (inr k) = absurd (false≢true (sym k.0 ∙ h.0))
-  object_is_one examples row w v (inr h) (inl k) = absurd (false≢true (sym h.0 ∙ k.0))
-  object_is_one examples row w v (inr h) (inr k) = h.1 ∙ sym k.1
+  row_is_one : (word : List ℕ) (row : ℕ) (Kind : Fields → Type 0) → ((x y : Fields) → Kind x → Kind y → x ≡ y) → (w v : Written) → RowWrites g.sheet word row Kind w → RowWrites g.sheet word row Kind v → w ≡ v
+  row_is_one word row Kind one w v (inl h) (inl k) = h.3 ∙ ap (λ (x : Fields). told (x ∷ [])) (one h.1 k.1 h.2 k.2) ∙ sym k.3
+  row_is_one word row Kind one w v (inl h) (inr k) = absurd (false≢true (sym k.0 ∙ h.0))
+  row_is_one word row Kind one w v (inr h) (inl k) = absurd (false≢true (sym h.0 ∙ k.0))
+  row_is_one word row Kind one w v (inr h) (inr k) = h.1 ∙ sym k.1
 
-  best_of_is_one : (examples : List Example) (branch k : ℕ) (o : Option BranchData) (w v : Written) → BestOf g examples branch k o w → BestOf g examples branch k o v → w ≡ v
-  best_of_is_one examples branch k None w v h x = h ∙ sym x
-  best_of_is_one examples branch k (Some b) w v h x =
-      h.2 ∙ ap (λ (ps : List Atoms). told g.sheet examples (entry.Best branch k) (best_records branch 1 ps)) (best_are_one g b.examples k h.0 x.0 h.1 x.1) ∙ sym x.2
+  best_of_is_one : (branch k : ℕ) (o : Option BranchData) (w v : Written) → BestOf g branch k o w → BestOf g branch k o v → w ≡ v
+  best_of_is_one branch k None w v h x = h ∙ sym x
+  best_of_is_one branch k (Some b) w v h x =
+      h.2 ∙ ap (λ (ps : List Atoms). told (best_records branch 1 ps)) (best_are_one g b.examples k h.0 x.0 h.1 x.1) ∙ sym x.2
 
   best_is_one : (examples : List Example) (branch k : ℕ) (w v : Written) → BestWrites g examples branch k w → BestWrites g examples branch k v → w ≡ v
   best_is_one examples branch k w v h x =
       let same : h.0 ≡ x.0 = branches_are_one g examples h.0 x.0 h.1 x.1 in
-      best_of_is_one examples branch k (nth x.0 branch) w v (subst (λ (bs : List BranchData). BestOf g examples branch k (nth bs branch) w) same h.2) x.2
+      best_of_is_one branch k (nth x.0 branch) w v (subst (λ (bs : List BranchData). BestOf g branch k (nth bs branch) w) same h.2) x.2
 
-  pub query_is_one : (examples : List Example) (e : Entry) (w v : Written) → QueryWrites g examples e w → QueryWrites g examples e v → w ≡ v
-  query_is_one examples (entry.Edit e) w v h k = absurd h
-  query_is_one examples entry.Undo w v h k = absurd h
-  query_is_one examples entry.Redo w v h k = absurd h
-  query_is_one examples entry.Programs w v h k =
+  pub query_is_one : (examples : List Example) (q : Query) (w v : Written) → QueryWrites g examples q w → QueryWrites g examples q v → w ≡ v
+  query_is_one examples query.Programs w v h k =
       let same : h.1.0 ≡ k.1.0 = branches_are_one g examples h.1.0 k.1.0 h.1.1 k.1.1 in
-      h.2 ∙ ap (told g.sheet examples entry.Programs) (h.1.2 ∙ ap (branch_records 1) same ∙ sym k.1.2) ∙ sym k.2
-  query_is_one examples entry.Switch w v h k =
+      h.2 ∙ ap told (h.1.2 ∙ ap (branch_records 1) same ∙ sym k.1.2) ∙ sym k.2
+  query_is_one examples query.Switch w v h k =
       let same : h.1.0 ≡ k.1.0 = branches_are_one g examples h.1.0 k.1.0 h.1.1 k.1.1 in
-      h.2 ∙ ap (λ (x : Fields). told g.sheet examples entry.Switch (x ∷ [])) (h.1.2 ∙ ap (λ (b : List BranchData). switch_record (switch_of b)) same ∙ sym k.1.2) ∙ sym k.2
-  query_is_one examples entry.Fill w v h k =
-      h.2 ∙ ap (told g.sheet examples entry.Fill) (zip_is_one (IsRowRecord g examples) (row_record_is_one examples) (range_with_len 1 (length g.sheet.rows)) h.0 k.0 h.1 k.1) ∙ sym k.2
-  query_is_one examples entry.Count w v h k =
+      h.2 ∙ ap (λ (x : Fields). told (x ∷ [])) (h.1.2 ∙ ap (λ (b : List BranchData). switch_record (switch_of b)) same ∙ sym k.1.2) ∙ sym k.2
+  query_is_one examples query.Fill w v h k =
+      h.2 ∙ ap told (zip_is_one (IsRowRecord g examples) (row_record_is_one examples) (range_with_len 1 (length g.sheet.rows)) h.0 k.0 h.1 k.1) ∙ sym k.2
+  query_is_one examples query.Count w v h k =
       let same : h.1.0 ≡ k.1.0 = zip_is_one (IsRowState g examples) (row_state_is_one examples) (range_with_len 1 (length g.sheet.rows)) h.1.0 k.1.0 h.1.1 k.1.1 in
-      h.2 ∙ ap (λ (x : Fields). told g.sheet examples entry.Count (x ∷ [])) (h.1.2 ∙ ap count_record same ∙ sym k.1.2) ∙ sym k.2
-  query_is_one examples (entry.Answer row) w v h k = row_is_one examples row w v h k
-  query_is_one examples (entry.Object row) w v h k = object_is_one examples row w v h k
-  query_is_one examples (entry.Best branch k) w v h x = best_is_one examples branch k w v h x
+      h.2 ∙ ap (λ (x : Fields). told (x ∷ [])) (h.1.2 ∙ ap count_record same ∙ sym k.1.2) ∙ sym k.2
+  query_is_one examples (query.Answer row) w v h k = row_is_one (codes "answer") row (IsRowRecord g examples row) (row_record_is_one examples row) w v h k
+  query_is_one examples (query.Object row) w v h k = row_is_one (codes "object") row (IsObjectRecord g examples row) (object_record_is_one examples row) w v h k
+  query_is_one examples (query.Best branch k) w v h x = best_is_one examples branch k w v h x
+
+  task_is_one : (t : Timeline) (task : TaskData) (w v : Written) (a b : Timeline) → TaskWrites g t task w a → TaskWrites g t task v b → (w ≡ v) × (a ≡ b)
+  task_is_one t (change e) w v a b h k = edit_is_one t e w v a b h k
+  task_is_one t (go to) w v a b h k = move_writes_one to t w v a b h k
+  task_is_one t (ask q) w v a b h k = (query_is_one t.examples q w v h.0 k.0, h.1 ∙ sym k.1)
 
   pub entry_is_one : (t : Timeline) (e : Entry) (w v : Written) (a b : Timeline) → EntryWrites g t e w a → EntryWrites g t e v b → (w ≡ v) × (a ≡ b)
-  entry_is_one t (entry.Edit e) w v a b h k = edit_is_one t e w v a b h k
-  entry_is_one t entry.Undo w v a b h k = undo_writes_one t w v a b h k
-  entry_is_one t entry.Redo w v a b h k = redo_writes_one t w v a b h k
-  entry_is_one t entry.Programs w v a b h k = (query_is_one t.examples entry.Programs w v h.0 k.0, h.1 ∙ sym k.1)
-  entry_is_one t entry.Switch w v a b h k = (query_is_one t.examples entry.Switch w v h.0 k.0, h.1 ∙ sym k.1)
-  entry_is_one t entry.Fill w v a b h k = (query_is_one t.examples entry.Fill w v h.0 k.0, h.1 ∙ sym k.1)
-  entry_is_one t entry.Count w v a b h k = (query_is_one t.examples entry.Count w v h.0 k.0, h.1 ∙ sym k.1)
-  entry_is_one t (entry.Answer row) w v a b h k = (query_is_one t.examples (entry.Answer row) w v h.0 k.0, h.1 ∙ sym k.1)
-  entry_is_one t (entry.Object row) w v a b h k = (query_is_one t.examples (entry.Object row) w v h.0 k.0, h.1 ∙ sym k.1)
-  entry_is_one t (entry.Best branch k) w v a b h x = (query_is_one t.examples (entry.Best branch k) w v h.0 x.0, h.1 ∙ sym x.1)
+  entry_is_one t e w v a b h k = task_is_one t (task_in e) w v a b h k
 
   -- what entries write from the same state on, and what they leave
   pub entries_are_one : (t : Timeline) (es : List Entry) (w v : Written) (a b : Timeline) → EntriesWrite g t es w a → EntriesWrite g t es v b → (w ≡ v) × (a ≡ b)

@@ -11,8 +11,8 @@ use Rattle.fill_report.specs.Entries.{EntryBegins, EntryWrites}
 use Rattle.fill_report.specs.Output.{Leaves, Writes}
 use Rattle.fill_report.specs.Report.{EntriesBegin, EntriesWrite}
 use Rattle.fill_report.specs.Runs.{Begins, Runs, Written, followed, nothing}
-use Rattle.fill_report.specs.declared.halt.Halt.{Halt}
-use Rattle.fill_report.specs.declared.halt.Halt.TheVariants as halt
+use Rattle.fill_output.specs.declared.halt.Halt.{Halt}
+use Rattle.fill_output.specs.declared.halt.Halt.TheVariants as halt
 use Rattle.fill_report.proofs.Bytes.{appends_then, part_then}
 use Rattle.fill_report.proofs.Leaving.{none_refused}
 

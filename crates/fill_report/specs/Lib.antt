@@ -7,4 +7,5 @@ pub mod Records
 pub mod Report
 pub mod Rows
 pub mod Runs
+pub mod Tasks
 pub mod Writing

@@ -1,18 +1,12 @@
 -- What is told of the objection on a row.
 use Rattle.std.specs.Prelude.{◌≡◌, ℕ, List, [], ◌∷◌, Option, None, Some, codes}
 use Rattle.std.specs.Fmt.{decimal}
+use Rattle.fill_output.specs.Fields.{Fields, answer_field, value_word}
 use Rattle.fill_tree.specs.declared.user.Example.{Example}
 use Rattle.fill_print.specs.Notation.{program_text}
 use Rattle.fill_space.specs.Objector.{ObjectionTree}
 use Rattle.fill_space.specs.declared.ground.Ground.{Ground}
 use Rattle.fill_session.specs.Objector.{ObjectorIs}
-use Rattle.fill_report.specs.Records.{Fields}
-use Rattle.fill_report.specs.Rows.{answer_field}
-
--- whether the objector has a value
-abbrev pub value_word : Option (List ℕ) → List ℕ
-value_word None = codes "none"
-value_word (Some text) = codes "some"
 
 -- the record of the objection on a row: the program and its value, if there is one
 abbrev pub object_record : ℕ → Option ObjectionTree → Fields

@@ -6,8 +6,8 @@ use Rattle.fill_edge.specs.Outside.{AppendsPart}
 use Rattle.fill_sheet.specs.Report.{record_text}
 use Rattle.fill_report.specs.Records.{Fields}
 use Rattle.fill_report.specs.Runs.{Written}
-use Rattle.fill_report.specs.declared.halt.Halt.{Halt}
-use Rattle.fill_report.specs.declared.halt.Halt.TheVariants as halt
+use Rattle.fill_output.specs.declared.halt.Halt.{Halt}
+use Rattle.fill_output.specs.declared.halt.Halt.TheVariants as halt
 
 -- the bytes of records
 abbrev pub report_text : List Fields → List ℕ

@@ -1,6 +1,7 @@
 -- The fields of records.
 use Rattle.std.specs.Prelude.{ℕ, ◌+◌, List, [], ◌∷◌, ◌++◌, Option, None, Some, codes}
 use Rattle.std.specs.Fmt.{decimal}
+pub use Rattle.fill_output.specs.Fields.{Fields}
 use Rattle.fill_tree.specs.Meaning.{program_tree}
 use Rattle.fill_tree.specs.Switch.{SwitchTree}
 use Rattle.fill_tree.specs.Tree.{Atoms}
@@ -17,10 +18,8 @@ use Rattle.fill_session.specs.declared.error.EditError.{EditError}
 use Rattle.fill_session.specs.declared.error.EditError.TheVariants as error
 use Rattle.fill_session.specs.declared.error.Part.{Part}
 use Rattle.fill_session.specs.declared.error.Part.TheVariants as part
-
--- a record: its fields as bytes
-abbrev pub Fields : Type 0
-Fields = List (List ℕ)
+use Rattle.fill_report.specs.declared.tasks.Way.{Way}
+use Rattle.fill_report.specs.declared.tasks.Way.TheVariants as way
 
 -- the word of what an edit does
 abbrev pub kind_word : Kind → List ℕ
@@ -65,13 +64,20 @@ ok_record e = codes "ok" ∷ done_fields (done_of e)
 abbrev pub refused_record : Edit → EditError → Fields
 refused_record e reason = codes "refused" ∷ (done_fields (done_of e) ++ reason_text reason ∷ [])
 
--- the record of an edit that was undone or redone, after the word for which
-abbrev pub move_record : List ℕ → Done → Fields
-move_record word done = codes "ok" ∷ word ∷ done_fields done
+-- the word for a way along the history
+abbrev pub way_word : Way → List ℕ
+way_word way.Back = codes "undo"
+way_word way.Forth = codes "redo"
 
--- the record of an undoing or a redoing that there is not, with the reason
-abbrev pub no_move_record : List ℕ → List ℕ → Fields
-no_move_record word reason = codes "refused" ∷ word ∷ reason ∷ []
+-- why there is nothing on the way
+abbrev pub way_reason : Way → List ℕ
+way_reason way.Back = codes "nothing to undo"
+way_reason way.Forth = codes "nothing to redo"
+
+-- the record of an edit that was undone or redone, and the refusal where there was none
+abbrev pub move_record : Way → Option Done → Fields
+move_record to None = codes "refused" ∷ way_word to ∷ way_reason to ∷ []
+move_record to (Some done) = codes "ok" ∷ way_word to ∷ done_fields done
 
 -- the guard of a branch; the last one has none
 abbrev pub guard_field : Option Guard → List ℕ

@@ -1,14 +1,15 @@
 -- What is told of rows: their answers and states.
-use Rattle.std.specs.Prelude.{◌≡◌, ℕ, List, [], ◌∷◌, count_by, Bool, true, false, Option, None, Some, codes, encode_utf8_all}
+use Rattle.std.specs.Prelude.{◌≡◌, ℕ, List, [], ◌∷◌, count_by, Bool, true, false, Option, None, Some, codes}
 use Rattle.std.specs.Fmt.{decimal}
 use Rattle.std.specs.List.{AllZip, range_with_len}
+use Rattle.fill_output.specs.Fields.{Fields}
+pub use Rattle.fill_output.specs.Fields.{answer_field}
 use Rattle.fill_tree.specs.declared.user.Example.{Example}
 use Rattle.fill_space.specs.declared.ground.Ground.{Ground}
 use Rattle.fill_session.specs.Answers.{AnswerIs}
 use Rattle.fill_session.specs.declared.answer.Answer.{Answer}
 use Rattle.fill_session.specs.declared.answer.State.{State}
 use Rattle.fill_session.specs.declared.answer.State.TheVariants as known
-use Rattle.fill_report.specs.Records.{Fields}
 use Rattle.fill_report.specs.declared.rows.RowState.{RowState}
 use Rattle.fill_report.specs.declared.rows.RowState.TheVariants as state
 
@@ -30,11 +31,6 @@ state_name state.Sure = codes "sure"
 state_name state.Doubt = codes "doubt"
 state_name state.Nothing = codes "none"
 state_name state.NothingInDoubt = codes "none doubt"
-
--- the text of an answer in UTF-8, empty where it has none
-abbrev pub answer_field : Option (List ℕ) → List ℕ
-answer_field None = []
-answer_field (Some text) = encode_utf8_all text
 
 -- the record of a row with this answer
 abbrev pub row_record : ℕ → Answer → Fields

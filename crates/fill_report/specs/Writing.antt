@@ -6,8 +6,8 @@ use Rattle.fill_sheet.specs.Report.{record_text}
 use Rattle.fill_text.specs.declared.error.NoMemory.{NoMemory}
 use Rattle.fill_report.specs.Output.{report_text}
 use Rattle.fill_report.specs.Records.{Fields}
-use Rattle.fill_report.specs.declared.halt.Halt.{Halt}
-use Rattle.fill_report.specs.declared.halt.Halt.TheVariants as halt
+use Rattle.fill_output.specs.declared.halt.Halt.{Halt}
+use Rattle.fill_output.specs.declared.halt.Halt.TheVariants as halt
 
 -- what the writing of one record leaves, if it was made
 abbrev pub LeavesOne : Result Fields NoMemory → Bool → Result Bool Halt → Option (List ℕ) → Option (List ℕ) → Type 0

@@ -2,16 +2,15 @@
 ghost use Rattle.std.specs.Prelude.{◌≡◌, ◌↔◌, ◌≤◌, length, map, IfOk, IsErrOf, IsTrue};
 ghost use Rattle.fill_edge.specs.Outside.{Rose};
 ghost use Rattle.fill_tree.specs.Meaning.{program_tree};
-ghost use Rattle.fill_script.specs.declared.script.Entry.TheVariants as entry;
 ghost use Rattle.fill_report.specs.Entries.{QueryBegins, QueryWrites};
 ghost use Rattle.fill_report.specs.Output.{Leaves};
 ghost use Rattle.fill_report.specs.Records.{best_record, best_records, no_branch_record};
 ghost use Rattle.fill_report.specs.Writing.{LeavesFirst};
+ghost use Rattle.fill_report.specs.declared.tasks.Query.TheVariants as query;
 
-use crate::Halt;
 use crate::queries::write_made;
-use crate::records::Record;
 use fill_edge::Sink;
+use fill_output::{Halt, Record};
 use fill_print::print_program;
 use fill_session::{Branch, Session};
 use fill_text::NoMemory;
@@ -87,8 +86,8 @@ pub(crate) fn write_best<O: Sink>(
 ) -> Result<bool, Halt>
     requires some { 1 ≤ k }
     requires few { k ≤ 20 }
-    ensures leaves { Leaves (QueryWrites session.now.spaces.ground session.now.examples (entry.Best branch k))
-        (QueryBegins session.now.spaces.ground session.now.examples (entry.Best branch k)) result (O.written out.old) (O.written out.new) 0 0 }
+    ensures leaves { Leaves (QueryWrites session.now.spaces.ground session.now.examples (query.Best branch k))
+        (QueryBegins session.now.spaces.ground session.now.examples (query.Best branch k)) result (O.written out.old) (O.written out.new) 0 0 }
     ensures fault { IsErrOf result Halt.Fault → Rose (O.faults out.old) (O.faults out.new) }
     ensures later { O.faults out.old ≤ O.faults out.new }
 {

@@ -3,7 +3,7 @@ ghost use Rattle.std.specs.Prelude.{◌≡◌, ◌∷◌, ◌++◌, IfOk, string
 ghost use Rattle.fill_report.specs.Records.{done_fields, kind_word, length_text, ok_record, reason_text, refused_record};
 ghost use Rattle.fill_undo.specs.Done.{done_of};
 
-use crate::records::Record;
+use fill_output::Record;
 use fill_session::{EditError, Part};
 use fill_text::NoMemory;
 use fill_tree::Edit;

@@ -2,20 +2,21 @@
 ghost use Rattle.std.specs.Prelude.{◌≡◌, ◌↔◌, ◌≤◌, IsErrOf, IsTrue};
 ghost use Rattle.fill_edge.specs.Outside.{Rose};
 ghost use Rattle.fill_script.specs.Entries.{IsEntry};
-ghost use Rattle.fill_script.specs.declared.script.Entry.TheVariants as entry;
 ghost use Rattle.fill_session.specs.Timeline.{timeline};
 ghost use Rattle.fill_report.specs.Counts.{AreKnown};
-ghost use Rattle.fill_report.specs.Entries.{EntryBegins, EntryWrites, IsQuery, QueryBegins, QueryWrites};
+ghost use Rattle.fill_report.specs.Entries.{EditWrites, EntryBegins, EntryWrites, QueryBegins, QueryWrites, TaskBegins};
 ghost use Rattle.fill_report.specs.Output.{Leaves};
+ghost use Rattle.fill_report.specs.Tasks.{AsksSome, change};
 
-use crate::Halt;
 use crate::best::write_best;
 use crate::edits::{ok_record, refused_record};
-use crate::moves::{write_redo, write_undo};
+use crate::moves::write_move;
 use crate::objector::write_object;
 use crate::queries::{switch_record, write_answer, write_branches, write_made, write_rows};
 use crate::rows::{Counts, count_record};
+use crate::tasks::{Query, Task, task_of};
 use fill_edge::{Ledger, Sink, Steps};
+use fill_output::Halt;
 use fill_script::Entry;
 use fill_session::{EditError, Session};
 use fill_tree::Edit;
@@ -40,8 +41,8 @@ pub(crate) fn write_edit<O: Sink, L: Ledger>(
     steps: &mut Steps<L>,
 ) -> Result<bool, Halt>
     ensures ground { session.new.spaces.ground ≡ session.old.spaces.ground }
-    ensures leaves { Leaves (λ w. EntryWrites session.old.spaces.ground (timeline session.old) (entry.Edit edit.now) w (timeline session.new))
-        (EntryBegins session.old.spaces.ground (timeline session.old) (entry.Edit edit.now)) result (O.written out.old) (O.written out.new) steps.old steps.new }
+    ensures leaves { Leaves (λ w. EditWrites session.old.spaces.ground (timeline session.old) edit.now w (timeline session.new))
+        (TaskBegins session.old.spaces.ground (timeline session.old) (change edit.now)) result (O.written out.old) (O.written out.new) steps.old steps.new }
     ensures fault { IsErrOf result Halt.Fault → Rose (O.faults out.old) (O.faults out.new) }
     ensures later { O.faults out.old ≤ O.faults out.new }
 {
@@ -56,32 +57,30 @@ pub(crate) fn write_edit<O: Sink, L: Ledger>(
     }
 }
 
-/// Writes the answer to a question. An edit, an undoing and a redoing ask nothing.
+/// Writes the answer to a question.
 fn write_query<O: Sink>(
     alloc: Global,
     session: &Session,
-    entry: &Entry,
+    query: Query,
     known: &mut Option<Counts>,
     out: &mut O,
 ) -> Result<bool, Halt>
-    requires query { IsQuery entry.now }
-    requires proper { IsEntry entry.now }
+    requires some { AsksSome query }
     requires known { AreKnown session.now.spaces.ground session.now.examples known.old }
     ensures known { AreKnown session.now.spaces.ground session.now.examples known.new }
-    ensures leaves { Leaves (QueryWrites session.now.spaces.ground session.now.examples entry.now)
-        (QueryBegins session.now.spaces.ground session.now.examples entry.now) result (O.written out.old) (O.written out.new) 0 0 }
+    ensures leaves { Leaves (QueryWrites session.now.spaces.ground session.now.examples query)
+        (QueryBegins session.now.spaces.ground session.now.examples query) result (O.written out.old) (O.written out.new) 0 0 }
     ensures fault { IsErrOf result Halt.Fault → Rose (O.faults out.old) (O.faults out.new) }
     ensures later { O.faults out.old ≤ O.faults out.new }
 {
-    match entry {
-        Entry::Edit(_) | Entry::Undo | Entry::Redo => unreachable!(),
-        Entry::Programs => write_branches(alloc, session.branches(), out),
-        Entry::Switch => write_made(switch_record(alloc, session), false, out),
-        Entry::Fill => write_rows(alloc, session, known, out),
-        Entry::Count => write_made(count_record(alloc, session, known), false, out),
-        Entry::Answer { row } => write_answer(alloc, session, *row, out),
-        Entry::Object { row } => write_object(alloc, session, *row, out),
-        Entry::Best { branch, k } => write_best(alloc, session, *branch, *k, out),
+    match query {
+        Query::Programs => write_branches(alloc, session.branches(), out),
+        Query::Switch => write_made(switch_record(alloc, session), false, out),
+        Query::Fill => write_rows(alloc, session, known, out),
+        Query::Count => write_made(count_record(alloc, session, known), false, out),
+        Query::Answer { row } => write_answer(alloc, session, row, out),
+        Query::Object { row } => write_object(alloc, session, row, out),
+        Query::Best { branch, k } => write_best(alloc, session, branch, k, out),
     }
 }
 
@@ -105,19 +104,15 @@ pub(crate) fn write_entry<O: Sink, L: Ledger>(
     ensures fault { IsErrOf result Halt.Fault → Rose (O.faults out.old) (O.faults out.new) }
     ensures later { O.faults out.old ≤ O.faults out.new }
 {
-    match entry {
-        Entry::Edit(edit) => {
+    match task_of(entry) {
+        Task::Change(edit) => {
             *known = None;
             write_edit(alloc, session, edit, out, steps)
         }
-        Entry::Undo => {
+        Task::Go(way) => {
             *known = None;
-            write_undo(alloc, session, out)
+            write_move(alloc, session, way, out)
         }
-        Entry::Redo => {
-            *known = None;
-            write_redo(alloc, session, out)
-        }
-        _ => write_query(alloc, session, entry, known, out),
+        Task::Ask(query) => write_query(alloc, session, query, known, out),
     }
 }

@@ -7,18 +7,17 @@
 mod best;
 mod edits;
 mod entries;
-mod halt;
 pub mod laws;
 mod moves;
 mod objector;
 mod queries;
-mod records;
 mod report;
 mod rows;
+mod tasks;
 
-pub use halt::Halt;
+pub use fill_output::{Halt, answer_field};
 pub use report::write_report;
-pub use rows::{RowState, answer_field};
+pub use rows::RowState;
 
 #[cfg(test)]
 mod tests;

@@ -1,32 +1,20 @@
 //! What a question for an objection writes.
 ghost use Rattle.std.specs.Prelude.{◌≡◌, ◌≤◌, IfOk, IsErrOf, None, Some, length};
 ghost use Rattle.fill_edge.specs.Outside.{Rose};
-ghost use Rattle.fill_script.specs.declared.script.Entry.TheVariants as entry;
 ghost use Rattle.fill_space.specs.Objector.{objection_tree};
 ghost use Rattle.fill_report.specs.Entries.{QueryBegins, QueryWrites};
-ghost use Rattle.fill_report.specs.Objections.{IsObjectRecord, object_record, value_word};
+ghost use Rattle.fill_report.specs.Objections.{IsObjectRecord, object_record};
 ghost use Rattle.fill_report.specs.Output.{Leaves};
+ghost use Rattle.fill_report.specs.declared.tasks.Query.TheVariants as query;
 
-use crate::Halt;
 use crate::queries::{has_row, no_row_record, write_made};
-use crate::records::Record;
-use crate::rows::answer_field;
 use fill_edge::Sink;
 use fill_object::Objection;
+use fill_output::{Halt, Record, answer_field, value_word};
 use fill_print::print_program;
 use fill_session::Session;
-use fill_text::{NoMemory, Text};
+use fill_text::NoMemory;
 use std::alloc::Global;
-
-/// Whether an objector has a value.
-fn value_word(text: &Option<Text>) -> &'static [u8]
-    ensures { result.now ≡ value_word text.now }
-{
-    match text {
-        Some(_) => b"some",
-        None => b"none",
-    }
-}
 
 /// The record of an objection on a row.
 fn objection_record(alloc: Global, row: u32, objection: &Objection) -> Result<Record, NoMemory>
@@ -72,8 +60,8 @@ pub(crate) fn write_object<O: Sink>(
     row: u32,
     out: &mut O,
 ) -> Result<bool, Halt>
-    ensures leaves { Leaves (QueryWrites session.now.spaces.ground session.now.examples (entry.Object row))
-        (QueryBegins session.now.spaces.ground session.now.examples (entry.Object row)) result (O.written out.old) (O.written out.new) 0 0 }
+    ensures leaves { Leaves (QueryWrites session.now.spaces.ground session.now.examples (query.Object row))
+        (QueryBegins session.now.spaces.ground session.now.examples (query.Object row)) result (O.written out.old) (O.written out.new) 0 0 }
     ensures fault { IsErrOf result Halt.Fault → Rose (O.faults out.old) (O.faults out.new) }
     ensures later { O.faults out.old ≤ O.faults out.new }
 {

@@ -2,18 +2,17 @@
 ghost use Rattle.std.specs.Prelude.{◌≡◌, ◌≤◌, length, IfOk, IsErrOf, option_map};
 ghost use Rattle.fill_edge.specs.Outside.{Rose};
 ghost use Rattle.fill_tree.specs.Switch.{switch_tree};
-ghost use Rattle.fill_script.specs.declared.script.Entry.TheVariants as entry;
 ghost use Rattle.fill_session.specs.Outcome.{is_row};
 ghost use Rattle.fill_report.specs.Counts.{AreKnown};
 ghost use Rattle.fill_report.specs.Entries.{FillBegins, IsSwitchRecord, QueryBegins, QueryWrites};
 ghost use Rattle.fill_report.specs.Output.{Leaves};
 ghost use Rattle.fill_report.specs.Records.{guard_field, no_row_record, shown_record, shown_records, switch_field};
 ghost use Rattle.fill_report.specs.Writing.{LeavesFirst, LeavesOne};
+ghost use Rattle.fill_report.specs.declared.tasks.Query.TheVariants as query;
 
-use crate::Halt;
-use crate::records::Record;
 use crate::rows::{Counts, counted_record, row_record};
 use fill_edge::Sink;
+use fill_output::{Halt, Record};
 use fill_print::{print_guard, print_program, print_switch};
 use fill_session::{Branch, Session, Shapes};
 use fill_sheet::Sheet;
@@ -115,7 +114,7 @@ pub(crate) fn write_rows<O: Sink>(
 ) -> Result<bool, Halt>
     requires { AreKnown session.now.spaces.ground session.now.examples known.old }
     ensures known { AreKnown session.now.spaces.ground session.now.examples known.new }
-    ensures leaves { Leaves (QueryWrites session.now.spaces.ground session.now.examples entry.Fill) (FillBegins session.now.spaces.ground session.now.examples)
+    ensures leaves { Leaves (QueryWrites session.now.spaces.ground session.now.examples query.Fill) (FillBegins session.now.spaces.ground session.now.examples)
         result (O.written out.old) (O.written out.new) 0 0 }
     ensures fault { IsErrOf result Halt.Fault → Rose (O.faults out.old) (O.faults out.new) }
     ensures later { O.faults out.old ≤ O.faults out.new }
@@ -161,8 +160,8 @@ pub(crate) fn write_answer<O: Sink>(
     row: u32,
     out: &mut O,
 ) -> Result<bool, Halt>
-    ensures leaves { Leaves (QueryWrites session.now.spaces.ground session.now.examples (entry.Answer row))
-        (QueryBegins session.now.spaces.ground session.now.examples (entry.Answer row)) result (O.written out.old) (O.written out.new) 0 0 }
+    ensures leaves { Leaves (QueryWrites session.now.spaces.ground session.now.examples (query.Answer row))
+        (QueryBegins session.now.spaces.ground session.now.examples (query.Answer row)) result (O.written out.old) (O.written out.new) 0 0 }
     ensures fault { IsErrOf result Halt.Fault → Rose (O.faults out.old) (O.faults out.new) }
     ensures later { O.faults out.old ≤ O.faults out.new }
 {

@@ -6,9 +6,9 @@ ghost use Rattle.fill_session.specs.Timeline.{timeline};
 ghost use Rattle.fill_report.specs.Output.{Leaves};
 ghost use Rattle.fill_report.specs.Report.{EntriesBegin, EntriesWrite, Reports, ReportsPart, ReportsRecords, addition_at, additions, start};
 
-use crate::Halt;
 use crate::entries::{write_edit, write_entry};
 use fill_edge::{Ledger, Sink, Steps};
+use fill_output::Halt;
 use fill_script::Entry;
 use fill_session::Session;
 use fill_text::NoMemory;

@@ -4,12 +4,12 @@ ghost use Rattle.fill_doubt.specs.Shapes.{ShapesStand};
 ghost use Rattle.fill_session.specs.Answers.{AnswerIs};
 ghost use Rattle.fill_report.specs.Counts.{AreCounts, AreKnown, CountRows, IsWithin};
 ghost use Rattle.fill_report.specs.Entries.{IsCountRecord};
-ghost use Rattle.fill_report.specs.Rows.{IsRowRecord, answer_field, row_record, row_state, state_name};
+ghost use Rattle.fill_report.specs.Rows.{IsRowRecord, row_record, row_state, state_name};
 ghost use Rattle.fill_report.specs.declared.rows.RowState.{RowState};
 
-use crate::records::Record;
+use fill_output::{Record, answer_field};
 use fill_session::{Answer, Session, Shapes, State};
-use fill_text::{List, NoMemory, Text};
+use fill_text::NoMemory;
 use std::alloc::Global;
 
 /// What is told of a row.
@@ -57,17 +57,6 @@ impl RowState {
             RowState::NothingInDoubt => b"none doubt",
         }
     }
-}
-
-/// The text of an answer in UTF-8.
-pub fn answer_field(alloc: Global, text: &Option<Text>) -> Result<List<u8>, NoMemory>
-    ensures { IfOk result (λ made. made ≡ answer_field text.now) }
-{
-    let mut made = List::new(alloc);
-    if let Some(text) = text {
-        text.push_utf8(&mut made)?;
-    }
-    Ok(made)
 }
 
 /// The record of a row with an answer.

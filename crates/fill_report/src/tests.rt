@@ -2,8 +2,8 @@
 use crate::best::no_branch_record;
 use crate::edits::{ok_record, reason_text, refused_record};
 use crate::queries::no_row_record;
-use crate::records::Record;
 use fill_edge::MemorySink;
+use fill_output::Record;
 use fill_session::{EditError, Part};
 use fill_text::{NoMemory, Text};
 use fill_tree::Edit;

@@ -32,5 +32,5 @@ returns-in-Err-clause-leaves g c =
     let s = c.args.session.now in
     let row = c.args.row in
     let given : Some c.in-Some.text.now ≡ given_at s.spaces.ground.sheet row = given_on c.sheet.result.now s.spaces.ground.sheet row (Some c.in-Some.text.now) c.sheet.ensures c.in-Some.ensures in
-    lost_single s.spaces.ground (timeline s) (entry.Edit (Add row c.in-Some.text.now)) (addition_at s.spaces.ground.sheet row) (g.O.Sink.written c.args.out.now) c.args.steps.now
+    lost_single s.spaces.ground (timeline s) (Add row c.in-Some.text.now) (addition_at s.spaces.ground.sheet row) (g.O.Sink.written c.args.out.now) c.args.steps.now
     (add_some s.spaces.ground.sheet row c.in-Some.text.now given)
