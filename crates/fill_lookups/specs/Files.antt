@@ -3,9 +3,12 @@ use Rattle.std.specs.Prelude.{ℕ, List, [], ◌∷◌, length, if◌then◌else
 use Rattle.fill_open.specs.Opened.{Held, Opened, Opening, Unread, Refused, Passed}
 use Rattle.fill_lookups.specs.Lines.{long_line}
 
--- how many bytes a table may have, and a sheet: 16 MiB and 1 GiB
-abbrev pub most_of_table most_of_sheet : ℕ
+-- how many bytes a table may have: 16 MiB
+abbrev pub most_of_table : ℕ
 most_of_table = 16777216
+
+-- how many bytes a sheet may have: 1 GiB
+abbrev pub most_of_sheet : ℕ
 most_of_sheet = 1073741824
 
 -- the bytes of a file that is there and has at most these bytes
