@@ -9,4 +9,4 @@ mod replies;
 mod say;
 
 pub use dialogue::{Topic, ask};
-pub use reasons::{clash_of, refused_text};
+pub use reasons::refused_text;

@@ -1,12 +1,10 @@
-//! Why a given text is not learned from, and which example it clashes with. No contract says these texts, nor what is found.
-ghost use Rattle.std.specs.Prelude.{◌≡◌, ◌≤◌, length, true};
+//! Why a given text is not learned from. No contract says these texts.
 ghost use Rattle.fill_ask.specs.Told.{Grew};
 
 use crate::say::say;
 use fill_edge::Sink;
-use fill_filled::Refused;
+use fill_filled::{Refused, clash_of};
 use fill_session::{EditError, Part, Session};
-use fill_sheet::Sheet;
 use std::alloc::{AllocError, Global};
 
 /// Tells why a given text is not learned from, if one is not, as far as there is memory for it.
@@ -25,38 +23,6 @@ pub(crate) fn tell_refusal<E: Sink>(
     if let Ok(text) = refused_text(alloc, above, cell, clash_of(session, cell.row)) {
         say(err, text.as_bytes());
     }
-}
-
-/// The row of the first example that reads the same cells as this row, and 0 where there is none.
-pub fn clash_of(session: &Session, row: u32) -> u32 {
-    for example in session.examples() {
-        if is_pair(session.sheet(), row, example.row)
-            && reads_same(session.sheet(), row, example.row)
-        {
-            return example.row;
-        }
-    }
-    0
-}
-
-/// Whether these are two rows of the sheet.
-fn is_pair(sheet: &Sheet, row: u32, other: u32) -> bool
-    ensures { result ≡ true → (1 ≤ row) × (row ≤ length sheet.now.rows) × (1 ≤ other) × (other ≤ length sheet.now.rows) }
-{
-    row >= 1 && row <= sheet.rows() && other >= 1 && other <= sheet.rows() && row != other
-}
-
-/// Whether two rows have the same cells to read.
-fn reads_same(sheet: &Sheet, row: u32, other: u32) -> bool
-    requires first { (1 ≤ row) × (row ≤ length sheet.now.rows) }
-    requires second { (1 ≤ other) × (other ≤ length sheet.now.rows) }
-{
-    for column in sheet.inputs() {
-        if !sheet.cell(row, *column).same(sheet.cell(other, *column)) {
-            return false;
-        }
-    }
-    true
 }
 
 /// Why a given text is not learned from, which clashes with the example of a row, or with none where that is 0. Rows are numbered

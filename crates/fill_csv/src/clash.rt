@@ -1,6 +1,5 @@
 //! Which example a given text clashes with that is not learned from. No contract says what is found.
-use fill_ask::clash_of;
-use fill_filled::Refused;
+use fill_filled::{Refused, clash_of};
 use fill_session::Session;
 use fill_text::NoMemory;
 use std::alloc::Global;

@@ -7,7 +7,7 @@ use fill_text::Text;
 use fill_tree::Example;
 
 /// The text that is typed for a row, where there is one.
-pub(crate) fn typed_at(typed: &[Example], row: u32) -> Option<&Text>
+pub fn typed_at(typed: &[Example], row: u32) -> Option<&Text>
     ensures { option_copied result ≡ typed_at typed.now row }
 {
     for example in typed {

@@ -1,6 +1,7 @@
 //! Sheets with one of their columns filled: what is learned from it, and what is written of each row.
 #![tactic(auto)]
 
+mod clash;
 mod form;
 mod given;
 mod learning;
@@ -8,8 +9,10 @@ mod rows;
 mod summary;
 mod writing;
 
+pub use clash::clash_of;
 pub use form::Form;
+pub use given::typed_at;
 pub use learning::{Refused, learn};
-pub use rows::head_fields;
+pub use rows::{cell_state, filled_fields, head_fields};
 pub use summary::{Counts, Summary};
 pub use writing::{Filling, write_filled};

@@ -61,7 +61,7 @@ fn with_name(
 }
 
 /// The state of the cell of a row that gives a text or none, with this answer.
-pub(crate) fn cell_state(given: Option<&Text>, answer: &Answer) -> RowState
+pub fn cell_state(given: Option<&Text>, answer: &Answer) -> RowState
     ensures { result ≡ cell_state (option_copied given.entry) answer.now }
 {
     match given {
@@ -81,7 +81,7 @@ fn given_by<'a>(typed: Option<&'a Text>, cell: Option<&'a Text>) -> Option<&'a T
 }
 
 /// The fields of a row with its answer and its state: a text may be typed for it, and its cell may give one.
-pub(crate) fn filled_fields(
+pub fn filled_fields(
     alloc: Global,
     form: &Form,
     typed: Option<&Text>,

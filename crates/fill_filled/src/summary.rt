@@ -20,7 +20,7 @@ impl Summary {
     };
 
     /// Tells of one more row.
-    pub(crate) fn add(&mut self, row: u32, state: RowState)
+    pub fn add(&mut self, row: u32, state: RowState)
         ensures { self.new.unsure ≡ (self.old.unsure || is_unsure state) }
     {
         self.counts.add(row, state);

@@ -16,7 +16,7 @@ use Rattle.fill_local.proofs.Answering.{branches_to}
 use Rattle.fill_local.proofs.Fates.{ninth_row_to, without_guard_to, without_program_to}
 use Rattle.fill_local.proofs.Outcomes.{reason_same, with_same}
 use Rattle.fill_local.proofs.Paired.{ArePaired, SaySame, SaysSame}
-use Rattle.fill_local.proofs.Renumbering.{Numbered, contains_more, paired, say_numbered}
+use Rattle.fill_local.proofs.Renumbering.{Numbered, are_numbered, contains_more, paired, say_numbered}
 
 -- a reason that is seen without a look at programs names no row of an example
 module _ (number : ℕ → ℕ) (rows n k : ℕ) where
@@ -63,6 +63,9 @@ module _ (g h : Ground) (number : ℕ → ℕ) (es : List Example) (e : Example)
 
   after : SaySame (Numbered number rows) (with_example e es) (with_example other (renumbered number es))
   after = with_same (Numbered number rows) pair.once order e other says es (renumbered number es) zip
+
+  pub changed_to : with_example other (renumbered number es) ≡ renumbered number (with_example e es)
+  changed_to = are_numbered number rows (with_example e es) (with_example other (renumbered number es)) after
 
   fate_to : (o : Option EditError) → FateIs g (with_example e es) o → FateIs h (with_example other (renumbered number es)) (option_map (renumbered_reason number) o)
   fate_to None w = let t = branches_to g h (Numbered number rows) pair (with_example e es) (with_example other (renumbered number es)) after w.0 w.1 in (t.0, t.1)

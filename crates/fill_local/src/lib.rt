@@ -4,14 +4,14 @@
 //! it tells is its clauses, which hold over all grounds and for all lists of examples.
 #![tactic(auto)]
 
-ghost use Rattle.std.specs.Prelude.{◌∷◌, ℕ, List, Option, map, option_map};
+ghost use Rattle.std.specs.Prelude.{◌≡◌, ◌∷◌, ℕ, List, Option, map, option_map};
 ghost use Rattle.fill_tree.specs.declared.user.Edit.TheVariants.{Add};
 ghost use Rattle.fill_tree.specs.declared.user.Example.{Example};
 ghost use Rattle.fill_space.specs.Objector.{ObjectionTree};
 ghost use Rattle.fill_space.specs.declared.ground.Ground.{Ground};
 ghost use Rattle.fill_session.specs.Answers.{AnswerIs};
 ghost use Rattle.fill_session.specs.Branches.{AreBranches, BranchData};
-ghost use Rattle.fill_session.specs.Edits.{rows_of};
+ghost use Rattle.fill_session.specs.Edits.{changed, rows_of};
 ghost use Rattle.fill_session.specs.Objector.{ObjectorIs};
 ghost use Rattle.fill_session.specs.Outcome.{OutcomeIs};
 ghost use Rattle.fill_session.specs.declared.answer.Answer.{Answer};
@@ -40,9 +40,12 @@ pub fn numbers_of_rows_do_not_count()
 {}
 
 /// What one more example leads to, accepted or refused for a reason, hangs on its row and on those of the examples before it,
-/// whatever their numbers, as long as these keep their order.
+/// whatever their numbers, as long as these keep their order; and so do the examples that there are with it.
 pub fn edits_hang_on_their_rows()
-    ensures { (g h : Ground) (number : ℕ → ℕ) (examples : List Example) (row : ℕ) (text : List ℕ) (reason : Option EditError) →
+    ensures outcomes { (g h : Ground) (number : ℕ → ℕ) (examples : List Example) (row : ℕ) (text : List ℕ) (reason : Option EditError) →
         AreInOrder g h number (row ∷ rows_of examples) → OutcomeIs g examples (Add row text) reason →
         OutcomeIs h (renumbered number examples) (Add (number row) text) (option_map (renumbered_reason number) reason) }
+    ensures changes { (g h : Ground) (number : ℕ → ℕ) (examples : List Example) (row : ℕ) (text : List ℕ) →
+        AreInOrder g h number (row ∷ rows_of examples) →
+        changed (renumbered number examples) (Add (number row) text) ≡ renumbered number (changed examples (Add row text)) }
 {}

@@ -5,9 +5,11 @@ ghost use Rattle.fill_records.specs.Records.{records_of};
 ghost use Rattle.fill_stream.specs.Records.{IsDone, Took};
 
 use csv::{ByteRecord, Reader, ReaderBuilder};
+use fill_records::Record;
 use std::alloc::Global;
 use std::io::Read;
 use std::marker::Model;
+use std::mem;
 use thiserror::Error;
 
 /// A read failed, or memory ran out. No record follows.
@@ -79,6 +81,14 @@ impl<R: Read + Drop> RecordStream<R> {
         ensures { fields_of result.now ≡ self.now.row }
     {
         &self.row
+    }
+
+    /// The record that was read last, which is no longer here.
+    pub fn take(&mut self, alloc: Global) -> Record
+        ensures record { result ≡ self.old.row }
+        ensures rest { self.new.rest ≡ self.old.rest }
+    {
+        Record::of(mem::replace(&mut self.row, ByteRecord::new(alloc)))
     }
 
     /// The reader, after what was read of it.
