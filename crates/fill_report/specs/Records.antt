@@ -14,10 +14,8 @@ use Rattle.fill_undo.specs.declared.done.Kind.TheVariants as kind
 use Rattle.fill_print.specs.Notation.{guard_text, program_text, switch_text}
 use Rattle.fill_session.specs.Branches.{BranchData}
 use Rattle.fill_session.specs.declared.branch.Branch.{Branch}
+use Rattle.fill_session.specs.Texts.{reason_text}
 use Rattle.fill_session.specs.declared.error.EditError.{EditError}
-use Rattle.fill_session.specs.declared.error.EditError.TheVariants as error
-use Rattle.fill_session.specs.declared.error.Part.{Part}
-use Rattle.fill_session.specs.declared.error.Part.TheVariants as part
 use Rattle.fill_report.specs.declared.tasks.Way.{Way}
 use Rattle.fill_report.specs.declared.tasks.Way.TheVariants as way
 
@@ -38,23 +36,6 @@ row_fields kind.Clear row = []
 -- the fields of what an edit does
 abbrev pub done_fields : Done → List (List ℕ)
 done_fields done = kind_word done.kind ∷ row_fields done.kind done.row
-
--- how long which part is
-abbrev pub length_text : Part → ℕ → List ℕ
-length_text part.Text n = codes "text of " ++ (decimal n ++ codes " characters is too long")
-length_text part.Inputs n = codes "inputs of " ++ (decimal n ++ codes " characters are too long")
-
--- why an edit was refused; out of memory is no reason
-abbrev pub reason_text : EditError → List ℕ
-reason_text (error.NoSuchRow rows) = codes "no such row"
-reason_text error.HasExample = codes "row has an example"
-reason_text error.NoExample = codes "row has no example"
-reason_text (error.TooLong which n) = length_text which n
-reason_text error.TooMany = codes "too many examples"
-reason_text (error.NoProgram row) = codes "no program for row " ++ decimal row
-reason_text (error.TooManyBranches row) = codes "too many branches at row " ++ decimal row
-reason_text (error.NoGuard branch) = codes "no guard for branch " ++ decimal branch
-reason_text error.NoMemory = []
 
 -- the record of an edit that was made
 abbrev pub ok_record : Edit → Fields

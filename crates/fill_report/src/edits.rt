@@ -1,14 +1,14 @@
 //! The records of edits.
-ghost use Rattle.std.specs.Prelude.{◌≡◌, ◌∷◌, ◌++◌, IfOk, string_bytes};
-ghost use Rattle.fill_report.specs.Records.{done_fields, kind_word, length_text, ok_record, reason_text, refused_record};
+ghost use Rattle.std.specs.Prelude.{◌≡◌, ◌∷◌, ◌++◌, IfOk};
+ghost use Rattle.fill_report.specs.Records.{done_fields, kind_word, ok_record, refused_record};
 ghost use Rattle.fill_undo.specs.Done.{done_of};
 
 use fill_output::Record;
-use fill_session::{EditError, Part};
+use fill_session::EditError;
 use fill_text::NoMemory;
 use fill_tree::Edit;
 use fill_undo::{Done, Kind};
-use std::alloc::{AllocError, Global};
+use std::alloc::Global;
 
 /// The word of what an edit does.
 fn kind_word(kind: Kind) -> &'static [u8]
@@ -40,33 +40,6 @@ fn edit_record(alloc: Global, word: &[u8], edit: &Edit) -> Result<Record, NoMemo
     with_done(Record::of(alloc, word)?, Done::of(edit))
 }
 
-/// Why an edit was refused.
-pub(crate) fn reason_text(alloc: Global, reason: &EditError) -> Result<String, AllocError>
-    ensures { IfOk result (λ text. string_bytes text ≡ reason_text reason.now) }
-{
-    match reason {
-        EditError::NoSuchRow { .. } => String::from_str(alloc, "no such row"),
-        EditError::HasExample => String::from_str(alloc, "row has an example"),
-        EditError::NoExample => String::from_str(alloc, "row has no example"),
-        EditError::TooLong { part, length } => length_text(alloc, *part, *length),
-        EditError::TooMany => String::from_str(alloc, "too many examples"),
-        EditError::NoProgram { row } => format!(in alloc; "no program for row {row}"),
-        EditError::TooManyBranches { row } => format!(in alloc; "too many branches at row {row}"),
-        EditError::NoGuard { branch } => format!(in alloc; "no guard for branch {branch}"),
-        EditError::NoMemory => Ok(String::new(alloc)),
-    }
-}
-
-/// How long which part is.
-fn length_text(alloc: Global, part: Part, length: usize) -> Result<String, AllocError>
-    ensures { IfOk result (λ text. string_bytes text ≡ length_text part length) }
-{
-    match part {
-        Part::Text => format!(in alloc; "text of {length} characters is too long"),
-        Part::Inputs => format!(in alloc; "inputs of {length} characters are too long"),
-    }
-}
-
 /// The record of an edit that was made.
 pub(crate) fn ok_record(alloc: Global, edit: &Edit) -> Result<Record, NoMemory>
     ensures { IfOk result (λ made. made ≡ ok_record edit.now) }
@@ -82,6 +55,6 @@ pub(crate) fn refused_record(
 ) -> Result<Record, NoMemory>
     ensures { IfOk result (λ made. made ≡ refused_record edit.now reason.now) }
 {
-    let text = reason_text(alloc, reason)?;
+    let text = format!(in alloc; "{reason}")?;
     edit_record(alloc, b"refused", edit)?.with(text.as_bytes())
 }

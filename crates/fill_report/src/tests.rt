@@ -1,44 +1,14 @@
 //! What no clause says: the words of the format, and records as a sink gets them.
 use crate::best::no_branch_record;
-use crate::edits::{ok_record, reason_text, refused_record};
+use crate::edits::{ok_record, refused_record};
 use crate::queries::no_row_record;
 use fill_edge::MemorySink;
 use fill_output::Record;
-use fill_session::{EditError, Part};
+use fill_session::EditError;
 use fill_text::{NoMemory, Text};
 use fill_tree::Edit;
 use std::alloc::Global;
 use std::test::Fail;
-
-#[test]
-fn each_reason_has_its_text(rt: HostRuntime) -> Result<(), Fail> {
-    let text = EditError::TooLong {
-        part: Part::Text,
-        length: 101,
-    };
-    let inputs = EditError::TooLong {
-        part: Part::Inputs,
-        length: 1001,
-    };
-    let rows = [
-        (EditError::NoSuchRow { rows: 3 }, "no such row"),
-        (EditError::HasExample, "row has an example"),
-        (EditError::NoExample, "row has no example"),
-        (text, "text of 101 characters is too long"),
-        (inputs, "inputs of 1001 characters are too long"),
-        (EditError::TooMany, "too many examples"),
-        (EditError::NoProgram { row: 2 }, "no program for row 2"),
-        (
-            EditError::TooManyBranches { row: 9 },
-            "too many branches at row 9",
-        ),
-        (EditError::NoGuard { branch: 1 }, "no guard for branch 1"),
-    ];
-    for (reason, expected) in rows {
-        assert_eq!(rt; reason_text(rt.alloc(), &reason)?.as_str(), expected);
-    }
-    Ok(())
-}
 
 /// The record of an edit, made or refused.
 fn edited(alloc: Global, edit: &Edit, refused: Option<EditError>) -> Result<Record, NoMemory> {

@@ -14,4 +14,5 @@ pub mod Renewed
 pub mod State
 pub mod Suggested
 pub mod Taken
+pub mod Texts
 pub mod Timeline
