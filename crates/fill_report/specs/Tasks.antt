@@ -1,5 +1,5 @@
 -- What an entry does: it makes an edit, goes along the history, or asks.
-use Rattle.std.specs.Prelude.{ℕ, ◌≤◌, ⊤}
+use Rattle.std.specs.Prelude.{◌≤◌, ⊤}
 use Rattle.fill_tree.specs.declared.user.Edit.{Edit}
 use Rattle.fill_script.specs.declared.script.Entry.{Entry}
 use Rattle.fill_script.specs.declared.script.Entry.TheVariants as entry

@@ -17,6 +17,7 @@ use Rattle.fill_session.specs.declared.error.EditError.{EditError}
 use Rattle.fill_session.specs.declared.moves.Move.{Move}
 use Rattle.fill_session.specs.declared.moves.Move.TheVariants as move
 use Rattle.fill_session.specs.declared.moves.Reply.{Reply}
+use Rattle.fill_session.proofs.GoingBack.{redo_turned, turned}
 
 -- the examples of the state on the other side of a move
 abbrev Leads : Ground → Moved (List Example) → Type 0
@@ -59,16 +60,9 @@ after_undo g a b (Some done) held h =
     }
 
 after_redo : (g : Ground) (a b : Timeline) (done : Option Done) → AreAccepted g a → RedoIs a done b → AreAccepted g b
-after_redo g a b None held h = subst (λ (t : Timeline). AreAccepted g t) (sym h.1) held
-after_redo g a b (Some done) held h =
-    let back : Moved (List Example) = record { state = a.examples; done = done } in
-    let forth : Moved (List Example) = record { state = b.examples; done = done } in
-    let parts = All-pop (Leads g) a.moves.future b.moves.future (Some forth) h.future held.future in
-    record {
-      present = parts.1;
-      past = subst (λ (v : List (Moved (List Example))). All (Leads g) v) (sym h.past) (All-push (Leads g) a.moves.past back held.past held.present);
-      future = parts.0;
-    }
+after_redo g a b done held h =
+    let t = after_undo g (turned a) (turned b) done (record { present = held.present; past = held.future; future = held.past }) (redo_turned a b done h) in
+    record { present = t.present; past = t.future; future = t.past }
 
 after_move : (g : Ground) (a b : Timeline) (m : Move) (r : Reply) → AreAccepted g a → MoveIs g a m r b → AreAccepted g b
 after_move g a b (move.Edit e) r held h = after_edit g a b e h.0 held h.2 h.4

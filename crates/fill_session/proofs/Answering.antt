@@ -7,14 +7,13 @@ use Rattle.std.proofs.lemmas.List.Elements.{All-nil, All-cons, All-head, All-tai
 use Rattle.fill_text.specs.Data.{SheetData}
 use Rattle.fill_split.specs.Placement.{PlacedFrom}
 use Rattle.fill_split.specs.declared.rule.Placing.{Placing}
-use Rattle.fill_split.proofs.Zips.{zip_lengths, zip_some, zip_take, take_next}
+use Rattle.fill_split.proofs.Zips.{zip_some, zip_take, take_next}
 use Rattle.fill_tree.specs.Guard.{ReadsInputs}
 use Rattle.fill_tree.specs.Meaning.{program_tree}
 use Rattle.fill_tree.specs.Separate.{IsGuard, IsLiteral, literal_cmp}
 use Rattle.std.specs.declared.cmp.Ordering.TheVariants.{Less}
 use Rattle.fill_tree.specs.Switch.{CaseTree, SwitchTree, case_tree, switch_tree}
 use Rattle.fill_tree.specs.Tree.{Atoms}
-use Rattle.fill_tree.specs.Value.{IsValue, ProgramIs}
 use Rattle.fill_tree.specs.declared.guard.Case.{Case}
 use Rattle.fill_tree.specs.declared.guard.Guard.{Guard}
 use Rattle.fill_tree.specs.declared.guard.Literal.{Literal}
@@ -22,17 +21,15 @@ use Rattle.fill_tree.specs.declared.tree.Program.{Program}
 use Rattle.fill_tree.specs.declared.user.Example.{Example}
 use Rattle.fill_space.specs.declared.ground.Ground.{Ground}
 use Rattle.fill_space.specs.Ground.{FitsOn, WeighsOn}
-use Rattle.fill_session.specs.Answers.{AnswerIs, IsBranchAt, StateIs, TakesRow, cases_of, switch_of, with_branch}
+use Rattle.fill_session.specs.Answers.{IsBranchAt, TakesRow, cases_of, switch_of, with_branch}
 use Rattle.fill_session.specs.Branches.{AreGuarded, BranchData, IsGuardBefore, lists_of, rule_of_profile}
 use Rattle.fill_session.specs.Edits.{HasExample, rows_of}
 use Rattle.fill_session.specs.Outcome.{has_example}
 use Rattle.fill_session.specs.State.{AreShown, Shows}
 use Rattle.fill_session.specs.Taken.{IsFirstTaker, NoneTakes, ReadInputs}
-use Rattle.fill_session.specs.declared.answer.Answer.{Answer}
-use Rattle.fill_session.specs.declared.answer.State.TheVariants.{Sure}
 use Rattle.fill_session.specs.declared.branch.Branch.{Branch}
 use Rattle.fill_session.proofs.Held.{lists_long}
-use Rattle.fill_session.proofs.Picked.{below, here, map_at, flat_push}
+use Rattle.fill_session.proofs.Picked.{here, map_at, flat_push}
 
 -- the test and the fact that a row has an example
 pub has_one : (xs : List Example) (row : ℕ) → has_example xs row ≡ true → HasExample xs row
@@ -115,10 +112,10 @@ module _ (rule : Placing) (fits : List Example → Type 0) (weight : List Exampl
       none_there : (k : ℕ) (b : List Example) → slice_get [] k ≡ Some b → ⊥
       none_there k b e = cc
 
--- without a branch that takes the row there is none
-pub answer_none : (g : Ground) (xs : List Example) (shown : List Branch) (row : ℕ) → AreShown g xs shown → NoneTakes g.sheet row shown → AnswerIs g xs row (record { branch = 0; text = None; state = Sure })
-answer_none g [] shown row are none = (refl, refl, refl)
-answer_none g (e ∷ es) shown row are none =
+-- no branch takes the row only where there is no example
+pub none_shown : (g : Ground) (xs : List Example) (shown : List Branch) (row : ℕ) → AreShown g xs shown → NoneTakes g.sheet row shown → xs ≡ []
+none_shown g [] shown row are none = refl
+none_shown g (e ∷ es) shown row are none =
     let some = placed_some (rule_of_profile g.settings.profile) (FitsOn g) (WeighsOn g) e es (lists_of are.0) (are.1).placed in
     let long = lists_long are.0 in
     absurd (last_takes g row shown are.0 are.2 (are.1).guarded (omega arith) none)
@@ -168,31 +165,6 @@ taken_at sheet shown row k bs z t =
       shows = found.2;
       list = map_at (λ (c : BranchData). c.examples) bs k b found.1;
     }
-
--- where there is no example, no branch is shown that could take a row
-pub no_taker : (g : Ground) (shown : List Branch) (row k : ℕ) → AreShown g [] shown → IsFirstTaker g.sheet row shown k → ⊥
-no_taker g shown row k are t =
-    let lt = below shown k t.branch t.here in
-    let none : length (lists_of are.0) ≡ 0 = ap length (are.1).placed in
-    let long = lists_long are.0 in
-    let many = zip_lengths Shows shown are.0 are.2 in
-    omega arith
-
--- the first branch that takes the row answers there
-pub answer_some : (g : Ground) (xs : List Example) (shown : List Branch) (row k : ℕ) (a : Answer) (are : AreShown g xs shown) (t : IsFirstTaker g.sheet row shown k) → a.branch ≡ k + 1
-    → ((x : Branch) → slice_get shown k ≡ Some x → IsValue (ProgramIs g.sheet g.tables row (program_tree x.program)) a.text)
-    → ((list : List Example) → slice_get (lists_of are.0) k ≡ Some list → StateIs g xs list row a.state) → AnswerIs g xs row a
-answer_some g [] shown row k a are t number value state = absurd (no_taker g shown row k are t)
-answer_some g (e ∷ es) shown row k a are t number value state =
-    let taken = taken_at g.sheet shown row k are.0 are.2 t in
-    let n : suc k ≡ a.branch = omega arith in (
-      are.0,
-      taken.branch,
-      are.1,
-      subst (λ (m : ℕ). IsBranchAt g.sheet row are.0 m taken.branch) n taken.place,
-      subst (λ (p : Atoms). IsValue (ProgramIs g.sheet g.tables row p) a.text) (taken.shows).program (value t.branch t.here),
-      state (taken.branch).examples taken.list,
-    )
 
 -- the cases of one more branch
 abbrev pub case_list : BranchData → List CaseTree

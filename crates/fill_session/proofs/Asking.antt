@@ -1,5 +1,5 @@
 -- A row that is asked, by what the program of its branch answers there.
-use Rattle.std.proofs.Common.{◌≡◌, inl, inr, Bool, ℕ, suc, ◌+◌, ◌<◌, ◌≤◌, List, [], ◌∷◌, length, Option, None, Some, refl, sym, ap, subst, ◌∙◌, length-append, arith}
+use Rattle.std.proofs.Common.{◌≡◌, inl, inr, Bool, ℕ, ◌-◌, ◌<◌, ◌≤◌, List, [], ◌∷◌, length, Option, None, Some, refl, sym, ap, subst, ◌∙◌, arith}
 use Rattle.std.specs.Prelude.{slice_get, Contains}
 use Rattle.std.proofs.lemmas.Option.{same_Some}
 use Rattle.std.specs.Cmp.{nat_cmp_is}
@@ -17,135 +17,92 @@ use Rattle.fill_space.specs.declared.ground.Ground.{Ground}
 use Rattle.fill_space.specs.Objector.{IsObjectionOn, ObjectionTree, ObjectsOn, objection_tree}
 use Rattle.fill_space.specs.Spaces.{SpaceStands}
 use Rattle.fill_session.specs.Answers.{AnswerIs, IsBranchAt}
-use Rattle.fill_session.specs.Branches.{AreBranches, AreGuarded, BranchData, lists_of}
+use Rattle.fill_session.specs.Branches.{AreGuarded, BranchData}
 use Rattle.fill_session.specs.Objector.{ObjectorIs}
-use Rattle.fill_session.specs.State.{AreShown, SessionData}
+use Rattle.fill_session.specs.State.{SessionData}
 use Rattle.fill_session.specs.Suggested.{ComesFirst, IsAskedAt, LeadsStand, NoneAsked, ObjectorWithin, cost_of, is_silent}
-use Rattle.fill_session.specs.Taken.{IsFirstTaker, NoneTakes}
+use Rattle.fill_session.specs.Taken.{IsTaken}
 use Rattle.fill_session.specs.declared.answer.Answer.{Answer}
 use Rattle.fill_session.specs.declared.answer.State.TheVariants.{Doubt}
-use Rattle.fill_session.specs.declared.branch.Branch.{Branch}
 use Rattle.fill_session.specs.declared.leads.Lead.{Lead}
 use Rattle.fill_session.specs.declared.suggestion.Suggestion.{Suggestion}
-use Rattle.fill_session.proofs.Answering.{TakenAt}
-use Rattle.fill_session.proofs.Held.{lists_long}
-use Rattle.fill_session.proofs.Objecting.{guarded_chosen, none_given, objector_is_one, objector_none, some_doubts}
+use Rattle.fill_session.proofs.Objecting.{guarded_chosen, none_given, objector_is_one, some_doubts}
 use Rattle.fill_session.proofs.OneAnswer.{value_is_one}
 use Rattle.fill_session.proofs.OneFate.{branches_are_one}
 use Rattle.fill_session.proofs.Reproduced.{branch_is_one}
 use Rattle.fill_session.proofs.Suggesting.{less_cases}
+use Rattle.fill_session.proofs.Taking.{answer_taken, is_branch_from_0, none_taken, objector_taken, objector_untaken, objects_taken, within}
 
--- on a row of this branch, whose program has this value there
-module _ (g : Ground) (row n : ℕ) (bs : List BranchData) (b : BranchData) (text : Option (List ℕ)) (place : IsBranchAt g.sheet row bs n b) (value : IsValue (ProgramIs g.sheet g.tables row b.program) text) where
-  -- the row's objector objects to the value
-  objects_there : (xs : List Example) → AreBranches g xs bs → (o : ObjectionTree) → ObjectorIs g xs row (Some o) → ObjectsOn g b.examples row text o.program
-  objects_there [] are o k = absurd (let e = k in cc)
-  objects_there (e ∷ es) are o k =
-      let lists : k.0 ≡ bs = branches_are_one g (e ∷ es) k.0 bs k.4 are in
-      let at = subst (λ (l : List BranchData). IsBranchAt g.sheet row l k.1 k.2) lists k.5 in
-      let one = branch_is_one g.sheet row bs k.1 n k.2 b at place in
-      let said : k.3 ≡ text =
-      value_is_one (ProgramIs g.sheet g.tables row b.program) k.3 text (subst (λ (x : BranchData). IsValue (ProgramIs g.sheet g.tables row x.program) k.3) one.1 k.6) value in
-      subst (λ (w : Option (List ℕ)). ObjectsOn g b.examples row w o.program) said (subst (λ (x : BranchData). ObjectsOn g x.examples row k.3 o.program) one.1 (k.7).least.has)
+-- on a row whose branch is known: what its answer says
+said_taken : (g : Ground) (xs : List Example) (row n : ℕ) (text : Option (List ℕ)) → IsTaken g xs row n text → (a : Answer) → AnswerIs g xs row a → a.text ≡ text
+said_taken g [] row n text t a is = none_taken g row n text t
+said_taken g (e ∷ es) row n text t a is =
+    let lists : is.0 ≡ t.branches = branches_are_one g (e ∷ es) is.0 t.branches is.2 t.are in
+    let at = subst (λ (l : List BranchData). IsBranchAt g.sheet row l a.branch is.1) lists is.3 in
+    let one = branch_is_one g.sheet row t.branches a.branch n is.1 t.branch at t.place in
+    value_is_one (ProgramIs g.sheet g.tables row t.branch.program) a.text text (subst (λ (x : BranchData). IsValue (ProgramIs g.sheet g.tables row x.program) a.text) one.1 is.4) t.value
 
-  -- the value is the answer
-  said_there : (xs : List Example) → AreBranches g xs bs → (o : ObjectionTree) → ObjectorIs g xs row (Some o) → (a : Answer) → AnswerIs g xs row a → a.text ≡ text
-  said_there [] are o k a is = absurd (let e = k in cc)
-  said_there (e ∷ es) are o k a is =
-      let lists : is.0 ≡ bs = branches_are_one g (e ∷ es) is.0 bs is.2 are in
-      let at = subst (λ (l : List BranchData). IsBranchAt g.sheet row l a.branch is.1) lists is.3 in
-      let one = branch_is_one g.sheet row bs a.branch n is.1 b at place in
-      value_is_one (ProgramIs g.sheet g.tables row b.program) a.text text (subst (λ (x : BranchData). IsValue (ProgramIs g.sheet g.tables row x.program) a.text) one.1 is.4) value
+-- and the answer where there is an objection, so that it is in doubt
+doubt_taken : (g : Ground) (xs : List Example) (row n : ℕ) (text : Option (List ℕ)) (t : IsTaken g xs row n text) → KeysDistinguish g.tables → (o : ObjectionTree) → IsObjectionOn g t.branch.examples row text o → (a : Answer) × AnswerIs g xs row a × (a.text ≡ text)
+doubt_taken g xs row n text t keys o h =
+    let place = t.place in
+    let chosen = guarded_chosen g place.0 t.branch place.1 (subst (λ (l : List BranchData). AreGuarded g l) place.2 t.are.guarded) in
+    let a : Answer = record { branch = n; text = text; state = Doubt } in (
+      a,
+      answer_taken g xs row a t (none_given g xs t.branches n t.branch text row keys t.are place t.value o h, some_doubts g xs t.branches n t.branch text row keys t.are place t.value o chosen h),
+      refl,
+    )
 
-  -- the answer of a row with an objection, which is in doubt
-  answer_there : (xs : List Example) → KeysDistinguish g.tables → AreBranches g xs bs → (o : ObjectionTree) → IsObjectionOn g b.examples row text o → (a : Answer) × AnswerIs g xs row a × (a.text ≡ text)
-  answer_there [] keys are o h =
-      let none : length (lists_of bs) ≡ 0 = ap length are.placed in
-      let long = lists_long bs in
-      let some : length bs ≡ length place.0 + length (b ∷ place.1) = ap length place.2 ∙ length-append place.0 (b ∷ place.1) in
-      absurd (omega arith)
-  answer_there (e ∷ es) keys are o h =
-      let chosen = guarded_chosen g place.0 b place.1 (subst (λ (l : List BranchData). AreGuarded g l) place.2 are.guarded) in (
-        record { branch = n; text = text; state = Doubt },
-        (
-          bs,
-          b,
-          are,
-          place,
-          value,
-          (none_given g (e ∷ es) bs n b text row keys are place value o h, some_doubts g (e ∷ es) bs n b text row keys are place value o chosen h),
-        ),
-        refl,
-      )
+-- its lead
+module _ (s : SessionData) (row n : ℕ) (text : Option (List ℕ)) (t : IsTaken s.spaces.ground s.examples row n text) (leads : List Lead) (stand : LeadsStand s leads) where
+  pub in_leads : n - 1 < length leads
+  in_leads =
+      let many = stand.many t.branches t.are in
+      let lt = within s.spaces.ground s.examples row n text t in
+      omega arith
 
-  -- and its objector
-  objector_there : (xs : List Example) → AreBranches g xs bs → (o : ObjectionTree) → IsObjectionOn g b.examples row text o → ObjectorIs g xs row (Some o)
-  objector_there [] are o h =
-      let none : length (lists_of bs) ≡ 0 = ap length are.placed in
-      let long = lists_long bs in
-      let some : length bs ≡ length place.0 + length (b ∷ place.1) = ap length place.2 ∙ length-append place.0 (b ∷ place.1) in
-      absurd (omega arith)
-  objector_there (e ∷ es) are o h = (bs, n, b, text, are, place, value, h)
+  pub lead_stands : (lead : Lead) → slice_get leads (n - 1) ≡ Some lead → SpaceStands s.spaces lead.space t.branch.examples
+  lead_stands lead at = stand.spaces (n - 1) lead at t.branch.examples (is_branch_from_0 s.spaces.ground s.examples row n text t)
 
--- a row of a session that the branch at this place takes first
-module _ (s : SessionData) (passed : List ℕ) (shown : List Branch) (are : AreShown s.spaces.ground s.examples shown) (row k : ℕ) (t : IsFirstTaker s.spaces.ground.sheet row shown k)
-    (taken : TakenAt s.spaces.ground.sheet row k are.0 t.branch) where
-  -- its lead
-  module _ (leads : List Lead) (stand : LeadsStand s leads) where
-    pub in_leads : k < length leads
-    in_leads =
-        let many = stand.many are.0 are.1 in
-        let place = taken.place in
-        let size : length are.0 ≡ length place.0 + length (taken.branch ∷ place.1) = ap length place.2 ∙ length-append place.0 (taken.branch ∷ place.1) in
-        let here = place.5 in
-        omega arith
+-- a row whose branch is known
+module _ (g : Ground) (xs : List Example) (passed : List ℕ) (row n : ℕ) (text : Option (List ℕ)) (t : IsTaken g xs row n text) where
+  -- it is not asked where it is not as silent as is asked
+  pub none_alike : (silent : Bool) (best : Option Suggestion) → (is_silent text ≡ silent → ⊥) → NoneAsked g xs passed silent row best
+  none_alike silent best differ = λ q asked alike here first.
+      let a = asked.said in
+      let same : (a.0).text ≡ text =
+      said_taken g xs row n text t a.0 (subst (λ m. AnswerIs g xs m a.0) here a.1) in
+      differ (ap is_silent (sym same ∙ a.2) ∙ alike)
 
-    pub lead_stands : (lead : Lead) → slice_get leads k ≡ Some lead → SpaceStands s.spaces lead.space (taken.branch).examples
-    lead_stands lead at = stand.spaces k lead at (taken.branch).examples (lists_of are.0, k, (are.1).placed, taken.list, refl)
+  -- none that objects comes first
+  pub none_objects : (silent : Bool) (best : Option Suggestion)
+      → ((p : Atoms) → ObjectsOn g t.branch.examples row text p → ¬ (ComesFirst g.settings.profile.prices best p)) → NoneAsked g xs passed silent row best
+  none_objects silent best none = λ q asked alike here.
+      none q.objector.program
+      (objects_taken g xs row n text t q.objector (subst (λ m. ObjectorIs g xs m (Some q.objector)) here asked.objector))
 
-  -- its value there
-  module _ (text : Option (List ℕ)) (value : IsValue (ProgramIs s.spaces.ground.sheet s.spaces.ground.tables row (program_tree (t.branch).program)) text) where
-    own : IsValue (ProgramIs s.spaces.ground.sheet s.spaces.ground.tables row (taken.branch).program) text
-    own = subst (λ (p : Atoms). IsValue (ProgramIs s.spaces.ground.sheet s.spaces.ground.tables row p) text) (taken.shows).program value
-
-    -- it is not asked where it is not as silent as is asked
-    pub none_alike : (silent : Bool) (best : Option Suggestion) → (is_silent text ≡ silent → ⊥) → NoneAsked s.spaces.ground s.examples passed silent row best
-    none_alike silent best differ = λ q asked alike here first.
-        let a = asked.said in
-        let same : (a.0).text ≡ text =
-        said_there s.spaces.ground row (suc k) are.0 taken.branch text taken.place own s.examples are.1 q.objector (subst (λ m. ObjectorIs s.spaces.ground s.examples m (Some q.objector)) here asked.objector) a.0
-        (subst (λ m. AnswerIs s.spaces.ground s.examples m a.0) here a.1) in
-        differ (ap is_silent (sym same ∙ a.2) ∙ alike)
-
-    -- none that objects comes first
-    pub none_objects : (silent : Bool) (best : Option Suggestion)
-        → ((p : Atoms) → ObjectsOn s.spaces.ground (taken.branch).examples row text p → ¬ (ComesFirst s.spaces.ground.settings.profile.prices best p)) → NoneAsked s.spaces.ground s.examples passed silent row best
-    none_objects silent best none = λ q asked alike here.
-        none q.objector.program
-        (objects_there s.spaces.ground row (suc k) are.0 taken.branch text taken.place own s.examples are.1 q.objector (subst (λ m. ObjectorIs s.spaces.ground s.examples m (Some q.objector)) here asked.objector))
-
-    -- the objection comes first
-    pub one_objects : (silent : Bool) (best : Option Suggestion) (o : Objection) → 1 ≤ row → row ≤ length s.spaces.ground.sheet.rows → (Contains passed row → ⊥) → KeysDistinguish s.spaces.ground.tables → is_silent text ≡ silent
-        → IsObjectionOn s.spaces.ground (taken.branch).examples row text (objection_tree o) → ComesFirst s.spaces.ground.settings.profile.prices best (program_tree o.program)
-        → IsAskedAt s.spaces.ground s.examples passed silent row best (record { row = row; answer = text; objection = o })
-    one_objects silent best o first last left keys alike h earlier = record {
-      asked = record {
-        first = first;
-        last = last;
-        left = left;
-        said = answer_there s.spaces.ground row (suc k) are.0 taken.branch text taken.place own s.examples keys are.1 (objection_tree o) h;
-        objector = objector_there s.spaces.ground row (suc k) are.0 taken.branch text taken.place own s.examples are.1 (objection_tree o) h;
-      };
-      kind = alike;
-      here = refl;
-      earlier = earlier;
-    }
+  -- the objection comes first
+  pub one_objects : (silent : Bool) (best : Option Suggestion) (o : Objection) → 1 ≤ row → row ≤ length g.sheet.rows → (Contains passed row → ⊥) → KeysDistinguish g.tables → is_silent text ≡ silent
+      → IsObjectionOn g t.branch.examples row text (objection_tree o) → ComesFirst g.settings.profile.prices best (program_tree o.program)
+      → IsAskedAt g xs passed silent row best (record { row = row; answer = text; objection = o })
+  one_objects silent best o first last left keys alike h earlier = record {
+    asked = record {
+      first = first;
+      last = last;
+      left = left;
+      said = doubt_taken g xs row n text t keys (objection_tree o) h;
+      objector = objector_taken g xs row n text t (Some (objection_tree o)) h;
+    };
+    kind = alike;
+    here = refl;
+    earlier = earlier;
+  }
 
 module _ (g : Ground) (xs : List Example) (passed : List ℕ) (silent : Bool) (row : ℕ) (best : Option Suggestion) where
-  -- no branch takes the row
-  pub none_taken : (shown : List Branch) → AreShown g xs shown → NoneTakes g.sheet row shown → NoneAsked g xs passed silent row best
-  none_taken shown are none = λ q asked alike here first.
-      let e = objector_is_one g xs row None (Some q.objector) (objector_none g xs shown row are none) (subst (λ m. ObjectorIs g xs m (Some q.objector)) here asked.objector) in
+  -- without examples
+  pub none_without : xs ≡ [] → NoneAsked g xs passed silent row best
+  none_without is = λ q asked alike here first.
+      let e = objector_is_one g xs row None (Some q.objector) (objector_untaken g xs row is) (subst (λ m. ObjectorIs g xs m (Some q.objector)) here asked.objector) in
       let impossible : ⊥ = cc in impossible
 
   -- the row is passed over

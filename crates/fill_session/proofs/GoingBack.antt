@@ -31,18 +31,6 @@ undone_from a c edit (Some done) h =
 pub undone_is : (a b c : Timeline) (edit : Edit) (o : Option Done) → b ≡ edited a edit → UndoIs b o c → (o ≡ Some (done_of edit)) × (c.examples ≡ a.examples)
 undone_is a b c edit o after h = undone_from a c edit o (subst (λ (v : Timeline). UndoIs v o c) after h)
 
-pub redone_is : (a b c : Timeline) (done : Done) (o : Option Done) → UndoIs a (Some done) b → RedoIs b o c → (o ≡ Some done) × (c ≡ a)
-redone_is a b c done None h k = absurd (not_none a.moves.future (record { state = a.examples; done = done }) (sym h.future ∙ k.0))
-redone_is a b c done (Some again) h k =
-    let m : Moved (List Example) = record { state = a.examples; done = done } in
-    let n : Moved (List Example) = record { state = c.examples; done = again } in
-    let same = same_from_push c.moves.future a.moves.future n m (sym k.future ∙ h.future) in
-    let future : c.moves.future ≡ a.moves.future = same.0 in
-    let examples : c.examples ≡ a.examples = ap (λ (v : Moved (List Example)). v.state) same.1 in
-    let kind : again ≡ done = ap (λ (v : Moved (List Example)). v.done) same.1 in
-    let past : c.moves.past ≡ a.moves.past = k.past ∙ ap (λ (d : Done). b.moves.past ++ (record { state = b.examples; done = d }) ∷ []) kind ∙ sym h.past in
-    (ap (λ (d : Done). Some d) kind, λ i. record { examples = examples i; moves = record { past = past i; future = future i } })
-
 pub undo_is_one : (a b c : Timeline) (o p : Option Done) → UndoIs a o b → UndoIs a p c → (o ≡ p) × (b ≡ c)
 undo_is_one a b c None None h k = (refl, h.1 ∙ sym k.1)
 undo_is_one a b c None (Some p) h k = absurd (not_none c.moves.past (record { state = c.examples; done = p }) (sym k.past ∙ h.0))
@@ -57,16 +45,19 @@ undo_is_one a b c (Some o) (Some p) h k =
     let future : b.moves.future ≡ c.moves.future = h.future ∙ ap (λ (d : Done). a.moves.future ++ (record { state = a.examples; done = d }) ∷ []) kind ∙ sym k.future in
     (ap (λ (d : Done). Some d) kind, λ i. record { examples = examples i; moves = record { past = past i; future = future i } })
 
+-- the same timeline with past and future in each other's place
+abbrev pub turned : Timeline → Timeline
+turned t = record { examples = t.examples; moves = record { past = t.moves.future; future = t.moves.past } }
+
+-- what is redone is undone there
+pub redo_turned : (a b : Timeline) (o : Option Done) → RedoIs a o b → UndoIs (turned a) o (turned b)
+redo_turned a b None h = (h.0, ap turned h.1)
+redo_turned a b (Some done) h = record { past = h.future; future = h.past }
+
 pub redo_is_one : (a b c : Timeline) (o p : Option Done) → RedoIs a o b → RedoIs a p c → (o ≡ p) × (b ≡ c)
-redo_is_one a b c None None h k = (refl, h.1 ∙ sym k.1)
-redo_is_one a b c None (Some p) h k = absurd (not_none c.moves.future (record { state = c.examples; done = p }) (sym k.future ∙ h.0))
-redo_is_one a b c (Some o) None h k = absurd (not_none b.moves.future (record { state = b.examples; done = o }) (sym h.future ∙ k.0))
-redo_is_one a b c (Some o) (Some p) h k =
-    let m : Moved (List Example) = record { state = b.examples; done = o } in
-    let n : Moved (List Example) = record { state = c.examples; done = p } in
-    let same = same_from_push b.moves.future c.moves.future m n (sym h.future ∙ k.future) in
-    let future : b.moves.future ≡ c.moves.future = same.0 in
-    let examples : b.examples ≡ c.examples = ap (λ (v : Moved (List Example)). v.state) same.1 in
-    let kind : o ≡ p = ap (λ (v : Moved (List Example)). v.done) same.1 in
-    let past : b.moves.past ≡ c.moves.past = h.past ∙ ap (λ (d : Done). a.moves.past ++ (record { state = a.examples; done = d }) ∷ []) kind ∙ sym k.past in
-    (ap (λ (d : Done). Some d) kind, λ i. record { examples = examples i; moves = record { past = past i; future = future i } })
+redo_is_one a b c o p h k =
+    let same = undo_is_one (turned a) (turned b) (turned c) o p (redo_turned a b o h) (redo_turned a c p k) in
+    (same.0, ap turned same.1)
+
+pub redone_is : (a b c : Timeline) (done : Done) (o : Option Done) → UndoIs a (Some done) b → RedoIs b o c → (o ≡ Some done) × (c ≡ a)
+redone_is a b c done o h k = redo_is_one b c a o (Some done) k (record { future = h.future; past = h.past })

@@ -4,8 +4,6 @@ use Rattle.std.specs.Prelude.{slice_get, IfOk, option_map}
 use Rattle.std.proofs.lemmas.Option.{same_Some}
 use Rattle.fill_text.specs.declared.error.NoMemory.{NoMemory}
 use Rattle.fill_tables.specs.Keys.{KeysDistinguish}
-use Rattle.fill_tree.specs.Meaning.{program_tree}
-use Rattle.fill_tree.specs.Tree.{Atoms}
 use Rattle.fill_tree.specs.Value.{IsValue, ProgramIs}
 use Rattle.fill_tree.specs.declared.user.Example.{Example}
 use Rattle.fill_tree.proofs.ValueLaws.{program_one}
@@ -15,19 +13,14 @@ use Rattle.fill_space.specs.declared.ground.Ground.{Ground}
 use Rattle.fill_space.specs.Doubt.{IsDoubtful}
 use Rattle.fill_space.specs.Ground.{ChosenOn}
 use Rattle.fill_space.specs.Objector.{ObjectionIs, ObjectionTree, objection_tree}
-use Rattle.fill_space.specs.Spaces.{SpacesData, SpaceStands}
 use Rattle.fill_space.proofs.Objector.{objection_is_one}
 use Rattle.fill_session.specs.Answers.{AnswerIs, IsBranchAt, StateIs}
-use Rattle.fill_session.specs.Branches.{AreBranches, AreGuarded, BranchData, lists_of}
+use Rattle.fill_session.specs.Branches.{AreBranches, AreGuarded, BranchData}
 use Rattle.fill_session.specs.Edits.{HasExample, rows_of}
 use Rattle.fill_session.specs.Objector.{ObjectorIs}
-use Rattle.fill_session.specs.State.{AreShown}
-use Rattle.fill_session.specs.Taken.{IsFirstTaker, NoneTakes}
 use Rattle.fill_session.specs.declared.answer.Answer.{Answer}
 use Rattle.fill_session.specs.declared.answer.State.{State}
 use Rattle.fill_session.specs.declared.answer.State.TheVariants.{Given, Sure, Doubt}
-use Rattle.fill_session.specs.declared.branch.Branch.{Branch}
-use Rattle.fill_session.proofs.Answering.{answer_none, no_taker, taken_at}
 use Rattle.fill_session.proofs.Firsts.{contains_at, contains_from}
 use Rattle.fill_session.proofs.OneAnswer.{value_is_one}
 use Rattle.fill_session.proofs.OneFate.{branches_are_one}
@@ -116,32 +109,3 @@ pub doubts_too : (g : Ground) (examples : List Example) (row : ℕ) (r : Result 
 doubts_too g examples row (Ok None) keys h = λ a k. (λ some. absurd (some refl), λ doubt. absurd ((objector_doubts g examples row None a keys h k).1 doubt refl))
 doubts_too g examples row (Ok (Some o)) keys h = λ a k. ((λ some. (objector_doubts g examples row (Some (objection_tree o)) a keys h k).0 (λ none. let e = none in cc)), (λ doubt none. let e = none in cc))
 doubts_too g examples row (Err want) keys h = tt
-
--- no branch takes the row only where there is no example, and then there is no objector
-pub objector_none : (g : Ground) (xs : List Example) (shown : List Branch) (row : ℕ) → AreShown g xs shown → NoneTakes g.sheet row shown → ObjectorIs g xs row None
-objector_none g [] shown row are none = refl
-objector_none g (e ∷ es) shown row are none =
-    let k = answer_none g (e ∷ es) shown row are none in
-    let place = k.3 in
-    absurd (let n = place.5 in cc)
-
--- the objection to what the first taker's program answers is the row's
-module _ (g : Ground) (shown : List Branch) (row k : ℕ) (t : IsFirstTaker g.sheet row shown k) (text : Option (List ℕ)) (value : IsValue (ProgramIs g.sheet g.tables row (program_tree (t.branch).program)) text) where
-  objector_some : (xs : List Example) (are : AreShown g xs shown) (found : Option ObjectionTree) → ((list : List Example) → slice_get (lists_of are.0) k ≡ Some list → ObjectionIs g list row text found) → ObjectorIs g xs row found
-  objector_some [] are found objects = absurd (no_taker g shown row k are t)
-  objector_some (e ∷ es) are found objects =
-      let taken = taken_at g.sheet shown row k are.0 are.2 t in (
-        are.0,
-        suc k,
-        taken.branch,
-        text,
-        are.1,
-        taken.place,
-        subst (λ (p : Atoms). IsValue (ProgramIs g.sheet g.tables row p) text) (taken.shows).program value,
-        objects (taken.branch).examples taken.list,
-      )
-
-  pub objector_told : (s : SpacesData) (xs : List Example) (space : ℕ) (are : AreShown g xs shown) (r : Result (Option Objection) NoMemory) → ((list : List Example) → slice_get (lists_of are.0) k ≡ Some list → SpaceStands s space list)
-      → IfOk r (λ found. (l : List Example) → SpaceStands s space l → ObjectionIs g l row text (option_map objection_tree found)) → IfOk r (λ found. ObjectorIs g xs row (option_map objection_tree found))
-  objector_told s xs space are (Ok found) stands h = objector_some xs are (option_map objection_tree found) (λ list at. h list (stands list at))
-  objector_told s xs space are (Err want) stands h = tt

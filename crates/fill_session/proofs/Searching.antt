@@ -1,28 +1,26 @@
 -- The branch of a row in doubt, and its objector within a limit.
-use Rattle.std.proofs.Common.{◌≡◌, ◌⊎◌, inl, inr, ℕ, zero, suc, ◌+◌, ◌-◌, ◌<◌, List, [], ◌∷◌, ◌++◌, length, get_or, Option, None, Some, Result, Ok, Err, refl, sym, ap, subst, ◌∙◌, length-append, arith}
-use Rattle.std.specs.Prelude.{slice_get, IfOk, option_map}
+use Rattle.std.proofs.Common.{◌≡◌, ◌⊎◌, inl, inr, ℕ, zero, suc, ◌<◌, List, [], ◌∷◌, ◌++◌, length, get_or, Option, None, Some, Result, Ok, Err, refl, sym, ap, subst, ◌∙◌, arith}
+use Rattle.std.specs.Prelude.{slice_get, IfOk}
 use Rattle.std.proofs.lemmas.Option.{same_Some}
-use Rattle.fill_text.specs.declared.error.NoMemory.{NoMemory}
 use Rattle.fill_tables.specs.Keys.{KeysDistinguish}
-use Rattle.fill_tree.specs.Value.{IsValue, ProgramIs}
 use Rattle.fill_tree.specs.declared.user.Example.{Example}
-use Rattle.fill_object.specs.declared.graph.Objection.{Objection}
 use Rattle.fill_space.specs.declared.ground.Ground.{Ground}
-use Rattle.fill_space.specs.Objector.{ObjectionTree, ObjectionWithin, ObjectsOn, objection_tree}
+use Rattle.fill_space.specs.Objector.{ObjectionTree, ObjectionWithin}
 use Rattle.fill_split.proofs.Zips.{zip_lengths}
-use Rattle.fill_session.specs.Answers.{AnswerIs, IsBranchAt}
+use Rattle.fill_session.specs.Answers.{AnswerIs}
 use Rattle.fill_session.specs.Branches.{AreBranches, BranchData, lists_of}
 use Rattle.fill_session.specs.State.{AreShown, IsBranch, Shows}
 use Rattle.fill_session.specs.Suggested.{Asked, IsAsked, ObjectorWithin}
+use Rattle.fill_session.specs.Taken.{IsTaken}
 use Rattle.fill_session.specs.declared.answer.Answer.{Answer}
 use Rattle.fill_session.specs.declared.answer.State.TheVariants.{Sure, Doubt}
 use Rattle.fill_session.specs.declared.branch.Branch.{Branch}
 use Rattle.fill_session.proofs.Held.{lists_long}
 use Rattle.fill_session.proofs.Objecting.{objector_doubts}
-use Rattle.fill_session.proofs.OneAnswer.{answer_is_one, value_is_one}
+use Rattle.fill_session.proofs.OneAnswer.{answer_is_one}
 use Rattle.fill_session.proofs.OneFate.{branches_are_one}
 use Rattle.fill_session.proofs.Picked.{here}
-use Rattle.fill_session.proofs.Reproduced.{branch_is_one}
+use Rattle.fill_session.proofs.Taking.{objector_taken, objects_taken}
 
 -- a row in doubt is answered so
 pub asked_answer : (g : Ground) (examples : List Example) (passed : List ℕ) (q : Asked) (a : Answer) → KeysDistinguish g.tables → IsAsked g examples passed q → AnswerIs g examples q.row a → (a.state ≡ Doubt) × (a.text ≡ q.said)
@@ -32,61 +30,16 @@ asked_answer g examples passed q a keys h is =
       ap (λ (x : Answer). x.text) (sym one) ∙ h.said.2,
     )
 
--- the branch of the row, and what its program says there
-pub record TakenAt (g : Ground) (xs : List Example) (row : ℕ) (a : Answer) : Type 0 where
-  pub branches : List BranchData
-  pub branch : BranchData
-  pub are : AreBranches g xs branches
-  pub place : IsBranchAt g.sheet row branches a.branch branch
-  pub value : IsValue (ProgramIs g.sheet g.tables row branch.program) a.text
-
-pub taken : (g : Ground) (xs : List Example) (row : ℕ) (a : Answer) → AnswerIs g xs row a → a.state ≡ Doubt → TakenAt g xs row a
+-- the branch of a row in doubt
+pub taken : (g : Ground) (xs : List Example) (row : ℕ) (a : Answer) → AnswerIs g xs row a → a.state ≡ Doubt → IsTaken g xs row a.branch a.text
 taken g [] row a h doubt = absurd (let e : Sure ≡ Doubt = sym h.2 ∙ doubt in cc)
 taken g (e ∷ es) row a h doubt = record { branches = h.0; branch = h.1; are = h.2; place = h.3; value = h.4 }
 
-list_at : (before : List BranchData) (b : BranchData) (after : List BranchData) → slice_get (lists_of (before ++ b ∷ after)) (length before) ≡ Some b.examples
-list_at [] b after = refl
-list_at (x ∷ before) b after = list_at before b after
-
--- the place of the branch
-module _ (g : Ground) (xs : List Example) (row : ℕ) (a : Answer) (t : TakenAt g xs row a) where
-  pub number : suc (a.branch - 1) ≡ a.branch
-  number = let e = t.place.5 in omega arith
-
-  pub within : a.branch - 1 < length t.branches
-  within =
-      let e = t.place.5 in
-      let size : length t.branches ≡ length t.place.0 + length (t.branch ∷ t.place.1) = ap length t.place.2 ∙ length-append t.place.0 (t.branch ∷ t.place.1) in
-      omega arith
-
-  pub is_branch : IsBranch g xs (suc (a.branch - 1)) t.branch.examples
-  is_branch =
-      let k : length t.place.0 ≡ a.branch - 1 = (let e = t.place.5 in omega arith) in (
-        lists_of t.branches,
-        a.branch - 1,
-        t.are.placed,
-        subst (λ n. slice_get (lists_of t.branches) n ≡ Some t.branch.examples) k
-            (subst (λ bs. slice_get (lists_of bs) (length t.place.0) ≡ Some t.branch.examples) (sym t.place.2) (list_at t.place.0 t.branch t.place.1)),
-        refl,
-      )
-
--- the objection to the branch's answer is the row's objector
-pub objector_of : (g : Ground) (xs : List Example) (row : ℕ) (a : Answer) → AnswerIs g xs row a → a.state ≡ Doubt → (t : TakenAt g xs row a) (limit : ℕ) (found : Option ObjectionTree) → ObjectionWithin g t.branch.examples row a.text limit found
-    → ObjectorWithin g xs row (Some limit) found
-objector_of g [] row a is doubt t limit found h = absurd (let e : Sure ≡ Doubt = sym is.2 ∙ doubt in cc)
-objector_of g (e ∷ es) row a is doubt t limit (Some o) h = (t.branches, a.branch, t.branch, a.text, t.are, t.place, t.value, h)
-objector_of g (e ∷ es) row a is doubt t limit None h = λ o k.
-    let lists : k.0 ≡ t.branches = branches_are_one g (e ∷ es) k.0 t.branches k.4 t.are in
-    let at = subst (λ (l : List BranchData). IsBranchAt g.sheet row l k.1 k.2) lists k.5 in
-    let one = branch_is_one g.sheet row t.branches k.1 a.branch k.2 t.branch at t.place in
-    let text : k.3 ≡ a.text =
-    value_is_one (ProgramIs g.sheet g.tables row t.branch.program) k.3 a.text (subst (λ (x : BranchData). IsValue (ProgramIs g.sheet g.tables row x.program) k.3) one.1 k.6) t.value in
-    h o.program (subst (λ (w : Option (List ℕ)). ObjectsOn g t.branch.examples row w o.program) text (subst (λ (x : BranchData). ObjectsOn g x.examples row k.3 o.program) one.1 (k.7).least.has))
-
-pub objector_told : (g : Ground) (xs : List Example) (row : ℕ) (a : Answer) → AnswerIs g xs row a → a.state ≡ Doubt → (t : TakenAt g xs row a) (limit : ℕ) (r : Result (Option Objection) NoMemory)
-    → IfOk r (λ found. ObjectionWithin g t.branch.examples row a.text limit (option_map objection_tree found)) → IfOk r (λ found. ObjectorWithin g xs row (Some limit) (option_map objection_tree found))
-objector_told g xs row a is doubt t limit (Ok found) h = objector_of g xs row a is doubt t limit (option_map objection_tree found) h
-objector_told g xs row a is doubt t limit (Err want) h = h
+-- the objection to what is answered, within a limit, is the row's objector
+pub objector_of : (g : Ground) (xs : List Example) (row n : ℕ) (text : Option (List ℕ)) (t : IsTaken g xs row n text) (limit : ℕ) (found : Option ObjectionTree)
+    → ObjectionWithin g t.branch.examples row text limit found → ObjectorWithin g xs row (Some limit) found
+objector_of g xs row n text t limit (Some o) h = objector_taken g xs row n text t (Some o) h
+objector_of g xs row n text t limit None h = λ o k. h o.program (objects_taken g xs row n text t o k)
 
 -- each branch that is shown has its examples
 pub some_branch : (g : Ground) (xs : List Example) (shown : List Branch) (are : AreShown g xs shown) (k : ℕ) → k < length shown → (list : List Example) × IsBranch g xs (suc k) list

@@ -1,7 +1,6 @@
 //! Answers on rows, and the conditional program.
-ghost use Rattle.std.specs.Prelude.{◌≡◌, ◌<◌, ◌≤◌, ◌^◌, List as Listed, length, IfOk, IfSome, IsTrue, ◌↔◌, MatchOption, map, option_map};
+ghost use Rattle.std.specs.Prelude.{◌≡◌, ◌<◌, ◌≤◌, ◌^◌, [], List as Listed, None, length, IfOk, IfSome, IsTrue, ◌↔◌, MatchOption, map, option_map};
 ghost use Rattle.std.specs.List.{AllZip, flat_map};
-ghost use Rattle.fill_split.specs.Standing.{rule_of};
 ghost use Rattle.fill_tree.specs.Cost.{program_cost};
 ghost use Rattle.fill_tree.specs.Guard.{ReadsInputs};
 ghost use Rattle.fill_tree.specs.Meaning.{program_tree};
@@ -11,89 +10,105 @@ ghost use Rattle.fill_doubt.specs.Shapes.{ShapesStand};
 ghost use Rattle.fill_space.specs.Objector.{objection_tree};
 ghost use Rattle.fill_space.specs.Spaces.{SpaceStands};
 ghost use Rattle.fill_session.specs.Answers.{AnswerIs, StateIs, TakesRow, cases_of, switch_of};
-ghost use Rattle.fill_session.specs.Branches.{rule_of_profile, BranchData};
+ghost use Rattle.fill_session.specs.Branches.{BranchData};
 ghost use Rattle.fill_session.specs.Objector.{ObjectorIs};
-ghost use Rattle.fill_session.specs.State.{AreShown, IsHeld, Shows, SpacesStand};
-ghost use Rattle.fill_session.specs.Taken.{ReadInputs, NoneTakes, IsFirstTaker};
+ghost use Rattle.fill_session.specs.State.{Shows};
+ghost use Rattle.fill_session.specs.Taken.{ReadInputs, NoneTakes, IsFirstTaker, IsTaken};
 
 use crate::answer::{Answer, State};
 use crate::branch::Branch;
-use crate::present::Present;
 use crate::reasons::is_given;
+use crate::session::Session;
 use fill_eval::{guard_holds, program_value};
 use fill_sheet::Sheet;
 use fill_space::{Objection, Shapes, Space, Spaces};
-use fill_split::Folds;
-use fill_text::{List, NoMemory};
+use fill_text::{List, NoMemory, Text};
 use fill_tree::{Case, Example, Guard, Switch};
 use std::alloc::Global;
 
-/// The answer on a row of the branches that are shown for the examples.
+/// The branch that a row takes, and what its program answers there.
+#[derive(Drop)]
+pub(crate) struct Taken {
+    /// Its number, from 1.
+    pub branch: u32,
+    /// What its program answers; none where it has no value.
+    pub text: Option<Text>,
+}
+
+/// The answer on a row.
 pub(crate) fn answer_on(
     alloc: Global,
+    session: &Session,
     shapes: &mut Shapes,
-    spaces: &Spaces,
-    examples: &[Example],
-    shown: &[Branch],
-    folds: &Folds<Spaces>,
     row: u32,
 ) -> Result<Answer, NoMemory>
-    requires stand { SpacesStand spaces.now examples.now folds.now }
-    requires rule { rule_of folds.now ≡ rule_of_profile spaces.now.ground.settings.profile }
-    requires shown { AreShown spaces.now.ground examples.now shown.now }
     requires first { 1 ≤ row }
-    requires last { row ≤ length spaces.now.ground.sheet.rows }
-    requires shapes { ShapesStand spaces.now.arena shapes.old }
-    ensures shapes { ShapesStand spaces.now.arena shapes.new }
-    ensures answer { IfOk result (AnswerIs spaces.now.ground examples.now row) }
+    requires last { row ≤ length session.now.spaces.ground.sheet.rows }
+    requires shapes { ShapesStand session.now.spaces.arena shapes.old }
+    ensures shapes { ShapesStand session.now.spaces.arena shapes.new }
+    ensures answer { IfOk result (AnswerIs session.now.spaces.ground session.now.examples row) }
 {
-    let folds = folds.branches();
-    match first_taker(spaces.sheet(), shown, row) {
-        Some(k) => {
-            let program = &shown[k].program;
-            let text = program_value(alloc, program, row, spaces.sheet(), spaces.tables())?;
-            let state = state_of(shapes, spaces, examples, folds[k].kept, row)?;
-            Ok(Answer {
-                branch: k as u32 + 1,
-                text,
-                state,
-            })
-        }
-        None => Ok(Answer {
+    let Some(taken) = taken_on(alloc, session, row)? else {
+        return Ok(Answer {
             branch: 0,
             text: None,
             state: State::Sure,
-        }),
-    }
+        });
+    };
+    let space = session.space(taken.branch);
+    let state = state_of(shapes, session.spaces(), session.examples(), space, row)?;
+    Ok(Answer {
+        branch: taken.branch,
+        text: taken.text,
+        state,
+    })
 }
 
-/// Who objects on a row to what is answered there by what is present.
+/// Who objects on a row to what is answered there.
 pub(crate) fn objector_on(
     alloc: Global,
-    spaces: &Spaces,
-    present: &Present,
+    session: &Session,
     row: u32,
 ) -> Result<Option<Objection>, NoMemory>
-    requires held { IsHeld spaces.now present.now.examples present.now.folds present.now.branches }
     requires first { 1 ≤ row }
-    requires last { row ≤ length spaces.now.ground.sheet.rows }
-    ensures objector { IfOk result (λ found. ObjectorIs spaces.now.ground present.now.examples row (option_map objection_tree found)) }
-    ensures few { IfOk result (λ found. IfSome found (λ o. program_cost spaces.now.ground.settings.profile.prices (program_tree o.program) < 2 ^ 64)) }
+    requires last { row ≤ length session.now.spaces.ground.sheet.rows }
+    ensures objector { IfOk result (λ found. ObjectorIs session.now.spaces.ground session.now.examples row (option_map objection_tree found)) }
+    ensures few { IfOk result (λ found. IfSome found (λ o. program_cost session.now.spaces.ground.settings.profile.prices (program_tree o.program) < 2 ^ 64)) }
 {
-    let shown = present.branches.as_slice();
-    let folds = present.folds.branches();
-    match first_taker(spaces.sheet(), shown, row) {
-        Some(k) => {
-            let program = &shown[k].program;
-            let text = program_value(alloc, program, row, spaces.sheet(), spaces.tables())?;
-            spaces.object(folds[k].kept, row, text.as_ref())
-        }
-        None => Ok(None),
-    }
+    let Some(taken) = taken_on(alloc, session, row)? else {
+        return Ok(None);
+    };
+    let space = session.space(taken.branch);
+    session.spaces().object(space, row, taken.text.as_ref())
+}
+
+/// The branch that a row takes; none only where there is no example.
+pub(crate) fn taken_on(
+    alloc: Global,
+    session: &Session,
+    row: u32,
+) -> Result<Option<Taken>, NoMemory>
+    requires first { 1 ≤ row }
+    requires last { row ≤ length session.now.spaces.ground.sheet.rows }
+    ensures none { IfOk result (λ found. found ≡ None → session.now.examples ≡ []) }
+    ensures taken { IfOk result (λ found. IfSome found (λ t. IsTaken session.now.spaces.ground session.now.examples row t.branch t.text)) }
+    ensures bounds { IfOk result (λ found. IfSome found (λ t. (1 ≤ t.branch) × (t.branch ≤ length session.now.branches))) }
+{
+    let spaces = session.spaces();
+    let shown = session.branches();
+    let Some(k) = first_taker(spaces.sheet(), shown, row) else {
+        return Ok(None);
+    };
+    let program = &shown[k].program;
+    let text = program_value(alloc, program, row, spaces.sheet(), spaces.tables())?;
+    Ok(Some(Taken {
+        branch: k as u32 + 1,
+        text,
+    }))
 }
 
 /// The place of the first branch that takes the row.
-pub(crate) fn first_taker(sheet: &Sheet, shown: &[Branch], row: u32) -> Option<usize>
+fn first_taker(sheet: &Sheet, shown: &[Branch], row: u32) -> Option<usize>
     requires first { 1 ≤ row }
     requires last { row ≤ length sheet.now.rows }
     requires inputs { ReadInputs sheet.now shown.now }

@@ -283,16 +283,7 @@ impl Session {
         ensures shapes { ShapesStand self.now.spaces.arena shapes.new }
         ensures answer { IfOk result (AnswerIs self.now.spaces.ground self.now.examples row) }
     {
-        let present = &self.present;
-        answer_on(
-            self.alloc,
-            shapes,
-            &self.spaces,
-            present.examples.as_slice(),
-            present.branches.as_slice(),
-            &present.folds,
-            row,
-        )
+        answer_on(self.alloc, self, shapes, row)
     }
 
     /// Who objects on a row to what is answered there: of the programs that explain the examples of the row's branch the
@@ -305,7 +296,7 @@ impl Session {
         ensures few { IfOk result (λ found. IfSome found (λ o. program_cost self.now.spaces.ground.settings.profile.prices (program_tree o.program) < 2 ^ 64)) }
     {
         self.spaces.tables().keeps_keys();
-        objector_on(self.alloc, &self.spaces, &self.present, row)
+        objector_on(self.alloc, self, row)
     }
 
     /// Which row to look at next: first the rows in doubt without an answer, then that whose objector comes first by the

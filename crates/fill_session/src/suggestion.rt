@@ -8,12 +8,11 @@ ghost use Rattle.fill_session.specs.Answers.{AnswerIs};
 ghost use Rattle.fill_session.specs.Suggested.{FirstAsked, IsAskedAt, IsFew, LeadsStand, NoneAsked, ObjectorWithin, SuggestionIs, asked_of, cost_of, is_silent};
 ghost use Rattle.fill_session.specs.declared.answer.State.TheVariants.{Doubt};
 
-use crate::answers::first_taker;
+use crate::answers::taken_on;
 use crate::candidates::{Told, comes_first, told_of};
 use crate::leads::{Lead, leads_of};
 use crate::session::Session;
 use crate::{Answer, State};
-use fill_eval::program_value;
 use fill_space::{Objection, Shapes};
 use fill_text::{NoMemory, Text};
 use fill_tree::Prices;
@@ -126,21 +125,19 @@ fn asked_on(
     if is_among(row, asking.passed) {
         return Ok(None);
     }
-    let spaces = asking.session.spaces();
-    spaces.tables().keeps_keys();
-    let shown = asking.session.branches();
-    let Some(k) = first_taker(spaces.sheet(), shown, row) else {
+    let session = asking.session;
+    session.spaces().tables().keeps_keys();
+    let Some(taken) = taken_on(asking.alloc, session, row)? else {
         return Ok(None);
     };
-    let program = &shown[k].program;
-    let text = program_value(asking.alloc, program, row, spaces.sheet(), spaces.tables())?;
-    if !is_alike(&text, asking.silent) {
+    if !is_alike(&taken.text, asking.silent) {
         return Ok(None);
     }
-    match told_of(asking.alloc, spaces, &asking.leads[k], row, &text, best)? {
+    let lead = &asking.leads[taken.branch as usize - 1];
+    match told_of(asking.alloc, session.spaces(), lead, row, &taken.text, best)? {
         Told::Found(objection) => Ok(Some(Suggestion {
             row,
-            answer: text,
+            answer: taken.text,
             objection,
         })),
         Told::Nothing => Ok(None),

@@ -5,7 +5,8 @@ use Rattle.fill_space.specs.Objector.{ObjectionWithin, objection_tree}
 use Rattle.fill_space.specs.Spaces.{GuideStands, SpacesData, SpaceStands}
 use Rattle.fill_session.specs.Suggested.{ObjectorWithin}
 use Rattle.fill_session.proofs.Picked.{here}
-use Rattle.fill_session.proofs.Searching.{is_branch, objector_told, ok_on, taken, within}
+use Rattle.fill_session.proofs.Searching.{objector_of, ok_on, taken}
+use Rattle.fill_session.proofs.Taking.{is_branch_from_0, within}
 use Rattle.fill_session.proofs.suggestion.objector_within.Goals as goal
 
 pub bounds-asking-answer : goal.bounds-asking-answer
@@ -14,7 +15,7 @@ bounds-asking-answer c =
     let g = s.spaces.ground in
     let t = taken g s.examples c.args.row c.args.answer.now c.requires.answer c.requires.doubt in
     let many = c.requires.leads.many t.branches t.are in
-    let lt = within g s.examples c.args.row c.args.answer.now t in
+    let lt = within g s.examples c.args.row c.args.answer.now.branch c.args.answer.now.text t in
     omega arith
 
 pub object_within-requires-clause-stands : goal.object_within-requires-clause-stands
@@ -25,12 +26,12 @@ object_within-requires-clause-stands c =
     let k = c.args.answer.now.branch - 1 in
     let t = taken g s.examples c.args.row c.args.answer.now c.requires.answer c.requires.doubt in
     let many = c.requires.leads.many t.branches t.are in
-    let lt = within g s.examples c.args.row c.args.answer.now t in
+    let lt = within g s.examples c.args.row c.args.answer.now.branch c.args.answer.now.text t in
     let at = here leads k c.index-asking-answer.result (omega arith) in
     let lead = get_or leads k c.index-asking-answer.result in (
       t.branch.examples,
       subst (λ (v : SpacesData). SpaceStands v lead.space t.branch.examples) (sym c.spaces.ensures)
-          (c.requires.leads.spaces k lead at t.branch.examples (is_branch g s.examples c.args.row c.args.answer.now t)),
+          (c.requires.leads.spaces k lead at t.branch.examples (is_branch_from_0 g s.examples c.args.row c.args.answer.now.branch c.args.answer.now.text t)),
     )
 
 pub object_within-requires-clause-guide : goal.object_within-requires-clause-guide
@@ -41,7 +42,7 @@ object_within-requires-clause-guide c =
     let k = c.args.answer.now.branch - 1 in
     let t = taken g s.examples c.args.row c.args.answer.now c.requires.answer c.requires.doubt in
     let many = c.requires.leads.many t.branches t.are in
-    let lt = within g s.examples c.args.row c.args.answer.now t in
+    let lt = within g s.examples c.args.row c.args.answer.now.branch c.args.answer.now.text t in
     let at = here leads k c.index-asking-answer.result (omega arith) in
     let lead = get_or leads k c.index-asking-answer.result in
     subst (λ (v : SpacesData). GuideStands v lead.space lead.guide) (sym c.spaces.ensures) (c.requires.leads.each k lead at).guide
@@ -56,14 +57,14 @@ returns-clause-within c =
     let k = answer.branch - 1 in
     let t = taken g s.examples row answer c.requires.answer c.requires.doubt in
     let many = c.requires.leads.many t.branches t.are in
-    let lt = within g s.examples row answer t in
+    let lt = within g s.examples row answer.branch answer.text t in
     let at = here leads k c.index-asking-answer.result (omega arith) in
     let lead = get_or leads k c.index-asking-answer.result in
     let limit = c.in-Some.limit in
     let r = c.object_within.result in
-    let stands : SpaceStands s.spaces lead.space t.branch.examples = c.requires.leads.spaces k lead at t.branch.examples (is_branch g s.examples row answer t) in
+    let stands : SpaceStands s.spaces lead.space t.branch.examples = c.requires.leads.spaces k lead at t.branch.examples (is_branch_from_0 g s.examples row answer.branch answer.text t) in
     let all : IfOk r (λ found. (l : List Example) → SpaceStands s.spaces lead.space l → ObjectionWithin g l row answer.text limit (option_map objection_tree found)) =
     subst (λ (v : SpacesData). IfOk r (λ found. (l : List Example) → SpaceStands v lead.space l → ObjectionWithin v.ground l row answer.text limit (option_map objection_tree found))) c.spaces.ensures
     (subst (λ (text : Option (List ℕ)). IfOk r (λ found. (l : List Example) → SpaceStands c.spaces.result.now lead.space l → ObjectionWithin c.spaces.result.now.ground l row text limit (option_map objection_tree found))) c.as_ref.ensures.value c.object_within.ensures.objection) in
     subst (λ (o : Option ℕ). IfOk r (λ found. ObjectorWithin g s.examples row o (option_map objection_tree found))) (sym c.in-Some.is)
-    (objector_told g s.examples row answer c.requires.answer c.requires.doubt t limit r (ok_on _ _ r all (λ found h. h t.branch.examples stands)))
+    (ok_on _ _ r all (λ found h. objector_of g s.examples row answer.branch answer.text t limit (option_map objection_tree found) (h t.branch.examples stands)))
