@@ -1,0 +1,5 @@
+pub mod Accepting
+pub mod Merging
+pub mod Numbers
+pub mod Opening
+pub mod Standing
