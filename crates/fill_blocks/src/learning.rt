@@ -55,11 +55,13 @@ impl Block {
     {
         match self.add(number, text, steps) {
             Ok(()) => Ok(()),
-            Err(EditError::NoMemory) => Err(NoMemory),
-            Err(reason) => refused.push(Refused {
-                row: number,
-                reason,
-            }),
+            Err(reason) => match reason {
+                EditError::NoMemory => Err(NoMemory),
+                _ => refused.push(Refused {
+                    row: number,
+                    reason,
+                }),
+            },
         }
     }
 
