@@ -1,5 +1,5 @@
 -- What is so over a block is so over the long sheet.
-use Rattle.std.proofs.Common.{◌≡◌, ◌≢◌, ◌∙◌, ℕ, ◌<◌, ◌≤◌, ◌==◌, nat_le, List, [], ◌∷◌, length, map, slice_get, position, All, Contains, Option, Result, Ok, Err, None, Some, option_map, option_and_then, ap, arith, refl, subst, sym, ⊎_elim}
+use Rattle.std.proofs.Common.{◌≡◌, ◌≢◌, ◌∙◌, ℕ, ◌≤◌, ◌==◌, nat_le, List, [], ◌∷◌, length, map, slice_get, position, All, Contains, Option, Result, Ok, Err, None, Some, option_map, option_and_then, ap, arith, refl, subst, sym, ⊎_elim}
 use Rattle.std.specs.Prelude.{true, ◌&&◌, ⊤}
 use Rattle.std.proofs.lemmas.Bool.{cases_order, le-leb}
 use Rattle.std.proofs.lemmas.List.Elements.{All-cons, All-contains, All-map}
@@ -16,7 +16,7 @@ use Rattle.fill_session.specs.Answers.{AnswerIs, switch_of, with_branch}
 use Rattle.fill_session.specs.Branches.{AreBranches, BranchData}
 use Rattle.fill_session.specs.Edits.{changed, rows_of}
 use Rattle.fill_session.specs.Objector.{ObjectorIs}
-use Rattle.fill_session.specs.Outcome.{Answers, OutcomeIs, cells_length, inputs_length, is_row}
+use Rattle.fill_session.specs.Outcome.{Answers, OutcomeIs, cells_length}
 use Rattle.fill_session.specs.declared.answer.Answer.{Answer}
 use Rattle.fill_session.specs.declared.error.EditError.{EditError}
 use Rattle.fill_session.specs.declared.error.EditError.TheVariants as error

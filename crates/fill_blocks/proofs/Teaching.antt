@@ -6,7 +6,7 @@ use Rattle.fill_space.specs.declared.ground.Ground.{Ground}
 use Rattle.fill_session.specs.Outcome.{Answers}
 use Rattle.fill_session.specs.declared.error.EditError.{EditError}
 use Rattle.fill_session.specs.declared.error.EditError.TheVariants as error
-use Rattle.fill_filled.specs.Learned.{Gives, given_for}
+use Rattle.fill_filled.specs.Learned.{Gives}
 use Rattle.fill_filled.specs.declared.learning.Refused.{Refused}
 use Rattle.fill_blocks.specs.Blocks.{BlockData, StandsFor}
 

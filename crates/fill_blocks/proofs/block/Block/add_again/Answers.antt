@@ -1,5 +1,5 @@
 -- An example that was accepted is accepted again: an edit has one outcome.
-use Rattle.std.proofs.Common.{◌≡◌, ◌∙◌, ℕ, List, None, Some, ap, subst}
+use Rattle.std.proofs.Common.{◌∙◌, ℕ, List, None, Some, ap, subst}
 use Rattle.std.proofs.lemmas.Option.{none-some}
 use Rattle.fill_tree.specs.declared.user.Edit.TheVariants.{Add}
 use Rattle.fill_tree.specs.declared.user.Example.{Example}

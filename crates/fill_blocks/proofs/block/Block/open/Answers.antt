@@ -6,7 +6,6 @@ use Rattle.fill_space.specs.declared.ground.Ground.{Ground}
 use Rattle.fill_session.specs.Timeline.{Timeline}
 use Rattle.fill_blocks.specs.Merged.{PartData, merged, no_rows}
 use Rattle.fill_blocks.specs.Numbers.{Rise}
-use Rattle.fill_blocks.specs.declared.numbered.Numbered.{Numbered}
 use Rattle.fill_blocks.proofs.Merging.{as_long, first_there, made, numbers_rise, second_there}
 use Rattle.fill_blocks.proofs.Opening.{opened}
 use Rattle.fill_blocks.proofs.block.Block.open.Goals as goal

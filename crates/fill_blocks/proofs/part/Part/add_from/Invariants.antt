@@ -1,5 +1,5 @@
-use Rattle.std.proofs.Common.{◌≡◌, ◌≤◌, ◌+◌, ◌-◌, All, drop, length}
-use Rattle.fill_blocks.specs.Merged.{IsReadable, with_rows}
+use Rattle.std.proofs.Common.{◌≡◌, ◌≤◌, ◌+◌, ◌-◌, drop, length}
+use Rattle.fill_blocks.specs.Merged.{with_rows}
 use Rattle.fill_blocks.proofs.part.Part.add_from.Given as goal
 
 abbrev pub invariant-loop-next : goal.invariant-loop-next
