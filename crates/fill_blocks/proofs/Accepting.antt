@@ -1,5 +1,5 @@
 -- Examples that rows give in order were accepted one after the other.
-use Rattle.std.proofs.Common.{◌≡◌, ◌∙◌, ℕ, zero, suc, ◌+◌, ◌<◌, ◌==◌, nat_lt, List, [], ◌∷◌, ◌++◌, All, Option, None, Some, ap, append_assoc, append-nil, arith, inl, inr, refl, subst, sym}
+use Rattle.std.proofs.Common.{◌≡◌, ◌∙◌, ℕ, zero, suc, ◌+◌, ◌<◌, List, [], ◌∷◌, ◌++◌, All, Option, None, Some, ap, append_assoc, append-nil, arith, inl, inr, refl, subst, sym}
 use Rattle.std.specs.List.{range_with_len}
 use Rattle.std.proofs.lemmas.Bool.{lt-ltb}
 use Rattle.std.proofs.lemmas.List.Elements.{All-append, All-cons, All-head, All-nil, All-tail}
@@ -7,7 +7,6 @@ use Rattle.fill_tree.specs.declared.user.Edit.TheVariants.{Add}
 use Rattle.fill_tree.specs.declared.user.Example.{Example}
 use Rattle.fill_space.specs.declared.ground.Ground.{Ground}
 use Rattle.fill_session.specs.Edits.{changed, with_example}
-use Rattle.fill_session.specs.declared.error.EditError.{EditError}
 use Rattle.fill_filled.specs.Learned.{Gives, Learns, LearnsFirst, given_for}
 use Rattle.fill_filled.specs.declared.learning.Refused.{Refused}
 use Rattle.fill_blocks.specs.Accepted.{Accepts, AreAccepted}

@@ -1,5 +1,5 @@
 //! Blocks.
-ghost use Rattle.std.specs.Prelude.{◌≡◌, ◌∷◌, ◌≤◌, ◌+◌, ℕ, List as Listed, All, Contains, IfOk, MatchOption, None, OnErr, OnOk, [], length, option_copied, option_map};
+ghost use Rattle.std.specs.Prelude.{◌≡◌, ◌≤◌, ◌+◌, List as Listed, All, Contains, IfOk, MatchOption, None, OnErr, OnOk, [], length, option_copied, option_map};
 ghost use Rattle.std.specs.Option.{ForSome};
 ghost use Rattle.fill_doubt.specs.Shapes.{ShapesStand};
 ghost use Rattle.fill_sheet.specs.Columns.{AreInputs, IsColumn, rising};
