@@ -1,10 +1,11 @@
 -- Rows of a part and their numbers in the long sheet.
-use Rattle.std.proofs.Common.{◌≡◌, ℕ, zero, suc, ◌<◌, ◌≤◌, List, [], ◌∷◌, length, get_or, slice_get, Contains, Some, Result, Ok, Err, MatchResult, arith, subst, sym, ⊎_elim}
+use Rattle.std.proofs.Common.{◌≡◌, ◌∙◌, ℕ, zero, suc, ◌<◌, ◌≤◌, List, [], ◌∷◌, length, get_or, slice_get, Contains, Some, Result, Ok, Err, MatchResult, arith, subst, sym, ⊎_elim}
 use Rattle.std.specs.List.{AllZip}
 use Rattle.std.specs.List.Sorted.{IsBinarySearchResult}
 use Rattle.std.specs.Ordering.{nat_cmp}
 use Rattle.std.proofs.lemmas.Bool.{cases_lt}
 use Rattle.std.proofs.lemmas.Grind.{get_or_default_zero}
+use Rattle.std.proofs.lemmas.List.{get_or_default}
 use Rattle.std.proofs.lemmas.List.Sorted.{searched}
 use Rattle.std.proofs.lemmas.Result.{MatchResult-at_err}
 use Rattle.fill_text.specs.Data.{RowData, nth}
@@ -59,6 +60,15 @@ found numbers rise number has (Err place) result =
     let is = has.2 in
     let same = get_or_default_zero numbers has.0 number has.1 in
     ⊎_elim (λ less. let below = s.1 has.0 less in omega (arith, below, same, is)) (λ most. let over = s.2 has.0 most has.1 in omega (arith, over, same, is)) (cases_lt has.0 place)
+
+-- a number that is found is there
+pub has_found : (numbers : List ℕ) → Rise numbers → (number : ℕ) (r : Result ℕ ℕ) → IsBinarySearchResult (λ y. nat_cmp y number) numbers r → (above : ℕ) → r ≡ Ok above
+    → (above < length numbers) × (get_or numbers above 0 ≡ number) × Contains numbers number
+has_found numbers rise number (Ok above) result other is =
+    let s = searched numbers number (Ok above) result (not_falling numbers rise) in
+    let one : above ≡ other = cc in
+    subst (λ k. (k < length numbers) × (get_or numbers k 0 ≡ number) × Contains numbers number) one (s.0, s.1, (above, s.0, get_or_default numbers above number 0 s.0 ∙ s.1))
+has_found numbers rise number (Err place) result other is = absurd cc
 
 -- a number that is not found is not there
 pub lacks : (numbers : List ℕ) → Rise numbers → (number : ℕ) (r : Result ℕ ℕ) → IsBinarySearchResult (λ y. nat_cmp y number) numbers r → (place : ℕ) → r ≡ Err place → Contains numbers number → ⊥

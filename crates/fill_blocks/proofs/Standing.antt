@@ -1,5 +1,5 @@
 -- What is so over a block is so over the long sheet.
-use Rattle.std.proofs.Common.{◌≡◌, ◌≢◌, ◌∙◌, ℕ, ◌≤◌, ◌==◌, nat_le, List, [], ◌∷◌, length, map, slice_get, position, All, Contains, Option, Result, Ok, Err, None, Some, option_map, option_and_then, ap, arith, refl, subst, sym, ⊎_elim}
+use Rattle.std.proofs.Common.{◌≡◌, ◌≢◌, ◌∙◌, ℕ, ◌+◌, ◌<◌, ◌≤◌, ◌==◌, nat_le, add-one, List, [], ◌∷◌, length, get_or, map, slice_get, position, All, Contains, Option, Result, Ok, Err, None, Some, option_map, option_and_then, ap, arith, refl, subst, sym, ⊎_elim}
 use Rattle.std.specs.Prelude.{true, ◌&&◌, ⊤}
 use Rattle.std.proofs.lemmas.Bool.{cases_order, le-leb}
 use Rattle.std.proofs.lemmas.List.Elements.{All-cons, All-contains, All-map}
@@ -161,6 +161,16 @@ module _ (g : Ground) (block : BlockData) (examples : List Example) (s : StandsF
   branches_there bs b =
       subst (λ (l : List Example). AreBranches g l (map (renumbered_branch number) bs)) (sym s.same)
       (branches_renumbered h g number es bs (in_order g h block.numbers s.part (rows_of es) (rows_within h es each)).renumbered b)
+
+-- a number of the block is that of a row
+pub has_number : (block : BlockData) → length block.numbers ≡ length block.session.spaces.ground.sheet.rows → (number above : ℕ) → above < length block.numbers → get_or block.numbers above 0 ≡ number
+    → Contains block.numbers number → HasNumber block number (above + 1)
+has_number block size number above lt is has = record {
+  first = omega arith;
+  last = omega (arith, size, lt);
+  same = rw add-one is;
+  here = has;
+}
 
 -- the text that the sheet gives for a row of the block
 pub given_there : (g : Ground) (block : BlockData) (examples : List Example) → StandsFor g block examples → (b : BlockData) → b ≡ block → (n row : ℕ) → HasNumber block n row

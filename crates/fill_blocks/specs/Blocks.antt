@@ -1,5 +1,5 @@
 -- Some rows of a long sheet as a sheet of their own.
-use Rattle.std.specs.Prelude.{◌≡◌, ◌≤◌, ℕ, List, length}
+use Rattle.std.specs.Prelude.{◌≡◌, ◌≤◌, ℕ, Contains, List, length}
 use Rattle.std.specs.List.{AllZip}
 use Rattle.fill_tree.specs.declared.user.Example.{Example}
 use Rattle.fill_space.specs.declared.ground.Ground.{Ground}
@@ -28,3 +28,4 @@ pub record HasNumber (block : BlockData) (number row : ℕ) : Type 0 where
   pub first : 1 ≤ row
   pub last : row ≤ length block.session.spaces.ground.sheet.rows
   pub same : number_at block.numbers row ≡ number
+  pub here : Contains block.numbers number
