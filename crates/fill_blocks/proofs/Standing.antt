@@ -1,4 +1,4 @@
--- What is so over a block is so over the long sheet.
+-- What holds over a block holds over the long sheet.
 use Rattle.std.proofs.Common.{◌≡◌, ◌≢◌, ◌∙◌, ℕ, ◌+◌, ◌<◌, ◌≤◌, ◌==◌, nat_le, add-one, List, [], ◌∷◌, length, get_or, map, slice_get, position, All, Contains, Option, Result, Ok, Err, None, Some, option_map, option_and_then, ap, arith, refl, subst, sym, ⊎_elim}
 use Rattle.std.specs.Prelude.{true, ◌&&◌, ⊤}
 use Rattle.std.proofs.lemmas.Bool.{cases_order, le-leb}

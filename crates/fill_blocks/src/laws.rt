@@ -8,7 +8,7 @@ ghost use Rattle.fill_filled.specs.Learned.{LearnsFirst};
 ghost use Rattle.fill_filled.specs.declared.learning.Refused.{Refused};
 ghost use Rattle.fill_blocks.specs.Accepted.{AreAccepted};
 
-/// The examples that so many first rows of a sheet give were accepted one after the other.
+/// The examples that the first rows of a sheet give were accepted one after the other.
 pub fn learned_are_accepted()
     ensures { (typed : List Example) (g : Ground) (n : ℕ) (examples : List Example) (refused : List Refused) →
         LearnsFirst typed g n examples refused → AreAccepted g examples }
