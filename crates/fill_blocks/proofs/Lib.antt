@@ -1,0 +1,6 @@
+pub mod Accepting
+pub mod Merging
+pub mod Numbers
+pub mod Opening
+pub mod Standing
+pub mod Teaching

@@ -1,0 +1,4 @@
+pub mod Numbers
+pub mod Merged
+pub mod Blocks
+pub mod Accepted

@@ -1,0 +1,52 @@
+//! What a row of a block is written as.
+ghost use Rattle.std.specs.Prelude.{◌≡◌, ◌<◌, ◌≤◌, List as Listed, Contains, IfOk, IfSome, Some, length};
+ghost use Rattle.fill_text.specs.Data.{nth};
+ghost use Rattle.fill_tree.specs.declared.user.Example.{Example as ExampleData};
+ghost use Rattle.fill_space.specs.declared.ground.Ground.{Ground};
+ghost use Rattle.fill_session.specs.Answers.{AnswerIs};
+ghost use Rattle.fill_report.specs.Records.{Fields};
+ghost use Rattle.fill_filled.specs.Filled.{IsCellState, IsFilledRow};
+ghost use Rattle.fill_blocks.specs.Blocks.{StandsFor};
+
+use crate::block::Block;
+use crate::numbered::Numbered;
+use fill_filled::{Form, cell_state, filled_fields, typed_at};
+use fill_report::RowState;
+use fill_session::Answer;
+use fill_text::{List, NoMemory};
+use fill_tree::Example;
+use std::alloc::Global;
+
+impl Block {
+    /// The fields of a row of the long sheet with its answer.
+    pub fn row_fields(
+        &self,
+        alloc: Global,
+        form: &Form,
+        typed: &[Example],
+        row: &Numbered,
+        answer: &Answer,
+    ) -> Result<List<List<u8>>, NoMemory>
+        requires here { Contains self.now.numbers row.now.number }
+        requires column { 1 ≤ form.now.column }
+        requires states { IfSome form.now.states (λ column. 1 ≤ column) }
+        ensures made { IfOk result (λ made. (g : Ground) (examples : Listed ExampleData) (records : Listed Fields) → StandsFor g self.now examples →
+            nth records row.now.number ≡ Some row.now.fields → AnswerIs g examples row.now.number answer.now →
+            IsFilledRow form.now typed.now g examples records row.now.number made) }
+        ensures some { IfOk result (λ made. 0 < length made) }
+    {
+        let text = typed_at(typed, row.number);
+        let cell = self.given(row.number);
+        let fields = filled_fields(alloc, form, text, cell, answer, &row.fields)?;
+        Ok(List::from_vec(fields))
+    }
+
+    /// The state of the cell of a row of the long sheet with its answer.
+    pub fn row_state(&self, typed: &[Example], number: u32, answer: &Answer) -> RowState
+        requires here { Contains self.now.numbers number }
+        ensures { (g : Ground) (examples : Listed ExampleData) → StandsFor g self.now examples → AnswerIs g examples number answer.now →
+            IsCellState typed.now g examples number result }
+    {
+        cell_state(self.given_for(number, typed), answer)
+    }
+}
