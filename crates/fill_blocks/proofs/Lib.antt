@@ -3,4 +3,3 @@ pub mod Merging
 pub mod Numbers
 pub mod Opening
 pub mod Standing
-pub mod Teaching

@@ -11,18 +11,16 @@ use Rattle.fill_tree.specs.declared.user.Edit.TheVariants.{Add}
 use Rattle.fill_tree.specs.declared.user.Example.{Example}
 use Rattle.fill_space.specs.Ground.{MayStand}
 use Rattle.fill_space.specs.declared.ground.Ground.{Ground}
-use Rattle.fill_space.specs.Objector.{ObjectionTree}
 use Rattle.fill_session.specs.Answers.{AnswerIs, switch_of, with_branch}
 use Rattle.fill_session.specs.Branches.{AreBranches, BranchData}
 use Rattle.fill_session.specs.Edits.{changed, rows_of}
-use Rattle.fill_session.specs.Objector.{ObjectorIs}
 use Rattle.fill_session.specs.Outcome.{Answers, OutcomeIs, cells_length}
 use Rattle.fill_session.specs.declared.answer.Answer.{Answer}
 use Rattle.fill_session.specs.declared.error.EditError.{EditError}
 use Rattle.fill_session.specs.declared.error.EditError.TheVariants as error
 use Rattle.fill_local.specs.Local.{AreInOrder, AreRenumbered, HoldSame, renumbered, renumbered_branch, renumbered_reason}
 use Rattle.fill_local.proofs.Editing.{changed_to, outcome_to}
-use Rattle.fill_local.proofs.Renumbering.{answer_renumbered, branches_renumbered, objector_renumbered}
+use Rattle.fill_local.proofs.Renumbering.{answer_renumbered, branches_renumbered}
 use Rattle.fill_session.specs.State.{SessionData}
 use Rattle.fill_blocks.specs.Blocks.{BlockData, HasNumber, IsPart, StandsFor}
 use Rattle.fill_blocks.specs.Numbers.{number_at}
@@ -105,9 +103,6 @@ module _ (g : Ground) (block : BlockData) (examples : List Example) (s : StandsF
     pub answer_there : (a : Answer) → AnswerIs h es row a → AnswerIs g examples (number row) a
     answer_there a w = subst (λ (l : List Example). AnswerIs g l (number row) a) (sym s.same) (answer_renumbered h g number es row all_in_order.renumbered a w)
 
-    pub objector_there : (found : Option ObjectionTree) → ObjectorIs h es row found → ObjectorIs g examples (number row) found
-    objector_there found w = subst (λ (l : List Example). ObjectorIs g l (number row) found) (sym s.same) (objector_renumbered h g number es row all_in_order.renumbered found w)
-
     outcome_there : (text : List ℕ) (o : Option EditError) → OutcomeIs h es (Add row text) o → OutcomeIs g examples (Add (number row) text) (option_map (renumbered_reason number) o)
     outcome_there text o w =
         subst (λ (l : List Example). OutcomeIs g l (Add (number row) text) (option_map (renumbered_reason number) o)) (sym s.same)
@@ -139,11 +134,6 @@ module _ (g : Ground) (block : BlockData) (examples : List Example) (s : StandsF
     answered a w =
         let told = subst (λ (x : BlockData). AnswerIs x.session.spaces.ground x.session.examples row a) is w in
         subst (λ m. AnswerIs g examples m a) has.same (answer_there row has.first has.last a told)
-
-    pub objected : (found : Option ObjectionTree) → ObjectorIs b.session.spaces.ground b.session.examples row found → ObjectorIs g examples n found
-    objected found w =
-        let told = subst (λ (x : BlockData). ObjectorIs x.session.spaces.ground x.session.examples row found) is w in
-        subst (λ m. ObjectorIs g examples m found) has.same (objector_there row has.first has.last found told)
 
     -- the session after an edit
     module _ (after : SessionData) (ground : after.spaces.ground ≡ b.session.spaces.ground) where

@@ -9,12 +9,10 @@ ghost use Rattle.fill_tree.specs.Switch.{switch_tree};
 ghost use Rattle.fill_tree.specs.declared.user.Edit.TheVariants.{Add};
 ghost use Rattle.fill_tree.specs.declared.user.Example.{Example as ExampleData};
 ghost use Rattle.fill_space.specs.Ground.{MayStand};
-ghost use Rattle.fill_space.specs.Objector.{objection_tree};
 ghost use Rattle.fill_space.specs.declared.ground.Ground.{Ground};
 ghost use Rattle.fill_session.specs.Answers.{AnswerIs, switch_of};
 ghost use Rattle.fill_session.specs.Branches.{AreBranches, BranchData};
 ghost use Rattle.fill_session.specs.Edits.{changed};
-ghost use Rattle.fill_session.specs.Objector.{ObjectorIs};
 ghost use Rattle.fill_session.specs.Outcome.{Answers, OutcomeIs};
 ghost use Rattle.fill_session.specs.State.{IsAsBefore};
 ghost use Rattle.fill_local.specs.Local.{renumbered, renumbered_reason};
@@ -26,7 +24,7 @@ ghost use Rattle.fill_blocks.specs.Numbers.{number_at};
 use crate::numbered::Rows;
 use crate::part::Part;
 use fill_edge::{Ledger, Steps};
-use fill_session::{Answer, EditError, Objection, Session, Shapes};
+use fill_session::{Answer, EditError, Session, Shapes};
 use fill_tables::Tables;
 use fill_text::{List, NoMemory, Text};
 use fill_tree::{Edit, Example, Settings, Switch};
@@ -155,16 +153,6 @@ impl Block {
         self.keeps_rows();
         let row = self.row_of(number);
         self.session.answer_with(shapes, row)
-    }
-
-    /// Who objects on a row of the long sheet to what is answered there.
-    pub fn object(&self, number: u32) -> Result<Option<Objection>, NoMemory>
-        requires here { Contains self.now.numbers number }
-        ensures { IfOk result (λ found. (g : Ground) (examples : Listed ExampleData) → StandsFor g self.now examples → ObjectorIs g examples number (option_map objection_tree found)) }
-    {
-        self.keeps_rows();
-        let row = self.row_of(number);
-        self.session.object(row)
     }
 
     /// The conditional program; none where there is no branch.

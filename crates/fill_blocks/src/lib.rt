@@ -6,7 +6,6 @@
 
 mod block;
 mod laws;
-mod learning;
 mod numbered;
 mod part;
 mod writing;

@@ -1,11 +1,12 @@
-//! What a row of a block is written as.
-ghost use Rattle.std.specs.Prelude.{◌≡◌, ◌<◌, ◌≤◌, List as Listed, Contains, IfOk, IfSome, Some, length};
+//! What a row of a block gives, and what it is written as.
+ghost use Rattle.std.specs.Prelude.{◌≡◌, ◌<◌, ◌≤◌, List as Listed, Contains, IfOk, IfSome, Some, length, option_copied};
 ghost use Rattle.fill_text.specs.Data.{nth};
 ghost use Rattle.fill_tree.specs.declared.user.Example.{Example as ExampleData};
 ghost use Rattle.fill_space.specs.declared.ground.Ground.{Ground};
 ghost use Rattle.fill_session.specs.Answers.{AnswerIs};
 ghost use Rattle.fill_report.specs.Records.{Fields};
 ghost use Rattle.fill_filled.specs.Filled.{IsCellState, IsFilledRow};
+ghost use Rattle.fill_filled.specs.Learned.{given_for};
 ghost use Rattle.fill_blocks.specs.Blocks.{StandsFor};
 
 use crate::block::Block;
@@ -13,11 +14,22 @@ use crate::numbered::Numbered;
 use fill_filled::{Form, cell_state, filled_fields, typed_at};
 use fill_report::RowState;
 use fill_session::Answer;
-use fill_text::{List, NoMemory};
+use fill_text::{List, NoMemory, Text};
 use fill_tree::Example;
 use std::alloc::Global;
 
 impl Block {
+    /// What a row of the long sheet gives: the text that is typed for it, or else that of its cell.
+    pub fn given_for<'a>(&'a self, number: u32, typed: &'a [Example]) -> Option<&'a Text>
+        requires { Contains self.now.numbers number }
+        ensures { (g : Ground) (examples : Listed ExampleData) → StandsFor g self.now examples → option_copied result ≡ given_for typed.now g.sheet number }
+    {
+        match typed_at(typed, number) {
+            Some(text) => Some(text),
+            None => self.given(number),
+        }
+    }
+
     /// The fields of a row of the long sheet with its answer.
     pub fn row_fields(
         &self,
