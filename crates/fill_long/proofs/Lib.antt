@@ -1,0 +1,11 @@
+pub mod Counting
+pub mod Scanned
+pub mod Choosing
+pub mod Numbering
+pub mod Standing
+pub mod Sheets
+pub mod Teaching
+pub mod Giving
+pub mod Lessons
+pub mod Blockwise
+pub mod Records

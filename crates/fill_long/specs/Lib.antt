@@ -1,0 +1,4 @@
+pub mod Reading
+pub mod Long
+pub mod Taught
+pub mod Rows

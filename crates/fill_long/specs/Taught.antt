@@ -1,0 +1,69 @@
+-- What a long sheet taught, and what its next block is made of.
+use Rattle.std.specs.Prelude.{◌≡◌, ◌≢◌, ◌≤◌, ℕ, List, [], ◌∷◌, ◌++◌, length, Bool, true, false, Result, Ok, Err, ⊤}
+use Rattle.fill_text.specs.Data.{TableData}
+use Rattle.fill_tree.specs.declared.user.Edit.TheVariants.{Add}
+use Rattle.fill_tree.specs.declared.user.Example.{Example}
+use Rattle.fill_space.specs.declared.ground.Ground.{Ground}
+use Rattle.fill_session.specs.Edits.{rows_of as example_rows}
+use Rattle.fill_session.specs.Outcome.{Answers}
+use Rattle.fill_session.specs.declared.error.EditError.{EditError}
+use Rattle.fill_session.specs.declared.error.EditError.TheVariants as error
+use Rattle.fill_filled.specs.declared.learning.Refused.{Refused}
+use Rattle.fill_local.specs.Local.{renumbered}
+use Rattle.fill_blocks.specs.Accepted.{AreAccepted}
+use Rattle.fill_blocks.specs.Blocks.{BlockData, StandsFor}
+use Rattle.fill_blocks.specs.Merged.{numbers_of}
+use Rattle.fill_blocks.specs.Numbers.{number_at}
+use Rattle.fill_blocks.specs.declared.numbered.Numbered.{Numbered}
+use Rattle.fill_long.specs.Long.{AreRows, ground_of}
+use Rattle.fill_long.specs.declared.learning.Learned.{Learned}
+use Rattle.fill_long.specs.declared.sheet.Basis.{Basis}
+use Rattle.fill_long.specs.declared.sheet.Basis.TheVariants as basis
+use Rattle.fill_long.specs.declared.sheet.LongSheet.{LongSheet}
+
+-- what is learned over with the tables of a block
+abbrev pub ground_with : LongSheet → BlockData → Ground
+ground_with s block = ground_of s block.session.spaces.ground.tables
+
+-- the examples of a block, under the numbers of the long sheet
+abbrev pub examples_of : BlockData → List Example
+examples_of block = renumbered (number_at block.numbers) block.session.examples
+
+-- the tables of a block, or those that stand alone
+abbrev pub tables_of : Basis → List TableData
+tables_of (basis.Tables tables) = tables
+tables_of (basis.Block block) = block.session.spaces.ground.tables
+
+-- the rows of the examples are kept
+pub record IsKept (s : LongSheet) (kept : List Numbered) (examples : List Example) : Type 0 where
+  pub rows : AreRows s kept
+  pub numbers : numbers_of kept ≡ example_rows examples
+  pub few : length kept ≤ 64
+
+-- a block has these examples over the long sheet; tables alone have none
+abbrev pub HasLearned : LongSheet → List Example → Basis → Type 0
+HasLearned s examples (basis.Tables tables) = ⊤
+HasLearned s examples (basis.Block block) = StandsFor (ground_with s block) block examples
+
+-- the rows of the examples are kept, each example was accepted after those before it, and a block that is there has them
+pub record IsTaught (s : LongSheet) (learned : Learned) (b : Basis) : Type 0 where
+  pub kept : IsKept s learned.kept.items learned.examples
+  pub accepted : AreAccepted (ground_of s (tables_of b)) learned.examples
+  pub stands : HasLearned s learned.examples b
+
+-- a block of the sheet whose examples are of the rows that are kept
+pub record IsInStep (s : LongSheet) (kept : List Numbered) (block : BlockData) : Type 0 where
+  pub stands : StandsFor (ground_with s block) block (examples_of block)
+  pub numbers : numbers_of kept ≡ example_rows (examples_of block)
+  pub few : length kept ≤ 64
+
+-- what an addition was answered, over each sheet of which the block has rows
+abbrev pub Told : BlockData → BlockData → ℕ → List ℕ → Result ⊤ EditError → Type 0
+Told old new row text answer = (g : Ground) (examples : List Example) → StandsFor g old examples
+    → (after : List Example) × Answers g examples (Add row text) answer after × StandsFor g new after
+
+-- a text was added to a block; one that was not accepted is among those that are refused now
+abbrev pub Adds : BlockData → BlockData → ℕ → List ℕ → List Refused → List Refused → Bool → Type 0
+Adds old new row text before after true = Told old new row text (Ok tt) × (after ≡ before)
+Adds old new row text before after false = (reason : EditError) × (reason ≢ error.NoMemory) × Told old new row text (Err reason)
+    × (after ≡ before ++ (record { row = row; reason = reason }) ∷ [])

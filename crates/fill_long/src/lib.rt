@@ -1,0 +1,14 @@
+//! Filling a sheet of any length: its bytes are gone over block by block, and of its rows only those of the examples and of
+//! one block stand in memory.
+#![tactic(auto)]
+
+mod learning;
+mod reading;
+mod scan;
+mod sheet;
+mod writing;
+
+pub use learning::{Learned, learn};
+pub use scan::{Seen, first_bad};
+pub use sheet::{Basis, LongSheet};
+pub use writing::{Written, write};
