@@ -4,7 +4,9 @@ ghost use Rattle.fill_edge.specs.Outside.{Rose};
 ghost use Rattle.fill_tree.specs.declared.user.Example.{Example};
 ghost use Rattle.fill_space.specs.declared.ground.Ground.{Ground};
 ghost use Rattle.fill_blocks.specs.Blocks.{StandsFor};
-ghost use Rattle.fill_long.specs.Long.{IsLong};
+ghost use Rattle.fill_filled.specs.Learned.{AreLearned};
+ghost use Rattle.fill_long.specs.Long.{IsLong, ground_of};
+ghost use Rattle.fill_long.specs.Taught.{IsTaught, tables_of};
 ghost use Rattle.fill_ask.specs.Told.{Grew};
 ghost use Rattle.fill_csv.specs.Asking.{SaysAfter, heard};
 ghost use Rattle.fill_csv.specs.Pages.{FailsPage, FillsPage, FillsPart, FillsRows, IsBegun, IsDone, IsPart};
@@ -19,7 +21,7 @@ use crate::told::Told;
 use fill_blocks::Block;
 use fill_edge::{Ledger, Sink, Steps};
 use fill_filled::Summary;
-use fill_long::{Learned, LongSheet, learn, write};
+use fill_long::{Basis, Learned, LongSheet, learn, write};
 use fill_report::Halt;
 use fill_stream::Source;
 use fill_tables::Tables;
@@ -158,14 +160,40 @@ fn write_sheet<O: Sink, L: Ledger>(
     ensures fault { IsErrOf result Halt.Fault → Rose (O.faults out.old) (O.faults out.new) }
     ensures memory { IsErrOf result Halt.NoMemory → IsBegun (O.written out.old) (O.written out.new) (page_over sheet.now tables None) }
 {
-    let (learned, basis) = learn(alloc, sheet, tables, steps)?;
-    let (written, basis) = write(alloc, sheet, &learned, basis, steps, out)?;
-    let block = sheet.block(alloc, &learned, basis, &written.shown, steps)?;
-    Ok(Filled {
-        learned,
-        summary: written.summary,
-        block,
-    })
+    match learn(alloc, sheet, tables, steps) {
+        Ok((learned, basis)) => write_learned(alloc, sheet, learned, basis, out, steps),
+        Err(NoMemory) => Err(Halt::NoMemory),
+    }
+}
+
+/// Writes a sheet with its column filled by what its rows taught.
+fn write_learned<O: Sink, L: Ledger>(
+    alloc: Global,
+    sheet: &LongSheet<'_>,
+    learned: Learned,
+    basis: Basis,
+    out: &mut O,
+    steps: &mut Steps<L>,
+) -> Result<Filled, Halt>
+    requires long { IsLong sheet.now }
+    requires taught { IsTaught sheet.now learned basis }
+    requires learned { AreLearned sheet.now.typed.now (ground_of sheet.now (tables_of basis)) learned.examples learned.refused }
+    ensures done { IfOk result (IsFilled (O.written out.old) (O.written out.new) (page_over sheet.now (tables_of basis) None)) }
+    ensures part { IsErrOf result Halt.Fault → IsPart (O.written out.old) (O.written out.new) (page_over sheet.now (tables_of basis) None) }
+    ensures fault { IsErrOf result Halt.Fault → Rose (O.faults out.old) (O.faults out.new) }
+    ensures memory { IsErrOf result Halt.NoMemory → IsBegun (O.written out.old) (O.written out.new) (page_over sheet.now (tables_of basis) None) }
+{
+    match write(alloc, sheet, &learned, basis, steps, out) {
+        Ok((written, basis)) => match sheet.block(alloc, &learned, basis, &written.shown, steps) {
+            Ok(block) => Ok(Filled {
+                learned,
+                summary: written.summary,
+                block,
+            }),
+            Err(NoMemory) => Err(Halt::NoMemory),
+        },
+        Err(halt) => Err(halt),
+    }
 }
 
 /// What is told of a sheet that was written. The text of the rule is made too, where it is to be saved.
