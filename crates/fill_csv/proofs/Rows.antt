@@ -1,5 +1,5 @@
 -- The rows of a sheet that can be read, and why another one cannot.
-use Rattle.std.proofs.Common.{◌≡◌, ◌∙◌, ◌++◌, ◌∷◌, ◌<◌, ◌≤◌, ◌-◌, [], ℕ, List, All, Bool, true, false, Option, None, Ok, Err, Some, ap, drop, length, nat_lt, option_to_list, refl, subst, sym, take, arith}
+use Rattle.std.proofs.Common.{◌≡◌, ◌∙◌, ◌++◌, ◌∷◌, ◌<◌, ◌≤◌, ◌-◌, [], ℕ, List, All, Bool, true, false, Option, None, Ok, Err, Some, ap, drop, length, nat_lt, option_to_list, refl, subst, sym, arith}
 use Rattle.std.proofs.lemmas.Bool.Decides.{nat_tests}
 use Rattle.std.proofs.lemmas.List.{length-drop, length-map, take_all}
 use Rattle.fill_text.specs.Data.{SheetData}

@@ -160,7 +160,7 @@ impl Desk {
         let inputs = &self.choice.from;
         match Sheet::read_up_to(alloc, MOST_RECORDS, bytes, self.header, inputs, self.output) {
             Ok(sheet) => Session::new(alloc, self.settings, sheet, tables),
-            // its rows can be read
+            // its rows can be read, so that only memory can be short
             Err(_) => Err(NoMemory),
         }
     }

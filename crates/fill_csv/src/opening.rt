@@ -18,8 +18,8 @@ use crate::lines::{choice_line, sheet_line};
 use crate::typed::examples_in;
 use fill_columns::{Choice, ChoiceError, choose, choose_new};
 use fill_edge::Cabinet;
-use fill_lookups::{LARGEST_SHEET, open_file, open_tables, refused};
 use fill_long::{Seen, first_bad};
+use fill_lookups::{LARGEST_SHEET, open_file, open_tables, refused};
 use fill_open::Stop;
 use fill_records::Record;
 use fill_sheet::SheetError;
@@ -154,7 +154,12 @@ fn rows_in(
     requires output { IsOutput choice.now.from.items (Some choice.now.to) }
     requires seen { IsSeen asked.now.header most_records (records_of bytes.now) seen.now }
     ensures ready { IfOk result (λ typed. rows_in (data_of asked.now) bytes.now (choice_data choice.now) ≡ Passed (record {
-        bytes = bytes.now; choice = choice_data choice.now; sheet = all_rows asked.now.header choice.now.from.items (output_of asked.now.replace choice.now.to) bytes.now; typed = typed; tables = [] })) }
+      bytes = bytes.now;
+      choice = choice_data choice.now;
+      sheet = all_rows asked.now.header choice.now.from.items (output_of asked.now.replace choice.now.to) bytes.now;
+      typed = typed;
+      tables = [];
+    })) }
     ensures readable { IfOk result (λ typed. AreReadable asked.now.header choice.now.from.items (output_of asked.now.replace choice.now.to) bytes.now) }
     ensures stopped { IfErr result (IsRefusedBy (rows_in (data_of asked.now) bytes.now (choice_data choice.now))) }
 {

@@ -1,4 +1,4 @@
-use Rattle.std.proofs.Common.{◌≡◌, ◌∙◌, Err, ap, refl}
+use Rattle.std.proofs.Common.{◌∙◌, Err, ap, refl}
 use Rattle.std.specs.Prelude.{option_map}
 use Rattle.fill_report.specs.declared.Halt.TheVariants as halt
 use Rattle.fill_long.specs.declared.sheet.LongSheet.{LongSheet}

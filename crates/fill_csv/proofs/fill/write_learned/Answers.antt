@@ -1,4 +1,4 @@
-use Rattle.std.proofs.Common.{◌≡◌, ◌∙◌, Err, List, ap, arith, inl, inr, length, subst}
+use Rattle.std.proofs.Common.{◌∙◌, Err, List, ap, arith, inr, length, subst}
 use Rattle.fill_text.specs.Data.{TableData}
 use Rattle.fill_report.specs.declared.Halt.TheVariants as halt
 use Rattle.fill_blocks.specs.Blocks.{StandsFor}

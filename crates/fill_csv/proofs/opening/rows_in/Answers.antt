@@ -1,12 +1,11 @@
-use Rattle.std.proofs.Common.{◌≡◌, ◌∙◌, ℕ, Result, Ok, ap, length, subst, sym}
+use Rattle.std.proofs.Common.{◌≡◌, ◌∙◌, ℕ, Result, ap, length, subst, sym}
 use Rattle.std.proofs.lemmas.Result.{IfErr-weaker, IfOk-weaker}
 use Rattle.fill_text.specs.Data.{SheetData}
-use Rattle.fill_sheet.specs.Sheet.{read_up_to}
 use Rattle.fill_sheet.specs.declared.error.SheetError.{SheetError}
 use Rattle.fill_open.specs.Stops.{Refuses}
 use Rattle.fill_columns.specs.Choice.{choice_data}
 use Rattle.fill_words.specs.Words.{data_of}
-use Rattle.fill_csv.specs.Opening.{examples_in, most_records, output_of, with_examples, with_rows}
+use Rattle.fill_csv.specs.Opening.{examples_in, output_of, with_examples, with_rows}
 use Rattle.fill_csv.specs.Read.{AreReadable, sheet_in}
 use Rattle.fill_csv.proofs.Rows.{examples_refused, rows_seen}
 use Rattle.fill_csv.proofs.opening.rows_in.Goals as goal

@@ -1,4 +1,4 @@
-use Rattle.std.proofs.Common.{◌≡◌, ℕ, List, Bool, true, false, Option, Some, subst, sym}
+use Rattle.std.proofs.Common.{ℕ, List, Bool, true, false, Option, Some, subst, sym}
 use Rattle.fill_sheet.specs.Columns.{IsOutput}
 use Rattle.fill_words.specs.Words.{data_of}
 use Rattle.fill_csv.specs.Opening.{most_records, output_of}
