@@ -1,5 +1,5 @@
 //! A sheet that is ready to be filled.
-ghost use Rattle.std.specs.Prelude.{◌≡◌, ◌≤◌, IfOk, OnOk, false};
+ghost use Rattle.std.specs.Prelude.{◌≡◌, ◌≤◌, [], IfOk, OnOk, false};
 ghost use Rattle.fill_tree.specs.Grammar.{AreSettings};
 ghost use Rattle.fill_words.specs.Words.{data_of};
 ghost use Rattle.fill_csv.specs.Ground.{profile_of, settings_of};
@@ -8,20 +8,24 @@ ghost use Rattle.fill_csv.specs.Asking.{AreTyped, heard};
 ghost use Rattle.fill_csv.specs.Pages.{page_of, with_typed};
 ghost use Rattle.fill_csv.specs.Read.{AreParts, IsReady, page_data, read_data};
 
+use crate::columns::output_of;
 use crate::explain::Spoken;
 use crate::head;
-use crate::opening::SheetRead;
+use crate::opening::{MOST_RECORDS, SheetRead};
 use crate::saving::{RuleFrame, saving_of};
 use fill_ask::{Topic, ask};
+use fill_columns::Choice;
 use fill_edge::{Ledger, Sink, Steps};
 use fill_filled::Form;
-use fill_records::Record;
 use fill_session::Session;
+use fill_sheet::Sheet;
 use fill_stream::Source;
+use fill_tables::Tables;
 use fill_text::{List, NoMemory};
 use fill_tree::{Constants, Example, Profile, Settings};
 use fill_words::Asked;
 use std::alloc::Global;
+use std::mem;
 
 /// What is told of the first cells in doubt.
 #[derive(Clone, Copy)]
@@ -50,12 +54,18 @@ impl Doubts {
 /// A sheet that is ready to be filled.
 #[derive(Drop)]
 pub(crate) struct Desk {
-    /// The rows, and no examples yet.
-    pub session: Session,
-    /// The records of the sheet, the header among them.
-    pub records: List<Record>,
-    /// Whether the first of them names the columns.
+    /// The bytes of its file.
+    pub bytes: List<u8>,
+    /// Whether the first record names the columns.
     pub header: bool,
+    /// The columns that rules may read, and the one that is filled.
+    pub choice: Choice,
+    /// The column whose cells are examples, where it has some.
+    pub output: Option<u32>,
+    /// The tables in which rules may look up.
+    pub tables: Tables,
+    /// The bounds of the rules.
+    pub settings: Settings,
     /// The texts that are typed for rows.
     pub typed: List<Example>,
     /// How answers are written.
@@ -76,7 +86,7 @@ impl Desk {
     /// The sheet that was read, for what the words ask.
     pub(crate) fn of(alloc: Global, asked: &Asked, read: SheetRead) -> Result<Desk, NoMemory>
         requires { AreParts (data_of asked.now) read }
-        ensures page { IfOk result (λ desk. page_data desk ≡ page_of (data_of asked.now) (read_data read)) }
+        ensures page { IfOk result (λ desk. page_data desk ≡ page_of (data_of asked.now) (read_data (data_of asked.now) read)) }
         ensures ready { IfOk result IsReady }
         ensures asks { IfOk result (λ desk. desk.ask ≡ asked.now.ask) }
     {
@@ -85,18 +95,19 @@ impl Desk {
         let saving = saving_of(alloc, asked, &read)?;
         let spoken = Spoken::of(alloc, asked, &read)?;
         let SheetRead {
-            records,
-            sheet,
+            bytes,
+            choice,
             typed,
             tables,
             ..
         } = read;
-        let settings = settings_of(asked.profile, asked.depth);
-        let session = Session::new(alloc, settings, sheet, tables)?;
         Ok(Desk {
-            session,
-            records,
+            bytes,
             header: asked.header,
+            output: output_of(asked.replace, choice.to),
+            choice,
+            tables,
+            settings: settings_of(asked.profile, asked.depth),
             typed,
             form,
             head,
@@ -107,7 +118,8 @@ impl Desk {
         })
     }
 
-    /// Asks about the cells in doubt, where that is wanted: the replies are typed texts beside those that the words give.
+    /// Asks about the cells in doubt, where that is wanted: the replies are typed texts beside those that the words give. The
+    /// whole sheet stands in memory for it.
     pub(crate) fn ask_about<S: Source, E: Sink, L: Ledger>(
         &mut self,
         alloc: Global,
@@ -118,21 +130,39 @@ impl Desk {
         requires { IsReady self.old }
         ensures ready { OnOk result (IsReady self.new) }
         ensures page { OnOk result (page_data self.new ≡ with_typed (page_data self.old) self.new.typed) }
-        ensures typed { OnOk result (AreTyped self.old.ask self.old.session.spaces.ground self.old.typed (heard (S.left input.old) (S.faults input.old) (S.faults input.new)) self.new.typed) }
+        ensures typed { OnOk result (AreTyped self.old.ask (page_data self.old).over self.old.typed (heard (S.left input.old) (S.faults input.old) (S.faults input.new)) self.new.typed) }
         ensures silent { self.old.ask ≡ false → err.new ≡ err.old }
         ensures grew { Grew (E.written err.old) (E.written err.new) (E.faults err.old) (E.faults err.new) }
     {
         if !self.ask {
             return Ok(());
         }
+        let tables = mem::replace(&mut self.tables, Tables::new(alloc));
+        let mut session = self.open_session(alloc, tables)?;
         let topic = Topic {
             words: self.typed.as_slice(),
             columns: self.spoken.columns(),
             above: if self.header { 1 } else { 0 },
         };
-        let typed = ask(alloc, &topic, &mut self.session, input, err, steps)?;
+        let typed = ask(alloc, &topic, &mut session, input, err, steps)?;
         self.typed = typed;
+        self.tables = session.into_tables();
         Ok(())
+    }
+
+    /// A session over all rows of the sheet, with these tables.
+    fn open_session(&self, alloc: Global, tables: Tables) -> Result<Session, NoMemory>
+        requires { IsReady self.now }
+        ensures over { IfOk result (λ session. session.spaces.ground ≡ record { settings = self.now.settings; sheet = (page_data self.now).over.sheet; tables = tables }) }
+        ensures empty { IfOk result (λ session. session.examples ≡ []) }
+    {
+        let bytes = self.bytes.as_slice();
+        let inputs = &self.choice.from;
+        match Sheet::read_up_to(alloc, MOST_RECORDS, bytes, self.header, inputs, self.output) {
+            Ok(sheet) => Session::new(alloc, self.settings, sheet, tables),
+            // its rows can be read, so that only memory can be short
+            Err(_) => Err(NoMemory),
+        }
     }
 }
 

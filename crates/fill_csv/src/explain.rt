@@ -1,7 +1,10 @@
 //! The rule that was learned, and what else cells in doubt could be, in plain English. No contract says these texts.
 ghost use Rattle.std.specs.Prelude.{◌≤◌, length};
 
-use crate::opening::{SheetRead, header_of};
+use crate::desk::Doubts;
+use crate::opening::SheetRead;
+use fill_blocks::Block;
+use fill_filled::Counts;
 use fill_prose::{Named, Names, program_text, put_quoted, rule_lines};
 use fill_session::Session;
 use fill_sheet::Sheet;
@@ -20,7 +23,7 @@ impl Spoken {
     /// The names of a sheet and its tables.
     pub(crate) fn of(alloc: Global, asked: &Asked, read: &SheetRead) -> Result<Spoken, NoMemory> {
         let mut columns = Vec::new(alloc);
-        if let Some(header) = header_of(asked.header, read.records.as_slice()) {
+        if let Some(header) = &read.header {
             for column in &read.choice.from {
                 let field = header.get((*column as usize).saturating_sub(1));
                 if let Ok(name) = str::from_utf8(field.unwrap_or(b"")) {
@@ -87,6 +90,77 @@ impl Spoken {
     }
 }
 
+/// What can be told of rows in doubt.
+#[derive(Clone, Copy)]
+pub(crate) struct Speech<'a> {
+    /// By which names rules are told.
+    pub spoken: &'a Spoken,
+    /// What is told of the first cells in doubt.
+    pub doubts: Doubts,
+    /// The rows that are told of, beside those of the examples.
+    pub block: &'a Block,
+}
+
+/// With more rows in doubt only those who ask for rules are told which one to look at next: rows without a pattern take up to
+/// half a millisecond each.
+const MOST_ASKED: u32 = 1000;
+
+impl Speech<'_> {
+    /// What is told of the cells of the first rows in doubt, as far as memory goes. Rows count from 1, and 0 ends them. Without
+    /// being asked nothing is told where one of these rows is long, since the search could take minutes there.
+    pub(crate) fn doubts_of(&self, alloc: Global, rows: &[u32]) -> Vec<String> {
+        let mut doubts = Vec::new(alloc);
+        let with_rule = match self.doubts {
+            Doubts::Untold => return doubts,
+            Doubts::Answers => false,
+            Doubts::Rules => true,
+        };
+        if !with_rule && self.has_long(rows) {
+            return doubts;
+        }
+        for number in rows {
+            let Some(row) = self.block.row(*number) else {
+                break;
+            };
+            let session = self.block.session();
+            let Ok(doubt) = self.spoken.doubt_of(alloc, session, row, with_rule) else {
+                break;
+            };
+            if doubts.push(doubt).is_err() {
+                break;
+            }
+        }
+        doubts
+    }
+
+    /// Whether one of these rows has many characters to read. Rows count from 1, and 0 ends them.
+    fn has_long(&self, rows: &[u32]) -> bool {
+        for number in rows {
+            let Some(row) = self.block.row(*number) else {
+                break;
+            };
+            if is_long(self.block.session().sheet(), row) {
+                return true;
+            }
+        }
+        false
+    }
+
+    /// The row to look at next, where several are in doubt and both answers are told, as far as memory goes.
+    pub(crate) fn next_of(&self, alloc: Global, counts: &Counts) -> Option<Next> {
+        let doubtful = counts.doubt.saturating_add(counts.nothing_in_doubt);
+        let told = match self.doubts {
+            Doubts::Untold => false,
+            Doubts::Answers => doubtful <= MOST_ASKED && !self.has_long(&counts.doubtful),
+            Doubts::Rules => true,
+        };
+        if !told || doubtful < 2 {
+            return None;
+        }
+        next_of(alloc, self.block).unwrap_or(None)
+    }
+}
+
 /// A row to look at, and what its cell could be.
 #[derive(Drop)]
 pub(crate) struct Next {
@@ -96,14 +170,14 @@ pub(crate) struct Next {
 }
 
 /// The row to look at next; none where no row is in doubt.
-pub(crate) fn next_of(alloc: Global, session: &Session) -> Result<Option<Next>, NoMemory> {
-    let Some(found) = session.suggest()? else {
+fn next_of(alloc: Global, block: &Block) -> Result<Option<Next>, NoMemory> {
+    let Some(found) = block.session().suggest()? else {
         return Ok(None);
     };
     let mut answers = String::new(alloc);
     put_answers(&mut answers, &found.answer, &found.objection.text)?;
     Ok(Some(Next {
-        row: found.row,
+        row: block.number(found.row),
         answers,
     }))
 }

@@ -1,13 +1,14 @@
 //! What stands before the records of rows, and how answers are written.
-ghost use Rattle.std.specs.Prelude.{◌≡◌, ◌≤◌, ◌++◌, IfOk, IfSome, OnOk, option_copied};
+ghost use Rattle.std.specs.Prelude.{◌≡◌, ◌≤◌, ◌++◌, List as Listed, IfOk, IfSome, OnOk, option_copied};
 ghost use Rattle.fill_report.specs.Output.{report_text};
+ghost use Rattle.fill_report.specs.Records.{Fields};
+ghost use Rattle.fill_columns.specs.Columns.{width as width_of};
 ghost use Rattle.fill_words.specs.Words.{data_of, target_data};
 ghost use Rattle.fill_csv.specs.Ends.{form_of, head_of, heads_of, name_of, some_record, states_of};
 ghost use Rattle.fill_csv.specs.Opening.{mark_of};
 ghost use Rattle.fill_csv.specs.Read.{AreParts, read_data};
 
-use crate::opening::{SheetRead, header_of};
-use fill_columns::width;
+use crate::opening::SheetRead;
 use fill_filled::{Form, head_fields};
 use fill_records::Record;
 use fill_sheet::put_record;
@@ -21,24 +22,24 @@ const MARK: &[u8] = b"\xef\xbb\xbf";
 /// How answers are written into the records of a sheet.
 pub(crate) fn form_of(asked: &Asked, read: &SheetRead) -> Form
     requires { AreParts (data_of asked.now) read.now }
-    ensures form { result ≡ form_of (data_of asked.now) (read_data read.now) }
+    ensures form { result ≡ form_of (data_of asked.now) (read_data (data_of asked.now) read.now) }
     ensures column { 1 ≤ result.column }
     ensures states { IfSome result.states (λ column. 1 ≤ column) }
 {
     Form {
         column: read.choice.to,
-        states: states_of(asked.states, read.choice.to, read.records.as_slice()),
+        states: states_of(asked.states, read.choice.to, read.width),
         only_sure: asked.only_sure,
     }
 }
 
 /// The column of states, from 1, where one is asked for.
-fn states_of(states: bool, column: u32, records: &[Record]) -> Option<usize>
-    ensures column { result ≡ states_of states column records.now }
+fn states_of(states: bool, column: u32, width: usize) -> Option<usize>
+    ensures column { (records : Listed Fields) → width ≡ width_of records → result ≡ states_of states column records }
     ensures first { IfSome result (λ column. 1 ≤ column) }
 {
     if states {
-        Some(width(records).max(column as usize).saturating_add(1))
+        Some(width.max(column as usize).saturating_add(1))
     } else {
         None
     }
@@ -52,10 +53,10 @@ pub(crate) fn head_of(
     form: &Form,
 ) -> Result<List<u8>, NoMemory>
     requires parts { AreParts (data_of asked.now) read.now }
-    requires form { form.now ≡ form_of (data_of asked.now) (read_data read.now) }
+    requires form { form.now ≡ form_of (data_of asked.now) (read_data (data_of asked.now) read.now) }
     requires column { 1 ≤ form.now.column }
     requires states { IfSome form.now.states (λ column. 1 ≤ column) }
-    ensures { IfOk result (λ head. head ≡ head_of (data_of asked.now) (read_data read.now)) }
+    ensures { IfOk result (λ head. head ≡ head_of (data_of asked.now) (read_data (data_of asked.now) read.now)) }
 {
     let mut head = List::new(alloc);
     head.append(mark_of(read.bytes.as_slice()))?;
@@ -64,7 +65,7 @@ pub(crate) fn head_of(
         &mut head,
         form,
         name_of(&asked.to),
-        header_of(asked.header, read.records.as_slice()),
+        read.header.as_ref(),
     )?;
     Ok(head)
 }

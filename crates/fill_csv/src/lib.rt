@@ -1,7 +1,7 @@
 //! The run of `fillcsv`: a sheet with one of its columns filled.
 #![tactic(auto)]
 
-mod clash;
+mod columns;
 mod command;
 mod desk;
 mod explain;

@@ -1,25 +1,28 @@
 //! Opening a sheet: its file, the columns that words choose, and its rows.
-ghost use Rattle.std.specs.Prelude.{◌≡◌, ℕ, List as Listed, [], All, IfOk, IfErr, Ok, Err, Some, length, map, option_copied, string_bytes};
+ghost use Rattle.std.specs.Prelude.{◌≡◌, ◌-◌, ℕ, List as Listed, [], All, IfOk, IfErr, MatchOption, Ok, Err, Some, map, option_copied, string_bytes};
 ghost use Rattle.fill_edge.specs.Outside.{NoneFell};
 ghost use Rattle.fill_open.specs.Opened.{Told, Passed};
 ghost use Rattle.fill_open.specs.Stops.{Refuses as IsRefusedBy, Stops};
 ghost use Rattle.fill_records.specs.Records.{records_of};
 ghost use Rattle.fill_sheet.specs.Columns.{AreInputs, IsOutput};
-ghost use Rattle.fill_sheet.specs.Sheet.{read_up_to, row_records};
+ghost use Rattle.fill_sheet.specs.Sheet.{headers, read_up_to};
 ghost use Rattle.fill_words.specs.Words.{IsLookup, data_of, lookup_data, target_data};
 ghost use Rattle.fill_columns.specs.Choice.{Refuses, choice_data};
 ghost use Rattle.fill_columns.specs.Columns.{names_of};
-ghost use Rattle.fill_csv.specs.Opening.{choice_for, choice_of, header_of, most_records, output_of, records_in, rows_in, sheet_in, sheet_opens, with_choice};
-ghost use Rattle.fill_csv.specs.Read.{AreParts, read_data};
+ghost use Rattle.fill_long.specs.Long.{IsSeen};
+ghost use Rattle.fill_csv.specs.Opening.{choice_for, choice_of, most_records, output_of, records_in, rows_in, sheet_in, sheet_opens};
+ghost use Rattle.fill_csv.specs.Read.{AreParts, AreReadable, read_data, sheet_in as all_rows};
 
+use crate::columns::{output_of, used};
 use crate::lines::{choice_line, sheet_line};
 use crate::typed::examples_in;
-use fill_columns::{Choice, ChoiceError, choose, choose_new, width};
+use fill_columns::{Choice, ChoiceError, choose, choose_new};
 use fill_edge::Cabinet;
+use fill_long::{Seen, first_bad};
 use fill_lookups::{LARGEST_SHEET, open_file, open_tables, refused};
 use fill_open::Stop;
-use fill_records::{Record, read_records};
-use fill_sheet::Sheet;
+use fill_records::Record;
+use fill_sheet::SheetError;
 use fill_tables::Tables;
 use fill_text::{List, NoMemory};
 use fill_tree::Example;
@@ -27,19 +30,19 @@ use fill_words::{Asked, Target};
 use std::alloc::Global;
 
 /// The most records that are read, the header among them.
-const MOST_RECORDS: u32 = 16_777_216;
+pub(crate) const MOST_RECORDS: u32 = 16_777_216;
 
 /// A sheet that was read.
 #[derive(Drop)]
 pub(crate) struct SheetRead {
     /// The bytes of its file.
     pub bytes: List<u8>,
-    /// Its records, the header among them.
-    pub records: List<Record>,
+    /// The record that names the columns, where there is one.
+    pub header: Option<Record>,
+    /// The number of fields of the longest record.
+    pub width: usize,
     /// The column that is filled, and those that rules may read.
     pub choice: Choice,
-    /// Its rows in these columns.
-    pub sheet: Sheet,
     /// The texts that are typed for rows.
     pub typed: List<Example>,
     /// The tables in which rules may look up.
@@ -53,7 +56,7 @@ pub(crate) fn open_sheet<C: Cabinet>(
     asked: &Asked,
 ) -> Result<SheetRead, Stop>
     requires { All IsLookup (map lookup_data asked.now.lookups.items) }
-    ensures ready { IfOk result (λ read. Told (C.files cabinet.old) (λ held. (sheet_opens (data_of asked.now) held).outcome ≡ Passed (read_data read))) }
+    ensures ready { IfOk result (λ read. Told (C.files cabinet.old) (λ held. (sheet_opens (data_of asked.now) held).outcome ≡ Passed (read_data (data_of asked.now) read))) }
     ensures parts { IfOk result (AreParts (data_of asked.now)) }
     ensures stopped { IfErr result (Stops (sheet_opens (data_of asked.now)) (C.files cabinet.old) (C.faults cabinet.old) (C.faults cabinet.new)) }
     ensures files { C.files cabinet.new ≡ C.files cabinet.old }
@@ -78,48 +81,43 @@ pub(crate) fn open_sheet<C: Cabinet>(
 
 /// The sheet in the bytes of its file.
 fn sheet_in(alloc: Global, asked: &Asked, bytes: List<u8>) -> Result<SheetRead, Stop>
-    ensures ready { IfOk result (λ read. sheet_in (data_of asked.now) bytes ≡ Passed (read_data read)) }
+    ensures ready { IfOk result (λ read. sheet_in (data_of asked.now) bytes ≡ Passed (read_data (data_of asked.now) read)) }
     ensures parts { IfOk result (AreParts (data_of asked.now)) }
     ensures stopped { IfErr result (IsRefusedBy (sheet_in (data_of asked.now) bytes)) }
 {
-    let records = match read_records(alloc, bytes.as_slice(), MOST_RECORDS as usize) {
-        Ok(records) => records,
+    let seen = match Seen::of(alloc, bytes.as_slice(), asked.header, MOST_RECORDS) {
+        Ok(seen) => seen,
         Err(NoMemory) => return Err(Stop::NoMemory),
     };
-    let choice = match choice_in(alloc, asked, records.as_slice()) {
+    let choice = match choice_in(alloc, asked, &seen) {
         Ok(choice) => choice,
         Err(stop) => return Err(stop),
     };
-    let Rows { sheet, typed } = match rows_in(alloc, asked, &choice, bytes.as_slice()) {
-        Ok(rows) => rows,
+    let typed = match rows_in(alloc, asked, &choice, bytes.as_slice(), &seen) {
+        Ok(typed) => typed,
         Err(stop) => return Err(stop),
     };
     Ok(SheetRead {
         bytes,
-        records,
+        header: seen.header,
+        width: seen.width,
         choice,
-        sheet,
         typed,
         tables: Tables::new(alloc),
     })
 }
 
-/// The record that names the columns, where there is one.
-pub(crate) fn header_of(header: bool, records: &[Record]) -> Option<&Record>
-    ensures { option_copied result ≡ header_of header records.now }
-{
-    if header { records.first() } else { None }
-}
-
-/// The columns that words choose among those of the records.
-fn choice_in(alloc: Global, asked: &Asked, records: &[Record]) -> Result<Choice, Stop>
-    ensures ready { IfOk result (λ choice. choice_of (data_of asked.now) records.now ≡ Ok (choice_data choice)) }
+/// The columns that words choose among those that were seen.
+fn choice_in(alloc: Global, asked: &Asked, seen: &Seen) -> Result<Choice, Stop>
+    ensures ready { IfOk result (λ choice. (bytes : Listed ℕ) → IsSeen asked.now.header most_records (records_of bytes) seen.now →
+        choice_of (data_of asked.now) (records_in bytes) ≡ Ok (choice_data choice)) }
     ensures inputs { IfOk result (λ choice. AreInputs choice.from.items) }
     ensures output { IfOk result (λ choice. IsOutput choice.from.items (Some choice.to)) }
-    ensures stopped { IfErr result (λ why. (bytes : Listed ℕ) → records.now ≡ records_in bytes → IsRefusedBy (with_choice (data_of asked.now) bytes (choice_of (data_of asked.now) records.now)) why) }
+    ensures stopped { IfErr result (λ why. (bytes : Listed ℕ) → IsSeen asked.now.header most_records (records_of bytes) seen.now →
+        IsRefusedBy (sheet_in (data_of asked.now) bytes) why) }
 {
-    let header = header_of(asked.header, records);
-    match choice_for(alloc, &asked.to, header, width(records), &asked.from) {
+    let header = seen.header.as_ref();
+    match choice_for(alloc, &asked.to, header, seen.width, &asked.from) {
         Ok(choice) => Ok(choice),
         Err(e) => Err(refused(choice_line(alloc, asked.file.as_str(), header, e))),
     }
@@ -144,56 +142,68 @@ fn choice_for<'a>(
     }
 }
 
-/// Rows in the chosen columns, and the texts that are typed for them.
-#[derive(Drop)]
-struct Rows {
-    sheet: Sheet,
-    typed: List<Example>,
-}
-
-/// The rows of the sheet in the chosen columns, and the texts that the words give for them.
-fn rows_in(alloc: Global, asked: &Asked, choice: &Choice, bytes: &[u8]) -> Result<Rows, Stop>
+/// The texts that the words give for rows of the sheet, where its rows can be read in the chosen columns.
+fn rows_in(
+    alloc: Global,
+    asked: &Asked,
+    choice: &Choice,
+    bytes: &[u8],
+    seen: &Seen,
+) -> Result<List<Example>, Stop>
     requires inputs { AreInputs choice.now.from.items }
     requires output { IsOutput choice.now.from.items (Some choice.now.to) }
-    ensures ready { IfOk result (λ made. rows_in (data_of asked.now) bytes.now (choice_data choice.now)
-        ≡ Passed (record { bytes = bytes.now; choice = choice_data choice.now; sheet = made.sheet; typed = made.typed; tables = [] })) }
-    ensures whole { IfOk result (λ made. length made.sheet.rows ≡ length (row_records most_records asked.now.header (records_of bytes.now))) }
+    requires seen { IsSeen asked.now.header most_records (records_of bytes.now) seen.now }
+    ensures ready { IfOk result (λ typed. rows_in (data_of asked.now) bytes.now (choice_data choice.now) ≡ Passed (record {
+      bytes = bytes.now;
+      choice = choice_data choice.now;
+      sheet = all_rows asked.now.header choice.now.from.items (output_of asked.now.replace choice.now.to) bytes.now;
+      typed = typed;
+      tables = [];
+    })) }
+    ensures readable { IfOk result (λ typed. AreReadable asked.now.header choice.now.from.items (output_of asked.now.replace choice.now.to) bytes.now) }
     ensures stopped { IfErr result (IsRefusedBy (rows_in (data_of asked.now) bytes.now (choice_data choice.now))) }
 {
-    let sheet = match read_rows(alloc, asked, choice, bytes) {
-        Ok(sheet) => sheet,
-        Err(stop) => return Err(stop),
-    };
-    match examples_in(alloc, asked, sheet.rows()) {
-        Ok(typed) => Ok(Rows { sheet, typed }),
-        Err(stop) => Err(stop),
+    match sheet_error(alloc, asked, choice, bytes, seen) {
+        Ok(None) => examples_in(alloc, asked, rows_of(asked.header, seen)),
+        Ok(Some(e)) => Err(refused(sheet_line(alloc, asked.file.as_str(), e))),
+        Err(NoMemory) => Err(Stop::NoMemory),
     }
 }
 
-/// The rows of the sheet in the chosen columns.
-fn read_rows(alloc: Global, asked: &Asked, choice: &Choice, bytes: &[u8]) -> Result<Sheet, Stop>
-    requires inputs { AreInputs choice.now.from.items }
-    requires output { IsOutput choice.now.from.items (Some choice.now.to) }
-    ensures ready { IfOk result (λ sheet. read_up_to most_records asked.now.header choice.now.from.items (output_of asked.now.replace choice.now.to) bytes.now ≡ Ok sheet) }
-    ensures stopped { IfErr result (IsRefusedBy (rows_in (data_of asked.now) bytes.now (choice_data choice.now))) }
+/// How many rows were seen: all records but the header, where there is one.
+fn rows_of(header: bool, seen: &Seen) -> u32
+    ensures { result ≡ seen.now.records - headers header }
 {
-    let output = output_of(asked.replace, choice.to);
-    match Sheet::read_up_to(
-        alloc,
-        MOST_RECORDS,
-        bytes,
-        asked.header,
-        &choice.from,
-        output,
-    ) {
-        Ok(sheet) => Ok(sheet),
-        Err(e) => Err(refused(sheet_line(alloc, asked.file.as_str(), e))),
+    if header {
+        seen.records.saturating_sub(1)
+    } else {
+        seen.records
     }
 }
 
-/// The column whose cells are examples: that which is filled, if its cells are not to be replaced.
-fn output_of(replace: bool, column: u32) -> Option<u32>
-    ensures { result ≡ output_of replace column }
+/// Why the sheet cannot be read in the chosen columns; none where it can be.
+fn sheet_error(
+    alloc: Global,
+    asked: &Asked,
+    choice: &Choice,
+    bytes: &[u8],
+    seen: &Seen,
+) -> Result<Option<SheetError>, NoMemory>
+    requires inputs { AreInputs choice.now.from.items }
+    requires output { IsOutput choice.now.from.items (Some choice.now.to) }
+    requires seen { IsSeen asked.now.header most_records (records_of bytes.now) seen.now }
+    ensures { let output = output_of asked.now.replace choice.now.to in IfOk result (λ found. MatchOption found
+        (AreReadable asked.now.header choice.now.from.items output bytes.now)
+        (λ e. read_up_to most_records asked.now.header choice.now.from.items output bytes.now ≡ Err e)) }
 {
-    if replace { None } else { Some(column) }
+    let columns = used(alloc, &choice.from, output_of(asked.replace, choice.to))?;
+    if let Some((number, column)) = first_bad(alloc, bytes, asked.header, &columns, MOST_RECORDS)? {
+        return Ok(Some(SheetError::NotUtf8 { number, column }));
+    }
+    if seen.more {
+        return Ok(Some(SheetError::TooManyRows {
+            limit: MOST_RECORDS,
+        }));
+    }
+    Ok(None)
 }

@@ -2,19 +2,23 @@
 ghost use Rattle.std.specs.Prelude.{◌≡◌, ℕ, List as Listed, All, IfOk, OnErr, OnOk, Some, map, option_copied, option_map, string_bytes};
 ghost use Rattle.fill_edge.specs.Outside.{Rose};
 ghost use Rattle.fill_records.specs.Records.{field_of};
-ghost use Rattle.fill_sheet.specs.Columns.{IsColumn, rising};
+ghost use Rattle.fill_sheet.specs.Columns.{IsColumn};
 ghost use Rattle.fill_tree.specs.Switch.{switch_tree};
+ghost use Rattle.fill_tree.specs.declared.user.Example.{Example};
+ghost use Rattle.fill_space.specs.declared.ground.Ground.{Ground};
 ghost use Rattle.fill_rule.specs.Rule.{rule_text};
 ghost use Rattle.fill_words.specs.Words.{data_of, lookup_data, target_data};
+ghost use Rattle.fill_blocks.specs.Blocks.{StandsFor};
 ghost use Rattle.fill_csv.specs.Read.{AreParts, frame_data, read_data};
 ghost use Rattle.fill_csv.specs.Saved.{IsSavedText, frame_of, lacks_rule, output_name, rule_with, saving_of, stored};
 
-use crate::opening::{SheetRead, header_of};
+use crate::columns::rising;
+use crate::opening::SheetRead;
+use fill_blocks::Block;
 use fill_edge::Failed;
 use fill_files::Store;
 use fill_records::Record;
 use fill_rule::{Names, Rule, rule_text};
-use fill_session::Session;
 use fill_text::{List, NoMemory};
 use fill_tree::Switch;
 use fill_words::{Asked, Lookup, Target};
@@ -40,7 +44,7 @@ pub(crate) fn saving_of(
     read: &SheetRead,
 ) -> Result<Option<RuleFrame>, NoMemory>
     requires { AreParts (data_of asked.now) read.now }
-    ensures { IfOk result (λ saving. option_map frame_data saving ≡ saving_of (data_of asked.now) (read_data read.now)) }
+    ensures { IfOk result (λ saving. option_map frame_data saving ≡ saving_of (data_of asked.now) (read_data (data_of asked.now) read.now)) }
 {
     match asked.save {
         Some(_) => Ok(Some(frame_of(alloc, asked, read)?)),
@@ -51,12 +55,11 @@ pub(crate) fn saving_of(
 /// The frame of the rule for a sheet.
 fn frame_of(alloc: Global, asked: &Asked, read: &SheetRead) -> Result<RuleFrame, NoMemory>
     requires { AreParts (data_of asked.now) read.now }
-    ensures { IfOk result (λ frame. frame_data frame ≡ frame_of (data_of asked.now) (read_data read.now)) }
+    ensures { IfOk result (λ frame. frame_data frame ≡ frame_of (data_of asked.now) (read_data (data_of asked.now) read.now)) }
 {
     let inputs = rising(alloc, &read.choice.from)?;
     let output = read.choice.to;
-    let header = header_of(asked.header, read.records.as_slice());
-    let names = names_in(alloc, asked, header, &inputs, output)?;
+    let names = names_in(alloc, asked, read.header.as_ref(), &inputs, output)?;
     Ok(RuleFrame {
         names,
         inputs,
@@ -131,17 +134,6 @@ fn rule_names(
     })
 }
 
-/// Columns in rising order.
-fn rising(alloc: Global, columns: &[u32]) -> Result<Vec<u32>, NoMemory>
-    requires { All IsColumn columns.now }
-    ensures value { IfOk result (λ v. v.items ≡ rising columns.now) }
-    ensures columns { IfOk result (λ v. All IsColumn v.items) }
-{
-    let mut rising = Vec::from_slice(alloc, columns)?;
-    rising.sort()?;
-    Ok(rising)
-}
-
 /// The names of these columns in a header.
 fn names_of(alloc: Global, header: &Record, columns: &[u32]) -> Result<List<List<u8>>, NoMemory>
     requires { All IsColumn columns.now }
@@ -188,14 +180,14 @@ fn output_name(
 pub(crate) fn saved_text(
     alloc: Global,
     saving: Option<RuleFrame>,
-    session: &Session,
+    block: &Block,
 ) -> Result<Option<List<u8>>, NoMemory>
-    ensures { IfOk result (IsSavedText (option_map frame_data saving) session.now.spaces.ground session.now.examples) }
+    ensures { IfOk result (λ text. (g : Ground) (examples : Listed Example) → StandsFor g block.now examples → IsSavedText (option_map frame_data saving) g examples text) }
 {
     let Some(frame) = saving else {
         return Ok(None);
     };
-    match session.switch()? {
+    match block.switch()? {
         Some(switch) => Ok(Some(text_of(alloc, frame, switch)?)),
         None => Ok(None),
     }

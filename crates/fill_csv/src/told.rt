@@ -3,7 +3,6 @@ ghost use Rattle.std.specs.Prelude.{◌≡◌, ◌||◌, ◌&&◌, true};
 ghost use Rattle.std.specs.List.{list_any};
 ghost use Rattle.fill_filled.specs.Learned.{counts};
 
-use crate::clash::MOST_REFUSALS;
 use crate::explain::Next;
 use crate::stop::say;
 use fill_ask::refused_text;
@@ -11,6 +10,9 @@ use fill_edge::{Sink, write_all};
 use fill_filled::{Counts, Refused, Summary};
 use fill_text::List;
 use std::alloc::{AllocError, Global};
+
+/// How many refused texts are told one by one.
+const MOST_REFUSALS: usize = 10;
 
 /// What is told of a sheet that was written.
 #[derive(Drop)]

@@ -14,7 +14,7 @@ returns-in-Err-clause-fails g c = λ input old store.
     (λ six. says_at_once c.args.asked.now.ask _ _ _ _ _ (c.tell.ensures.memory six)) c.tell.ensures.status
 
 pub returns-in-Ok-of-clause-opened : goal.returns-in-Ok-of-clause-opened
-returns-in-Ok-of-clause-opened g c = (read_data c.in-Ok.read, c.in-Ok.ensures.ready, c.in-Ok-of.ensures.page, c.in-Ok-of.ensures.asks)
+returns-in-Ok-of-clause-opened g c = (read_data (data_of c.args.asked.now) c.in-Ok.read, c.in-Ok.ensures.ready, c.in-Ok-of.ensures.page, c.in-Ok-of.ensures.asks)
 
 pub returns-in-Err-of-clause-fails : goal.returns-in-Err-of-clause-fails
 returns-in-Err-of-clause-fails g c = λ input old store.

@@ -2,7 +2,7 @@ use Rattle.std.proofs.Common.{◌≡◌, All, subst, sym}
 use Rattle.fill_sheet.specs.Columns.{IsColumn, rising}
 use Rattle.fill_sheet.proofs.Decisions.{rising-columns}
 use Rattle.fill_sheet.proofs.Rising.{sorted-rising}
-use Rattle.fill_csv.proofs.saving.rising.Goals as goal
+use Rattle.fill_csv.proofs.columns.rising.Goals as goal
 
 pub returns-clause-value : goal.returns-clause-value
 returns-clause-value c = sorted-rising c.args.columns.now c.sort.new.self.items (rw c.in_ok-rising.ensures.items at c.in_ok-sort.ensures.permutation) c.in_ok-sort.ensures.sorted
