@@ -1,11 +1,10 @@
 -- What rows teach, one after another and block by block.
-use Rattle.std.proofs.Common.{◌≡◌, ◌∙◌, ℕ, zero, suc, ◌+◌, ◌<◌, ◌≤◌, List, [], ◌∷◌, ◌++◌, length, All, Contains, None, Option, arith, ap, append_assoc, append-nil, refl, subst, sym}
-use Rattle.std.specs.List.{range_with_len}
+use Rattle.std.proofs.Common.{◌≡◌, ◌∙◌, ℕ, suc, ◌<◌, List, [], ◌∷◌, ◌++◌, length, All, None, Option, arith, ap, append_assoc, append-nil, refl, subst, sym}
 use Rattle.std.proofs.lemmas.List.{map-append}
 use Rattle.std.proofs.lemmas.List.Elements.{All-cons, All-head, All-nil, All-tail}
 use Rattle.fill_tree.specs.declared.user.Example.{Example}
 use Rattle.fill_space.specs.declared.ground.Ground.{Ground}
-use Rattle.fill_filled.specs.Learned.{Gives, Learns, LearnsFirst, given_for}
+use Rattle.fill_filled.specs.Learned.{Gives, Learns, given_for}
 use Rattle.fill_filled.specs.declared.learning.Refused.{Refused}
 use Rattle.fill_blocks.specs.Merged.{RowsRise, numbers_of}
 use Rattle.fill_blocks.specs.declared.numbered.Numbered.{Numbered}

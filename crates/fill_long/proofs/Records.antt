@@ -10,7 +10,6 @@ use Rattle.fill_edge.specs.Outside.{AppendsPart}
 use Rattle.fill_sheet.specs.Report.{record_text}
 use Rattle.fill_tree.specs.declared.user.Example.{Example}
 use Rattle.fill_space.specs.declared.ground.Ground.{Ground}
-use Rattle.fill_report.specs.Output.{report_text}
 use Rattle.fill_report.specs.Records.{Fields}
 use Rattle.fill_report.specs.declared.rows.RowState.{RowState}
 use Rattle.fill_report.proofs.Bytes.{appends_more, appends_then, part_more, part_then}

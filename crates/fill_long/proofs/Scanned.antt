@@ -1,8 +1,8 @@
 -- What is seen of records one after another.
-use Rattle.std.proofs.Common.{◌≡◌, ◌∙◌, ℕ, zero, suc, ◌+◌, ◌<◌, ◌≤◌, List, [], ◌∷◌, ◌++◌, length, max, nat_lt, Bool, true, false, take, drop, Option, Some, None, refl, sym, ap, arith, add-one}
+use Rattle.std.proofs.Common.{◌≡◌, ◌∙◌, ℕ, zero, suc, ◌+◌, ◌<◌, ◌≤◌, List, [], ◌∷◌, ◌++◌, length, max, nat_lt, Bool, true, take, drop, Option, Some, None, refl, sym, ap, arith, add-one}
 use Rattle.std.specs.Prelude.{slice_get}
 use Rattle.std.specs.Option.{is_some}
-use Rattle.std.proofs.lemmas.List.{drop_all, length-append, length-take, take_all}
+use Rattle.std.proofs.lemmas.List.{drop_all, length-append, length-take}
 use Rattle.fill_records.specs.Texts.{bad_column, first_bad, or_later}
 use Rattle.fill_report.specs.Records.{Fields}
 use Rattle.fill_columns.specs.Columns.{width}

@@ -1,24 +1,22 @@
 -- Rows of a long sheet.
-use Rattle.std.proofs.Common.{◌≡◌, ◌∙◌, ℕ, ◌+◌, ◌<◌, ◌≤◌, List, ◌++◌, length, map, take, drop, All, Contains, Option, Some, refl, sym, ap, subst, arith, get_or}
+use Rattle.std.proofs.Common.{◌≡◌, ◌∙◌, ℕ, ◌+◌, ◌<◌, ◌≤◌, List, ◌++◌, length, take, drop, All, Contains, sym, ap, subst, arith}
 use Rattle.std.specs.Prelude.{option_to_list}
 use Rattle.std.proofs.lemmas.List.{get_or-map, length-map, length-take}
 use Rattle.std.proofs.lemmas.List.Elements.{All-map, All-weaker}
-use Rattle.fill_text.specs.Data.{TableData, nth}
+use Rattle.fill_text.specs.Data.{TableData}
 use Rattle.fill_records.specs.Texts.{IsText}
 use Rattle.fill_sheet.specs.Columns.{rising}
 use Rattle.fill_sheet.specs.Sheet.{row_of}
 use Rattle.fill_tree.specs.declared.user.Example.{Example}
-use Rattle.fill_report.specs.Records.{Fields}
 use Rattle.fill_session.specs.Edits.{rows_of as example_rows}
 use Rattle.fill_blocks.specs.Merged.{IsReadable, IsRowOf, RowsRise, numbers_of}
 use Rattle.fill_blocks.specs.declared.numbered.Numbered.{Numbered}
-use Rattle.fill_long.specs.Long.{AreRows, IsLong, ground_of, rows_of, sheet_over}
+use Rattle.fill_long.specs.Long.{AreRows, IsLong, ground_of, rows_of}
 use Rattle.fill_long.specs.Reading.{AreOf, most_rows, numbered}
 use Rattle.fill_long.specs.Rows.{IsRow}
 use Rattle.fill_long.specs.declared.sheet.LongSheet.{LongSheet}
 use Rattle.fill_long.proofs.Choosing.{of_all, of_rises}
-use Rattle.fill_long.proofs.Counting.{most_rows_is}
-use Rattle.fill_long.proofs.Numbering.{HasRecord, all_numbered, block_of, length_numbered, nth_map, rises_numbered, there}
+use Rattle.fill_long.proofs.Numbering.{all_numbered, block_of, length_numbered, nth_map, rises_numbered, there}
 
 module _ (s : LongSheet) (rows : List Numbered) (are : AreOf rows (numbered 1 (rows_of s))) where
   pub rows_rise : RowsRise rows

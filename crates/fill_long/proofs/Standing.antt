@@ -1,5 +1,5 @@
 -- What blocks stand for.
-use Rattle.std.proofs.Common.{◌≡◌, ◌∙◌, ℕ, List, Bool, true, Option, None, Some, Contains, ap, arith, subst, sym}
+use Rattle.std.proofs.Common.{◌≡◌, ◌∙◌, ℕ, List, true, Option, None, Some, Contains, ap, arith, subst, sym}
 use Rattle.std.specs.Prelude.{MatchOption}
 use Rattle.std.specs.Option.{is_some}
 use Rattle.fill_text.specs.Data.{TableData}

@@ -1,5 +1,5 @@
 -- What the text of a row makes of the examples and of the rows that are kept.
-use Rattle.std.proofs.Common.{◌≡◌, ◌≢◌, ◌⊎◌, ◌∙◌, ℕ, ◌+◌, ◌<◌, ◌≤◌, List, [], ◌∷◌, ◌++◌, length, map, All, Bool, true, false, Option, None, Some, Result, Ok, Err, arith, ap, append-nil, inl, inr, refl, subst, sym}
+use Rattle.std.proofs.Common.{◌≡◌, ◌≢◌, ◌∙◌, ℕ, ◌<◌, ◌≤◌, List, [], ◌∷◌, ◌++◌, length, All, Bool, true, false, None, Some, Result, Ok, Err, arith, ap, append-nil, inl, inr, refl, subst, sym}
 use Rattle.std.specs.Bool.{⊤}
 use Rattle.std.proofs.lemmas.Bool.{lt-ltb}
 use Rattle.std.proofs.lemmas.List.{get_or-map, length-append, length-map, map-append}
@@ -8,11 +8,10 @@ use Rattle.fill_text.specs.Data.{SheetData}
 use Rattle.fill_tree.specs.declared.user.Edit.TheVariants.{Add}
 use Rattle.fill_tree.specs.declared.user.Example.{Example}
 use Rattle.fill_session.specs.Edits.{changed, with_example, rows_of as example_rows}
-use Rattle.fill_session.specs.Outcome.{Answers, first_reason}
+use Rattle.fill_session.specs.Outcome.{first_reason}
 use Rattle.fill_session.specs.declared.error.EditError.{EditError}
 use Rattle.fill_session.specs.declared.error.EditError.TheVariants as error
 use Rattle.fill_session.proofs.Seen.{may_add}
-use Rattle.fill_space.specs.declared.ground.Ground.{Ground}
 use Rattle.fill_filled.specs.Learned.{Gives}
 use Rattle.fill_filled.specs.declared.learning.Refused.{Refused}
 use Rattle.fill_blocks.specs.Blocks.{BlockData, StandsFor}

@@ -1,5 +1,5 @@
 -- Long sheets: what the bytes of a file are as a sheet.
-use Rattle.std.specs.Prelude.{◌≡◌, ℕ, ◌<◌, ◌≤◌, List, [], ◌∷◌, ◌++◌, All, Bool, true, false, IfSome, Option, None, Some, drop, length, map, nat_lt, option_to_list, take}
+use Rattle.std.specs.Prelude.{◌≡◌, ℕ, ◌≤◌, List, [], ◌∷◌, ◌++◌, All, Bool, true, false, IfSome, Option, None, Some, drop, length, map, nat_lt, option_to_list, take}
 use Rattle.std.specs.Option.{ForSome}
 use Rattle.fill_text.specs.Data.{SheetData, TableData}
 use Rattle.fill_records.specs.Records.{records_of}

@@ -1,4 +1,4 @@
-use Rattle.std.proofs.Common.{◌≡◌, ◌∙◌, ◌+◌, ◌++◌, ◌<◌, ℕ, List, [], drop, take, length, ap, arith, refl, subst, sym}
+use Rattle.std.proofs.Common.{◌≡◌, ◌∙◌, ◌+◌, ◌++◌, ◌<◌, ℕ, List, drop, take, length, ap, arith, refl, subst, sym}
 use Rattle.std.proofs.lemmas.List.{length-drop, length-map}
 use Rattle.fill_text.specs.Data.{TableData}
 use Rattle.fill_sheet.specs.Columns.{rising}

@@ -1,4 +1,4 @@
-use Rattle.std.proofs.Common.{◌≡◌, ◌∙◌, Option, Some, List, ℕ, [], ap, append-nil, refl, subst, sym}
+use Rattle.std.proofs.Common.{◌∙◌, Option, Some, List, ℕ, [], ap, append-nil, refl, subst, sym}
 use Rattle.fill_filled.specs.Learned.{Gives}
 use Rattle.fill_filled.specs.declared.learning.Refused.{Refused}
 use Rattle.fill_filled.proofs.Written.{when_ok}

@@ -1,4 +1,4 @@
-use Rattle.std.proofs.Common.{List, ℕ, [], ◌++◌, All, Contains, append-nil, subst, sym}
+use Rattle.std.proofs.Common.{List, [], ◌++◌, All, Contains, append-nil, subst, sym}
 use Rattle.fill_filled.specs.declared.learning.Refused.{Refused}
 use Rattle.fill_blocks.specs.declared.numbered.Numbered.{Numbered}
 use Rattle.fill_long.specs.Long.{ground_of, rows_of}

@@ -1,4 +1,4 @@
-use Rattle.std.proofs.Common.{◌≡◌, ◌∙◌, ◌<◌, ap, arith}
+use Rattle.std.proofs.Common.{◌∙◌, ◌<◌, ap, arith}
 use Rattle.std.specs.Prelude.{slice_get}
 use Rattle.fill_records.specs.Records.{records_of}
 use Rattle.fill_long.proofs.Scanned.{header_read}

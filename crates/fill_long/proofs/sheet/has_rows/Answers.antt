@@ -1,4 +1,4 @@
-use Rattle.std.proofs.Common.{◌≡◌, All, Contains, arith, ap, get_or, subst, take, length, ◌≤◌}
+use Rattle.std.proofs.Common.{All, Contains, arith, subst, length, ◌≤◌}
 use Rattle.std.proofs.lemmas.List.{take_all}
 use Rattle.std.proofs.lemmas.List.Elements.{All-more}
 use Rattle.fill_blocks.specs.declared.numbered.Numbered.{Numbered}

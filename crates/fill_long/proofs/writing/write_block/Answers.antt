@@ -1,4 +1,4 @@
-use Rattle.std.proofs.Common.{ℕ, List, All, Contains, refl, subst, sym}
+use Rattle.std.proofs.Common.{List, All, Contains, refl, subst}
 use Rattle.fill_blocks.specs.declared.numbered.Numbered.{Numbered}
 use Rattle.fill_long.specs.Taught.{tables_of}
 use Rattle.fill_long.proofs.Records.{fails_with, taught_by, tells_on, writes_on, writes_part, writes_some}

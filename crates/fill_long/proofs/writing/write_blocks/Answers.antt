@@ -1,5 +1,4 @@
 use Rattle.std.proofs.Common.{◌≡◌, ◌∙◌, ◌+◌, ◌<◌, ℕ, List, [], drop, false, take, length, ap, arith, refl, subst, sym}
-use Rattle.std.proofs.KnownBytes.{Appends-nil}
 use Rattle.std.proofs.lemmas.List.{length-drop, take_all}
 use Rattle.fill_text.specs.Data.{TableData}
 use Rattle.fill_filled.specs.Filled.{TellsUnsure, WritesRows}

@@ -1,4 +1,4 @@
-use Rattle.std.proofs.Common.{◌≡◌, ◌≤◌, drop, take}
+use Rattle.std.proofs.Common.{◌≡◌, drop, take}
 use Rattle.fill_long.specs.Reading.{numbered}
 use Rattle.fill_long.proofs.reading.Reading.next_rows.Given as goal
 
