@@ -1,24 +1,20 @@
--- The records of first rows, and of one row more.
-use Rattle.std.proofs.Common.{◌≡◌, ℕ, ◌+◌, ◌-◌, ◌<◌, ◌≤◌, List, [], ◌∷◌, ◌++◌, length, replicate, Option, None, Some, Result, Ok, Err, Bool, true, false, refl, ap, ◌∙◌, sym, subst, arith, append-nil, length-append}
+-- The records of first rows, after the head.
+use Rattle.std.proofs.Common.{◌≡◌, ℕ, ◌-◌, ◌<◌, ◌≤◌, List, [], length, replicate, Option, None, Some, Result, Ok, Err, Bool, true, false, refl, sym, subst, arith, append-nil, length-append}
 use Rattle.std.specs.Prelude.{◌||◌, IfSome, OnOk}
-use Rattle.std.specs.List.{list_any}
 use Rattle.std.proofs.lemmas.List.{length-replicate, length-set}
 use Rattle.std.specs.Io.KnownBytes.{Appends}
 use Rattle.std.proofs.KnownBytes.{Appends-nil, Appends-trans}
 use Rattle.fill_edge.specs.Outside.{AppendsPart}
-use Rattle.fill_sheet.specs.Report.{record_text}
 use Rattle.fill_tree.specs.declared.user.Example.{Example}
 use Rattle.fill_space.specs.declared.ground.Ground.{Ground}
 use Rattle.fill_report.specs.Output.{report_text}
 use Rattle.fill_report.specs.Records.{Fields}
-use Rattle.fill_report.proofs.Bytes.{appends_more, appends_part_after, part_more}
-use Rattle.fill_report.proofs.Numbered.{rows_more}
+use Rattle.fill_report.proofs.Bytes.{appends_part_after}
 use Rattle.fill_session.specs.declared.answer.Answer.{Answer}
 use Rattle.fill_report.specs.Rows.{state_name}
-use Rattle.fill_report.specs.declared.rows.RowState.{RowState}
 use Rattle.fill_columns.specs.Fields.{padded, with_field}
 use Rattle.fill_filled.specs.Learned.{given_by}
-use Rattle.fill_filled.specs.Filled.{IsCellState, IsFilledRow, TellsUnsure, WritesPart, WritesRows, cell_of, cell_state, filled_fields, is_unsure, with_answer, with_word}
+use Rattle.fill_filled.specs.Filled.{TellsUnsure, WritesPart, WritesRows, cell_of, cell_state, filled_fields, with_answer, with_word}
 use Rattle.fill_filled.specs.declared.form.Form.{Form}
 
 -- what follows where a call succeeds
@@ -49,27 +45,9 @@ or_false : (b : Bool) → (b || false) ≡ b
 or_false true = refl
 or_false false = refl
 
-or_assoc : (a b c : Bool) → ((a || b) || c) ≡ (a || (b || c))
-or_assoc true b c = refl
-or_assoc false b c = refl
-
-any_push : (states : List RowState) (s : RowState) → list_any is_unsure (states ++ s ∷ []) ≡ (list_any is_unsure states || is_unsure s)
-any_push [] s = or_false (is_unsure s)
-any_push (x ∷ states) s = ap (λ b. is_unsure x || b) (any_push states s) ∙ sym (or_assoc (is_unsure x) (list_any is_unsure states) (is_unsure s))
-
 module _ (form : Form) (typed : List Example) (g : Ground) (examples : List Example) (records : List Fields) (old : Option (List ℕ)) where
   pub rows_none : WritesRows form typed g examples records [] 0 old old
   rows_none = ([], tt, Appends-nil old)
-
-  pub row_next : (mid new : Option (List ℕ)) (n : ℕ) → WritesRows form typed g examples records [] n old mid
-      → (fields : Fields) × IsFilledRow form typed g examples records (n + 1) fields × Appends mid new (record_text fields) → WritesRows form typed g examples records [] (n + 1) old new
-  row_next mid new n w h =
-      (w.0 ++ h.0 ∷ [], rows_more (IsFilledRow form typed g examples records) n w.0 h.0 w.1 h.1, appends_more old mid new w.0 h.0 w.2 h.2)
-
-  pub row_part : (mid new : Option (List ℕ)) (n : ℕ) → WritesRows form typed g examples records [] n old mid
-      → (fields : Fields) × IsFilledRow form typed g examples records (n + 1) fields × AppendsPart mid new (record_text fields) → WritesPart form typed g examples records [] (n + 1) old new
-  row_part mid new n w h =
-      (w.0 ++ h.0 ∷ [], rows_more (IsFilledRow form typed g examples records) n w.0 h.0 w.1 h.1, part_more old mid new w.0 h.0 w.2 h.2)
 
   -- the rows after the head
   pub head_rows : (mid new : Option (List ℕ)) (head : List ℕ) (n : ℕ) → Appends old mid head → WritesRows form typed g examples records [] n mid new → WritesRows form typed g examples records head n old new
@@ -86,11 +64,3 @@ module _ (form : Form) (typed : List Example) (g : Ground) (examples : List Exam
 module _ (typed : List Example) (g : Ground) (examples : List Example) (before : Bool) where
   pub states_none : TellsUnsure typed g examples 0 before before
   states_none = ([], tt, sym (or_false before))
-
-  pub state_next : (n : ℕ) (mid now : Bool) → TellsUnsure typed g examples n before mid
-      → (state : RowState) × IsCellState typed g examples (n + 1) state × (now ≡ (mid || is_unsure state)) → TellsUnsure typed g examples (n + 1) before now
-  state_next n mid now t h = (
-    t.0 ++ h.0 ∷ [],
-    rows_more (IsCellState typed g examples) n t.0 h.0 t.1 h.1,
-    h.2 ∙ ap (λ b. b || is_unsure h.0) t.2 ∙ or_assoc before (list_any is_unsure t.0) (is_unsure h.0) ∙ ap (λ b. before || b) (sym (any_push t.0 h.0)),
-  )

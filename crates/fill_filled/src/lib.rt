@@ -1,4 +1,4 @@
-//! Sheets with one of their columns filled: what is learned from it, and what is written of each row.
+//! Sheets with one of their columns filled: what is learned from it, and what is written of a row.
 #![tactic(auto)]
 
 mod clash;
@@ -7,7 +7,6 @@ mod given;
 mod learning;
 mod rows;
 mod summary;
-mod writing;
 
 pub use clash::clash_of;
 pub use form::Form;
@@ -15,4 +14,3 @@ pub use given::typed_at;
 pub use learning::{Refused, learn};
 pub use rows::{cell_state, filled_fields, head_fields};
 pub use summary::{Counts, Summary};
-pub use writing::{Filling, write_filled};
