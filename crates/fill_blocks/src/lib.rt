@@ -5,11 +5,9 @@
 #![tactic(auto)]
 
 mod block;
-mod laws;
 mod numbered;
 mod part;
 mod writing;
 
 pub use block::Block;
-pub use laws::learned_are_accepted;
 pub use numbered::{Numbered, Rows};

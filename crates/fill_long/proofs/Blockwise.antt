@@ -21,6 +21,7 @@ use Rattle.fill_long.specs.Reading.{AreOf, most_rows, numbered}
 use Rattle.fill_long.specs.declared.sheet.LongSheet.{LongSheet}
 use Rattle.fill_long.proofs.Choosing.{of_both, of_more, of_those}
 use Rattle.fill_long.proofs.Counting.{most_rows_is}
+use Rattle.fill_long.proofs.Filling.{take_range}
 use Rattle.fill_long.proofs.Lessons.{learns_both}
 use Rattle.fill_long.proofs.Numbering.{drop_both, length_numbered, numbered_append, numbers_numbered, take_both}
 use Rattle.fill_long.proofs.Sheets.{block_rows}
@@ -68,6 +69,11 @@ module _ (s : LongSheet) (n : ℕ) (reading left : List Fields) (rows : List Num
   -- the numbers of the rows so far and of the block
   pub numbers_so_far : range_with_len 1 n ++ numbers_of rows ≡ range_with_len 1 (n + length rows)
   numbers_so_far = ap (λ (l : List ℕ). range_with_len 1 n ++ l) next_numbers ∙ sym (range_both 1 n (length rows))
+
+  -- the numbers of the rows so far and of the first ones of the block
+  pub first_so_far : (k : ℕ) → k ≤ length rows → range_with_len 1 n ++ take k (numbers_of rows) ≡ range_with_len 1 (n + k)
+  first_so_far k le =
+      ap (λ (l : List ℕ). range_with_len 1 n ++ take k l) next_numbers ∙ ap (λ (l : List ℕ). range_with_len 1 n ++ l) (take_range (1 + n) (length rows) k le) ∙ sym (range_both 1 n k)
 
   rows_so_far : numbered 1 (take n (rows_of s)) ++ rows ≡ numbered 1 (take (n + length rows) (rows_of s))
   rows_so_far =
@@ -128,3 +134,14 @@ is_none n empty is none = eqb-true n 0 (sym is ∙ none)
 pub is_some : (n : ℕ) (empty : Bool) → empty ≡ (n == 0) → empty ≡ false → 0 < n
 is_some zero empty is none = cc
 is_some (suc n) empty is none = omega arith
+
+-- rows that are shown of those so far
+pub shown_rows : (s : LongSheet) (n : ℕ) (shown : List Numbered) → AreOf shown (numbered 1 (take n (rows_of s))) → length shown ≤ 1000 → AreRows s shown
+shown_rows s n shown of few =
+    let first = take n (rows_of s) in
+    let later = drop n (rows_of s) in
+    record {
+      rows = subst (λ (l : List Numbered). AreOf shown l) (sym (ap (numbered 1) (sym (take-append-drop n (rows_of s))) ∙ numbered_append 1 first later))
+          (of_more shown (numbered 1 first) (numbered (1 + length first) later) of);
+      few = omega (arith, few, most_rows_is);
+    }

@@ -8,4 +8,5 @@ pub mod Teaching
 pub mod Giving
 pub mod Lessons
 pub mod Blockwise
-pub mod Records
+pub mod Rowwise
+pub mod Filling

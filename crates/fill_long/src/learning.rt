@@ -135,7 +135,7 @@ fn has_cell(sheet: &LongSheet<'_>, row: &Numbered) -> bool
     }
 }
 
-/// Learns from each of these rows, which a block has. Its examples are put off.
+/// Learns from each of these rows, which a block has. The examples are then those of the block, and are not set here.
 fn learn_each<L: Ledger>(
     sheet: &LongSheet<'_>,
     block: &mut Block,

@@ -10,7 +10,7 @@ ghost use Rattle.fill_blocks.specs.Blocks.{StandsFor};
 ghost use Rattle.fill_blocks.specs.Merged.{numbers_of};
 ghost use Rattle.fill_long.specs.Long.{AreRows, IsLong, ground_of, rows_of};
 ghost use Rattle.fill_long.specs.Reading.{AreOf};
-ghost use Rattle.fill_long.specs.Rows.{IsMadeIn, IsRow, IsStateIn, TellsOf, TellsOn, WritesOf, WritesOn, WritesPartOf, WritesPartOn};
+ghost use Rattle.fill_long.specs.Rows.{IsMadeIn, IsRow, IsStateIn, TellsOf, WritesOf, WritesPartOf};
 ghost use Rattle.fill_long.specs.Taught.{IsTaught, examples_of, ground_with, tables_of};
 
 use crate::learning::Learned;
@@ -95,11 +95,6 @@ fn write_blocks<L: Ledger, O: Sink>(
         summary: Summary::NONE,
         shown: Vec::new(alloc),
     };
-    let lesson = Lesson {
-        alloc,
-        sheet,
-        learned,
-    };
     let mut basis = basis;
     let mut reading = Reading::of_rows(alloc, sheet.bytes, sheet.header)?;
     let mut done = 0;
@@ -109,50 +104,11 @@ fn write_blocks<L: Ledger, O: Sink>(
             return Ok((written, basis));
         }
         done += rows.len() as u32;
-        basis = match write_block(&lesson, basis, rows, &mut written, steps, out) {
-            Ok(basis) => basis,
+        let block = sheet.block(alloc, learned, basis, &rows, steps)?;
+        match write_rows(alloc, sheet, &block, rows, &mut written, out) {
+            Ok(()) => basis = Basis::Block(block),
             Err(halt) => return Err(halt),
-        };
-    }
-}
-
-/// A sheet, and what was learned from it.
-#[derive(Clone, Copy)]
-struct Lesson<'a> {
-    alloc: Global,
-    sheet: &'a LongSheet<'a>,
-    learned: &'a Learned,
-}
-
-/// Writes the records of some rows, and answers what the next block is made of.
-fn write_block<L: Ledger, O: Sink>(
-    lesson: &Lesson<'_>,
-    basis: Basis,
-    rows: Vec<Numbered>,
-    written: &mut Written,
-    steps: &mut Steps<L>,
-    out: &mut O,
-) -> Result<Basis, Halt>
-    requires long { IsLong lesson.now.sheet.now }
-    requires taught { IsTaught lesson.now.sheet.now lesson.now.learned.now basis }
-    requires rows { AreRows lesson.now.sheet.now rows.items }
-    requires few { length written.old.shown.items ≤ 1000 }
-    ensures taught { IfOk result (IsTaught lesson.now.sheet.now lesson.now.learned.now) }
-    ensures tables { IfOk result (λ after. tables_of after ≡ tables_of basis) }
-    ensures shown { OnOk result (AreOf written.new.shown.items (written.old.shown.items ++ rows.items)) }
-    ensures few { OnOk result (length written.new.shown.items ≤ 1000) }
-    ensures states { OnOk result (let s = lesson.now.sheet.now in TellsOn s (ground_of s (tables_of basis)) lesson.now.learned.now.examples rows.items written.old.summary.unsure written.new.summary.unsure) }
-    ensures whole { OnOk result (let s = lesson.now.sheet.now in WritesOn s (ground_of s (tables_of basis)) lesson.now.learned.now.examples rows.items (length rows.items) (O.written out.old) (O.written out.new)) }
-    ensures part { IsErrOf result Halt.Fault → (let s = lesson.now.sheet.now in (m : ℕ) × (m ≤ length rows.items) × WritesPartOn s (ground_of s (tables_of basis)) lesson.now.learned.now.examples rows.items m (O.written out.old) (O.written out.new)) }
-    ensures fault { IsErrOf result Halt.Fault → Rose (O.faults out.old) (O.faults out.new) }
-    ensures memory { IsErrOf result Halt.NoMemory → (let s = lesson.now.sheet.now in (m : ℕ) × (m ≤ length rows.items) × WritesOn s (ground_of s (tables_of basis)) lesson.now.learned.now.examples rows.items m (O.written out.old) (O.written out.new)) }
-    ensures later { O.faults out.old ≤ O.faults out.new }
-{
-    let sheet = lesson.sheet;
-    let block = sheet.block(lesson.alloc, lesson.learned, basis, &rows, steps)?;
-    match write_rows(lesson.alloc, sheet, &block, rows, written, out) {
-        Ok(()) => Ok(Basis::Block(block)),
-        Err(halt) => Err(halt),
+        }
     }
 }
 
@@ -181,11 +137,10 @@ fn write_rows<O: Sink>(
 {
     let mut shapes = Shapes::new(alloc);
     for row in rows {
-        let state = match write_row(alloc, sheet, block, &row, &mut shapes, out) {
-            Ok(state) => state,
+        match write_row(alloc, sheet, block, &row, &mut shapes, out) {
+            Ok(state) => written.note(row, state)?,
             Err(halt) => return Err(halt),
-        };
-        written.note(row, state)?;
+        }
     }
     Ok(())
 }

@@ -8,14 +8,14 @@ use Rattle.fill_long.proofs.writing.write_blocks.Given as goal
 -- the rows so far
 abbrev pub invariant-loop-reading : goal.invariant-loop-reading
 invariant-loop-reading g l = record {
-  left : l.reading ≡ drop l.done (rows_of l.fn.sheet);
-  within : l.done ≤ length (rows_of l.fn.sheet);
-  written : WritesRows l.fn.sheet.form l.fn.sheet.typed.now (ground_of l.fn.sheet (tables_of l.fn.basis)) l.learned.examples (rows_of l.fn.sheet) [] l.done (g.O.Sink.written l.initial.out) (g.O.Sink.written l.out);
-  states : TellsUnsure l.fn.sheet.typed.now (ground_of l.fn.sheet (tables_of l.fn.basis)) l.learned.examples l.done false l.written.summary.unsure;
-  shown : AreOf l.written.shown.items (numbered 1 (take l.done (rows_of l.fn.sheet)));
+  left : l.reading ≡ drop l.done (rows_of l.sheet);
+  within : l.done ≤ length (rows_of l.sheet);
+  states : TellsUnsure l.sheet.typed.now (ground_of l.sheet (tables_of l.fn.basis)) l.learned.examples l.done false l.written.summary.unsure;
+  shown : AreOf l.written.shown.items (numbered 1 (take l.done (rows_of l.sheet)));
   few : length l.written.shown.items ≤ 1000;
-  taught : IsTaught l.fn.sheet l.learned l.basis;
+  taught : IsTaught l.sheet l.learned l.basis;
   tables : tables_of l.basis ≡ tables_of l.fn.basis;
+  written : WritesRows l.sheet.form l.sheet.typed.now (ground_of l.sheet (tables_of l.fn.basis)) l.learned.examples (rows_of l.sheet) [] l.done (g.O.Sink.written l.initial.out) (g.O.Sink.written l.out);
   later : g.O.Sink.faults l.initial.out ≤ g.O.Sink.faults l.out;
 }
 

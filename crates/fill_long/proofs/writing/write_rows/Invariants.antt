@@ -9,10 +9,10 @@ use Rattle.fill_long.proofs.writing.write_rows.Given as goal
 abbrev pub invariant-loop-row : goal.invariant-loop-row
 invariant-loop-row g l = record {
   whole : l.fn.rows.items ≡ l.yielded ++ l.row-iterator.rest.items;
-  written : WritesOf l.sheet l.block (numbers_of l.yielded) (g.O.Sink.written l.initial.out) (g.O.Sink.written l.out);
   states : TellsOf l.sheet l.block (numbers_of l.yielded) l.initial.written.summary.unsure l.written.summary.unsure;
   shown : AreOf l.written.shown.items (l.initial.written.shown.items ++ l.yielded);
   few : length l.written.shown.items ≤ 1000;
-  shapes : ShapesStand l.block.session.spaces.arena l.shapes;
+  written : WritesOf l.sheet l.block (numbers_of l.yielded) (g.O.Sink.written l.initial.out) (g.O.Sink.written l.out);
   later : g.O.Sink.faults l.initial.out ≤ g.O.Sink.faults l.out;
+  shapes : ShapesStand l.block.session.spaces.arena l.shapes;
 }
