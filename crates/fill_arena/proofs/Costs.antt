@@ -85,7 +85,7 @@ module _ (prices : Prices) (small : ArePrices prices) where
   text_few : (t : List ℕ) → length t ≤ 100 → text_cost prices t ≤ 6619035
   text_few t h = let few = sum_by-le (char_cost prices) 65535 t (λ k d lt. char_few (get_or t k d)) in let own = small.constant in omega arith
 
--- the most that a source costs in which so many lookups stand inside each other
+-- the most that a source costs in which lookups stand this deep inside each other
 abbrev pub most : ℕ → ℕ
 most zero = 65535
 most (suc d) = 3 * (most d + 281470682791920) + 65535
@@ -220,7 +220,7 @@ module _ (prices : Prices) (small : ArePrices prices) (c : List Entry) (made : I
       let whole = mul-le-mul_right (most 3 + 281470682791920) short in
       omega arith
 
-  -- a walk of so many atoms is a path of as many edges
+  -- a walk is a path of as many edges as it has atoms
   walk_path : (p : Atoms) (edges : List Edge) (last at : ℕ) → Walks p c edges last at → (path : List Edge) × Path edges at path last × (length path ≡ number_of_atoms p)
   walk_path end edges last at h = ([], h, refl)
   walk_path (more a rest) edges last at h =

@@ -32,7 +32,7 @@ IsAtomSet c s = (items : List AtomItem) × (slice_get c s ≡ Some (Atoms items)
 abbrev pub IsGraph : List Entry → ℕ → Type 0
 IsGraph c g = (nodes : ℕ) × (edges : List Edge) × (slice_get c g ≡ Some (Graph nodes edges))
 
--- the graph has so many nodes, and these edges
+-- the graph has this number of nodes
 abbrev pub HasNodes : List Entry → ℕ → ℕ → Type 0
 HasNodes c g nodes = (edges : List Edge) × (slice_get c g ≡ Some (Graph nodes edges))
 

@@ -68,7 +68,7 @@ abbrev pub sample_hash : ℕ → Option Place → ℕ
 sample_hash hash None = hash
 sample_hash hash (Some p) = place_hash hash p
 
--- of so many places of a set, which are spread over it
+-- the hash of some places of a set, which are spread over it
 unfoldable pub samples_hash : List Place → ℕ → ℕ
 samples_hash places zero = mixed 1 (length places)
 samples_hash places (suc i) = sample_hash (samples_hash places i) (slice_get places (i * (length places / 8 + 1)))

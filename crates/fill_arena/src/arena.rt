@@ -1,6 +1,6 @@
 //! The arena.
 ghost use Rattle.std.specs.Prelude.{◌≡◌, ◌+◌, ◌<◌, ◌≤◌, List, [], ◌∷◌, ◌++◌, Some, slice_get, length, take, IfOk, OnOk, OnErr};
-ghost use Rattle.fill_arena.specs.Contents.{AreDistinct, Extends, HasEdges, HasNodes, Interns, IsAtomSet, IsGraph, IsPlaceSet, IsSourceSet};
+ghost use Rattle.fill_arena.specs.Contents.{Extends, HasEdges, HasNodes, Interns, IsAtomSet, IsGraph, IsPlaceSet, IsSourceSet};
 ghost use Rattle.fill_arena.specs.Entries.{entry_of};
 ghost use Rattle.fill_arena.specs.Index.{IsFree};
 ghost use Rattle.fill_arena.specs.WellMade.{AreAtoms, ArePlaces, AreSources, IsEntry, IsGraphOf, IsWellMade};
@@ -196,13 +196,6 @@ impl Arena {
     /// What an arena keeps: each of its sets and graphs is well made. It does nothing.
     pub fn keeps_made(&self)
         ensures { IsWellMade self.now }
-    {
-        let _kept = &self.entries;
-    }
-
-    /// What an arena keeps: no two numbers have equal contents. It does nothing.
-    pub fn keeps_distinct(&self)
-        ensures { AreDistinct self.now }
     {
         let _kept = &self.entries;
     }

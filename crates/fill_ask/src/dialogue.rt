@@ -1,5 +1,5 @@
 //! The dialogue: it asks about the row to look at next, until none is left or the answers end.
-ghost use Rattle.std.specs.Prelude.{◌≡◌, ◌≤◌, ◌++◌, [], IfOk, IfSome, OnOk, length, map, option_map};
+ghost use Rattle.std.specs.Prelude.{◌≡◌, ◌≤◌, ◌++◌, [], IfOk, OnOk, map, option_map};
 ghost use Rattle.std.specs.Io.KnownBytes.{prepend_known};
 ghost use Rattle.fill_session.specs.Suggested.{asked_of};
 ghost use Rattle.fill_ask.specs.Dialogue.{AreAnswered, QuestionIs};

@@ -96,7 +96,7 @@ module _ {A : Type 0} (test : A → Bool) where
 pub piece_range : {A : Type 0} (xs : List A) (from width : ℕ) → slice_range xs from (from + width) ≡ take width (drop from xs)
 piece_range xs from width = let e : from + width - from ≡ width = omega arith in ap (λ n. take n (drop from xs)) e
 
--- the rest of a list goes on past so many items, or ends there
+-- the rest of a list, of which `done` items are taken, goes on or ends there
 pub rest_goes_on : {A : Type 0} (xs ys : List A) (from done : ℕ) → xs ≡ ys → done < length (slice_range xs from (length xs)) → from + (done + 1) ≤ length ys
 rest_goes_on xs ys from done e lt =
     let first = length-take (length xs - from) (drop from xs) in

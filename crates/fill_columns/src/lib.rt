@@ -5,10 +5,8 @@ mod choice;
 mod column;
 mod error;
 mod field;
-mod widths;
 
 pub use choice::{Choice, choose, choose_new};
 pub use column::column_of;
 pub use error::{ChoiceError, ColumnError};
 pub use field::{fields_of, with_field};
-pub use widths::width;

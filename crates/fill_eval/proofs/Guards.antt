@@ -23,7 +23,7 @@ use Rattle.fill_tree.specs.declared.guard.Switch.{Switch}
 same_cell : (sheet : SheetData) (row column : ℕ) (t u : List ℕ) → cell_at sheet row column ≡ Some t → cell_at sheet row column ≡ Some u → t ≡ u
 same_cell sheet row column t u is other = let e : Some t ≡ Some u = sym is ∙ other in cc
 
--- whether the count is large enough is whether there are so many matches
+-- the count is large enough exactly where there are enough matches
 enough : (r : List Token) (t : List ℕ) (least count : ℕ) → IsCount (Begins r t) (length t + 1) count → leb least count ≡ true → HasMatches r t least
 enough r t least count is le = (count, is, grind (arith, nat_tests))
 

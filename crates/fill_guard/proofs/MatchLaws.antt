@@ -28,7 +28,7 @@ skip P m (suc n) c h none is = elim (cases_order m (suc n)) [
 ]
 
 module _ (starts ends seconds : List ℕ) where
-  -- so many of the pieces before the place go on; m is past all of their starts
+  -- `count` of the pieces before the place go on; m is past all of their starts
   pub record Scanned (i count : ℕ) : Type 0 where
     pub past : ℕ
     pub counted : IsCount (IsJoined starts ends seconds) past count

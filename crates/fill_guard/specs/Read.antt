@@ -19,7 +19,7 @@ AreCells sheet column rows cells = AllZip (λ row t. cell_at sheet row column �
 abbrev pub AreCounts : SheetData → ℕ → List Token → List ℕ → List ℕ → Type 0
 AreCounts sheet column r rows counts = AllZip (λ row count. (t : List ℕ) × (cell_at sheet row column ≡ Some t) × IsMatchCount r t count) rows counts
 
--- the literal holds on a cell with so many matches of its sequence, counted up to three
+-- the literal holds on a cell with this number of matches of its sequence, counted up to three
 abbrev pub Passes : Literal → ℕ → Type 0
 Passes l count = NegatedWhere l.negated (l.least ≤ count)
 

@@ -5,7 +5,7 @@ ghost use Rattle.fill_guard.specs.Kept.{IsMask};
 
 use fill_tree::Literal;
 
-/// Whether the literal holds on a cell with so many matches.
+/// Whether the literal holds on a cell with `count` matches.
 fn passes(l: &Literal, count: usize) -> bool
     ensures { IsTrue result ↔ Passes l.now count }
 {

@@ -1,5 +1,5 @@
 -- What edges and rests of programs cost at least.
-use Rattle.std.proofs.Common.{◌≡◌, ◌⊎◌, inl, inr, ℕ, zero, suc, ◌+◌, ◌<◌, ◌≤◌, List, [], ◌∷◌, ◌++◌, length, Some, slice_get, length-append, refl, sym, ap, subst, ◌∙◌, arith}
+use Rattle.std.proofs.Common.{◌≡◌, inl, inr, ℕ, zero, suc, ◌+◌, ◌<◌, ◌≤◌, List, [], ◌∷◌, ◌++◌, length, Some, slice_get, length-append, refl, sym, ap, subst, ◌∙◌, arith}
 use Rattle.std.proofs.lemmas.Option.{slice_get_within}
 use Rattle.std.proofs.lemmas.Bool.{cases_lt}
 use Rattle.fill_tokens.specs.Prices.{place_cost}
@@ -7,8 +7,8 @@ use Rattle.fill_tokens.specs.declared.place.Place.{Place}
 use Rattle.fill_tokens.specs.declared.prices.Prices.{Prices}
 use Rattle.fill_tree.specs.Cost.{atom_cost, source_cost, text_cost, program_cost}
 use Rattle.fill_tree.specs.Tree.{SourceTree, AtomTree, Atoms, col, select, constant, whole, sub, end, more}
-use Rattle.fill_arena.specs.Contents.{EachIn, In}
-use Rattle.fill_arena.specs.Stands.{AtomFits, AtomStands, PlaceStands, SourceFits, SourceStands, Walks}
+use Rattle.fill_arena.specs.Contents.{EachIn}
+use Rattle.fill_arena.specs.Stands.{AtomFits, AtomStands, SourceFits, SourceStands, Walks}
 use Rattle.fill_arena.specs.declared.entry.AtomItem.{AtomItem}
 use Rattle.fill_arena.specs.declared.entry.AtomItem.TheVariants.{Const, Whole, Sub}
 use Rattle.fill_arena.specs.declared.entry.Edge.{Edge}
@@ -16,7 +16,7 @@ use Rattle.fill_arena.specs.declared.entry.Entry.{Entry}
 use Rattle.fill_arena.specs.declared.entry.Entry.TheVariants.{Places, Sources, Atoms as Listed}
 use Rattle.fill_arena.specs.declared.entry.SourceItem.{SourceItem}
 use Rattle.fill_arena.specs.declared.entry.SourceItem.TheVariants.{Col, Select}
-use Rattle.fill_object.specs.Bounds.{AreBounds, AreEdgeCosts, AreRestCosts, IsPlaceLeast, number_at}
+use Rattle.fill_object.specs.Bounds.{AreBounds, AreEdgeCosts, IsPlaceLeast, number_at}
 use Rattle.fill_object.specs.declared.bounds.Bounds.{Bounds}
 
 -- items of a set

@@ -12,7 +12,7 @@ use Rattle.fill_tree.specs.Cost.{program_cost}
 use Rattle.fill_tree.specs.Meaning.{program_tree}
 use Rattle.fill_tree.specs.Order.{program_cmp}
 use Rattle.fill_tree.specs.Tree.{Atoms}
-use Rattle.fill_tree.specs.Value.{IsValue, ProgramIs}
+use Rattle.fill_tree.specs.Value.{ProgramIs}
 use Rattle.fill_tree.proofs.ProgramOrder.{program_antisymm}
 use Rattle.fill_arena.specs.Stands.{ProgramStands, Walks}
 use Rattle.fill_arena.specs.WellMade.{IsWellMade}

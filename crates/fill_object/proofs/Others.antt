@@ -1,14 +1,12 @@
 -- The least rest along the edges from a node, within a limit of its cost.
-use Rattle.std.proofs.Common.{◌≡◌, ◌⊎◌, ◌↔◌, Vec, Global, ℕ, ◌+◌, ◌<◌, ◌≤◌, List, length, Some, slice_get, inl, inr, refl, sym, ap, subst, ◌∙◌, arith}
+use Rattle.std.proofs.Common.{◌≡◌, ◌⊎◌, Vec, Global, ℕ, ◌+◌, ◌<◌, ◌≤◌, List, Some, slice_get, inl, inr, refl, sym, ap, subst, arith}
 use Rattle.std.specs.declared.rc.Rc.{Rc}
-use Rattle.std.proofs.lemmas.Option.{slice_get_within}
 use Rattle.std.proofs.lemmas.Bool.{cases_lt}
 use Rattle.fill_text.specs.Orders.{AtMost}
-use Rattle.fill_tokens.specs.declared.prices.Prices.{Prices}
 use Rattle.fill_tree.specs.Cost.{program_cost}
 use Rattle.fill_tree.specs.Meaning.{atom_tree, program_tree}
 use Rattle.fill_tree.specs.Order.{program_cmp}
-use Rattle.fill_tree.specs.Tree.{AtomTree, Atoms, end, more}
+use Rattle.fill_tree.specs.Tree.{Atoms, end, more}
 use Rattle.fill_tree.specs.Value.{AtomIs, ProgramIs}
 use Rattle.fill_arena.specs.Contents.{SomeIn}
 use Rattle.fill_arena.specs.Stands.{AtomStands}
@@ -23,7 +21,7 @@ use Rattle.fill_object.specs.Rests.{AreRests, IsAlong, IsEnd, IsKnown, IsSearch,
 use Rattle.fill_object.specs.Wants.{RestAgrees}
 use Rattle.fill_object.specs.declared.chain.Least.{Least}
 use Rattle.fill_object.specs.declared.chain.Chain.{Chain}
-use Rattle.fill_object.specs.declared.chain.Least.TheVariants.{Absent, Dearer, Found}
+use Rattle.fill_object.specs.declared.chain.Least.TheVariants.{Absent, Found}
 use Rattle.fill_object.specs.declared.row.OnRow.{OnRow}
 use Rattle.fill_object.specs.declared.rests.Rests.{Rests}
 use Rattle.fill_object.specs.declared.search.Search.{Search}

@@ -1,5 +1,5 @@
 -- Edges by the node that they lead from, one edge after the other.
-use Rattle.std.proofs.Common.{◌≡◌, ◌≢◌, ◌⊎◌, inl, inr, ℕ, ◌+◌, ◌<◌, ◌≤◌, List, [], ◌∷◌, ◌++◌, length, length-append, Some, slice_get, refl, sym, ap, subst, ◌∙◌, arith}
+use Rattle.std.proofs.Common.{◌≡◌, inl, inr, ℕ, ◌+◌, ◌<◌, ◌≤◌, List, [], ◌∷◌, ◌++◌, length, length-append, Some, slice_get, sym, ap, subst, ◌∙◌, arith}
 use Rattle.std.proofs.Math.ListN.{set}
 use Rattle.std.proofs.lemmas.List.{length-set}
 use Rattle.std.proofs.lemmas.Option.{slice_get_within}
@@ -7,7 +7,7 @@ use Rattle.std.proofs.lemmas.Bool.{cases_lt, cases_eq}
 use Rattle.fill_arena.specs.declared.entry.Edge.{Edge}
 use Rattle.fill_arena.proofs.Lists.{get_pushed}
 use Rattle.fill_rank.proofs.Pieces.{set_here, set_apart}
-use Rattle.fill_object.specs.Outs.{AreOuts, NoneBetween, NoneOutFrom}
+use Rattle.fill_object.specs.Outs.{AreOuts, NoneBetween}
 use Rattle.fill_object.specs.declared.outs.Outs.{Outs}
 
 -- the places are those after the last ones of the first edges

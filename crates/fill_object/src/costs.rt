@@ -1,11 +1,11 @@
 //! What the atoms of sets cost at least.
-ghost use Rattle.std.specs.Prelude.{◌≡◌, ◌+◌, ◌≤◌, List as Items, ℕ, IfOk, IfSome, OnOk};
+ghost use Rattle.std.specs.Prelude.{◌+◌, ◌≤◌, List as Items, ℕ, IfOk, IfSome, OnOk};
 ghost use Rattle.fill_tokens.specs.Prices.{place_cost};
 ghost use Rattle.fill_tokens.specs.declared.prices.Prices.{Prices as Table};
 ghost use Rattle.fill_tree.specs.Cost.{atom_cost, source_cost, text_cost};
 ghost use Rattle.fill_tree.specs.Tree.{AtomTree, SourceTree};
-ghost use Rattle.fill_arena.specs.Contents.{EachIn, IsAtomSet, IsPlaceSet, SomeIn};
-ghost use Rattle.fill_arena.specs.Stands.{AtomFits, AtomStands, PlaceStands, SourceFits, SourceStands};
+ghost use Rattle.fill_arena.specs.Contents.{EachIn, IsAtomSet, IsPlaceSet};
+ghost use Rattle.fill_arena.specs.Stands.{AtomFits, AtomStands, SourceFits};
 ghost use Rattle.fill_arena.specs.WellMade.{IsAtomItem};
 ghost use Rattle.fill_arena.specs.declared.entry.Entry.{Entry};
 ghost use Rattle.fill_object.specs.Bounds.{AreCosts, AreEdgeCosts, IsPlaceLeast};

@@ -1,5 +1,5 @@
 //! Rests of programs that were found already.
-ghost use Rattle.std.specs.Prelude.{◌≡◌, IfOk, IfSome, OnOk};
+ghost use Rattle.std.specs.Prelude.{IfOk, IfSome, OnOk};
 ghost use Rattle.fill_object.specs.Chains.{IsLeastWithin};
 ghost use Rattle.fill_object.specs.Rests.{AreRests, IsKnown, IsRestAt, RestStands};
 ghost use Rattle.fill_object.specs.Wants.{RestAgrees};

@@ -17,7 +17,7 @@ BothSet a b k = (flag_of a k ≡ true) × (flag_of b k ≡ true)
 abbrev pub IsSetBit : ℕ → ℕ → Type 0
 IsSetBit w j = bit_at w j ≡ 1
 
--- so many words that are all the same
+-- m words that are all the same
 pub record AreEqual (word m : ℕ) (words : List ℕ) : Type 0 where
   pub long : length words ≡ m
   pub same : (i : ℕ) → i < m → slice_get words i ≡ Some word

@@ -9,7 +9,7 @@ pub record AreMarks (P : ℕ → Type 0) (n : ℕ) (flags : List Bool) : Type 0 
   pub sound : (k : ℕ) → slice_get flags k ≡ Some true → P k
   pub full : (k : ℕ) → P k → slice_get flags k ≡ Some true
 
--- so many flags that are all the same
+-- m flags that are all the same
 pub record AreAll (flag : Bool) (m : ℕ) (flags : List Bool) : Type 0 where
   pub long : length flags ≡ m
   pub same : (k : ℕ) → k < m → slice_get flags k ≡ Some flag

@@ -7,7 +7,7 @@ use Rattle.fill_tokens.specs.declared.token.Token.{Token}
 use Rattle.fill_tokens.specs.declared.token.Token.TheVariants.{Start, End}
 use Rattle.fill_tokens.specs.declared.token_set.TokenSet.{TokenSet}
 
--- the sequence may stand before a position by tokens of the set, but for its length
+-- the sequence may stand before a position by its tokens and its ends; its length is not looked at
 pub record IsLeft (token_set : TokenSet) (r : List Token) : Type 0 where
   pub tokens : AreTokensOf token_set r
   pub start : OnlyFirst Start r

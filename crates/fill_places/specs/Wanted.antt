@@ -52,7 +52,7 @@ abbrev pub FromLefts : TokenSet → List ℕ → ℕ → List Entry → ℕ → 
 FromLefts token_set t k es m (CPos j) = ⊥
 FromLefts token_set t k es m (Pos a b c) = HasSeq es m a × IsWanted token_set t k (Pos a b c)
 
--- the position is a cut, so many cuts stand up to it, and so many from it on
+-- the position is a cut, the a-th from the left and the b-th from the right
 pub record Counts (t : List ℕ) (k : ℕ) (l r : List Token) (a b : ℕ) : Type 0 where
   pub within : k ≤ length t
   pub cut : IsCut l r t k

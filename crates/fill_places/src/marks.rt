@@ -9,7 +9,7 @@ use fill_text::NoMemory;
 use std::alloc::Global;
 use std::marker::Model;
 
-/// A mark for each of so many positions. Contracts see it as the list of the marks.
+/// A mark for each position. Contracts see it as the list of the marks.
 ///
 /// The first 64 positions have a word of their own, so that the marks of a short text take no memory elsewhere.
 #[derive(Drop)]

@@ -57,7 +57,7 @@ impl<T, A: Allocator> Model for Lease<T, A> {
     ghost also_shares = { λ _ _ _. ftrue };
 }
 
-/// A block without items, with room for so many.
+/// A block without items, with room for `room` of them.
 pub(crate) fn take_block<T, A: Allocator>(
     alloc: &A,
     room: usize,

@@ -56,7 +56,7 @@ impl<T: Debug> Debug for Chunk<T> {
 }
 
 impl<T> Chunk<T> {
-    /// A chunk without items, with room for so many.
+    /// A chunk without items, with room for `room` of them.
     pub(crate) fn with_room(alloc: Global, room: usize) -> Result<Chunk<T>, NoMemory>
         ensures { IfOk result (λ chunk. (held chunk ≡ []) × (size chunk ≡ room)) }
     {

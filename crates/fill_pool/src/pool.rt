@@ -107,7 +107,7 @@ impl<T: Copy> Pool<T> {
     }
 }
 
-/// The number of the last chunk, which takes so many items more: it is a new one where they do not fit.
+/// The number of the last chunk, which has room for `count` items more: a new one where they do not fit into the old one.
 fn with_room<T: Drop>(chunks: &mut Vec<Chunk<T>>, count: usize) -> Result<usize, NoMemory>
     ensures ok { OnOk result (HasRoom chunks.old.items chunks.new.items count) }
     ensures last { IfOk result (λ last. last + 1 ≡ length chunks.new.items) }

@@ -12,7 +12,7 @@ use Rattle.fill_print.specs.Rules.{IsSource, IsCondition}
 abbrev pub PlaceFront : TokenSet → Place → List ℕ → List ℕ → Type 0
 PlaceFront token_set p s k = IsPlaceOf token_set p × (s ≡ place_text p ++ k)
 
--- at most so many lookups stand inside each other
+-- the text of a source in which lookups stand at most `depth` deep inside each other
 abbrev pub SourceFront : TokenSet → ℕ → SourceTree → List ℕ → List ℕ → Type 0
 SourceFront token_set depth t s k = IsSource token_set t × (source_depth t ≤ depth) × (s ≡ source_text t ++ k)
 

@@ -16,7 +16,7 @@ IsTextOf token_set bytes s = IsSwitch token_set s × (bytes ≡ switch_text s)
 abbrev pub IsFront : TokenSet → List ℕ → Type 0
 IsFront token_set front = (s : SwitchTree) × (rest : List ℕ) × IsSwitch token_set s × (switch_text s ≡ front ++ rest)
 
--- the bytes are no text, and so many of them are the longest prefix with which a text begins
+-- the bytes are no text, and the first `at` of them are the longest prefix with which a text begins
 pub record IsFault (token_set : TokenSet) (bytes : List ℕ) (at : ℕ) : Type 0 where
   pub none : (s : SwitchTree) → IsTextOf token_set bytes s → ⊥
   pub within : at ≤ length bytes

@@ -17,7 +17,7 @@ SecondFront token_set o s k = IfSome o (IsLiteral token_set) × (s ≡ second_te
 abbrev pub CaseFront : TokenSet → CaseTree → List ℕ → List ℕ → Type 0
 CaseFront token_set c s k = IsCase token_set c × (s ≡ case_text c ++ k)
 
--- the next case, if so many may still come, or what stands before the last program
+-- the next case, of which at most `room` may still come, or what stands before the last program
 abbrev pub CaseStep : TokenSet → ℕ → Option CaseTree → List ℕ → List ℕ → Type 0
 CaseStep token_set room None s k = s ≡ codes "else=>" ++ k
 CaseStep token_set room (Some c) s k = (0 < room) × CaseFront token_set c s k

@@ -15,7 +15,7 @@ use Rattle.csv.proofs.ReadFacts.{rows-more, rows-end}
 use Rattle.fill_records.specs.Errors.{IsOfMemory}
 use Rattle.fill_records.specs.Records.{records_of}
 
--- a read that ends here, or else one that ends later, leaves no more than so many bytes
+-- a read that ends here, or else one that ends later, leaves at most `most` bytes
 either_leaves : (b : Bool) (here p : Read) (later : Option Read) (most : ℕ) → (if b then Some here else later) ≡ Some p → length here.2 ≤ most → (later ≡ Some p → length p.2 ≤ most) → length p.2 ≤ most
 either_leaves true here p later most is short _ = let same : here ≡ p = cc in rw (← same) short
 either_leaves false here p later most is _ short = short is
@@ -41,7 +41,7 @@ leaves_less cfg s fields field c (d ∷ rest) p is =
     (next_record cfg (step cfg s c).0 fields2 field2 (d ∷ rest)) (length (d ∷ rest)) is (omega arith)
     (λ later. let less : length p.2 ≤ length rest = leaves_less cfg (step cfg s c).0 fields2 field2 d rest p later in omega arith)
 
--- a text is read whole in so many reads from a state: one for each byte and one more, or none at its end
+-- this number of reads takes a text whole from a state: one for each byte and one more, or none at its end
 pub data Enough : ℕ → State → List ℕ → Type 0 where
   bytes_left : {reads : ℕ} {s : State} {xs : List ℕ} → length xs < reads → Enough reads s xs
   at_end : {reads : ℕ} → Enough reads st.StartRecord []
@@ -121,7 +121,7 @@ Reading-end rem a b fields bytes done n most config here few read =
     let short : length done ≤ most = omega (arith, here.count) in
     rw whole (sym (take_all most done short))
 
--- where so many records are read, they are the first ones
+-- the first n records that are read are the first n of all
 pub Reading-full : (bytes : List ℕ) (done : List (List (List ℕ))) (n : ℕ) (s : State) (source : Option (List ℕ)) → Reading bytes done n s source → done ≡ take n (records_of bytes)
 Reading-full bytes done n s source here =
     rw (here.all, ← here.count) (sym (take-append_seam done (records_from default_config here.reads s here.left)))

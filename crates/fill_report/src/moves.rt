@@ -1,5 +1,5 @@
 //! What undo and redo write.
-ghost use Rattle.std.specs.Prelude.{◌≡◌, ◌≤◌, ◌∷◌, IfOk, IsErrOf};
+ghost use Rattle.std.specs.Prelude.{◌≡◌, ◌≤◌, IfOk, IsErrOf};
 ghost use Rattle.fill_edge.specs.Outside.{Rose};
 ghost use Rattle.fill_session.specs.Timeline.{timeline};
 ghost use Rattle.fill_report.specs.Entries.{GoesTo, MoveWrites, TaskBegins};

@@ -35,13 +35,13 @@ decided most (Some bad) more sheet = Err (NotUtf8 bad.0 bad.1)
 decided most None true sheet = Err (TooManyRows most)
 decided most None false sheet = Ok sheet
 
--- the sheet of these records, which may be so many
+-- the sheet of these records, of which there may be as many as the number says
 abbrev pub sheet_of : ℕ → Bool → List ℕ → Option ℕ → List (List (List ℕ)) → Result SheetData SheetError
 sheet_of most header inputs output records =
     decided most (first_bad (used inputs output) (headers header + 1) (row_records most header records)) (nat_lt most (length records))
     (record { inputs = rising inputs; rows = map (row_of (rising inputs) output) (row_records most header records) })
 
--- the sheet of a file's bytes, which may have so many records, with a header or without, the input columns in any order,
+-- the sheet of a file's bytes, of at most this number of records, with a header or without, the input columns in any order,
 -- and the output column
 unfoldable pub read_up_to : ℕ → Bool → List ℕ → Option ℕ → List ℕ → Result SheetData SheetError
 read_up_to most header inputs output bytes = sheet_of most header inputs output (records_of bytes)

@@ -40,7 +40,7 @@ impl Model for Sheet {
 impl Sheet {
     /// The sheet of a CSV file's bytes, which may have 20,000 records.
     ///
-    /// A row is a record, but for the first one where `header` is true, which is not looked at. Only the fields in the
+    /// Each record is a row. Where `header` is true the first one is passed over and not looked at. Only the fields in the
     /// inputs and the output are read; one that a record lacks is the empty text.
     pub fn read(
         alloc: Global,

@@ -184,7 +184,7 @@ impl Tables {
         self.find_slices(table, key, slices.as_slice())
     }
 
-    /// The same for cells that are lent as slices, so that a caller need not own them.
+    /// Finds the row as `find` does, by cells that are lent as slices: a caller need not own them.
     pub fn find_slices(&self, table: u32, key: u32, cells: &[&[char]]) -> Option<u32>
         requires first { 1 ≤ table }
         requires last { table ≤ length self.now }

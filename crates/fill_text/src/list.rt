@@ -34,7 +34,7 @@ impl<T> List<T> {
         }
     }
 
-    /// The empty list with room for so many items, so that as many pushes take no memory.
+    /// The empty list with room for `capacity` items: as many pushes take no memory.
     pub fn with_capacity(alloc: Global, capacity: usize) -> Result<List<T>, NoMemory>
         ensures { IfOk result (λ list. list ≡ []) }
     {

@@ -122,7 +122,7 @@ module _ (P : ℕ → Type 0) (ks : List ℕ) where
           ]
         ]
 
-    -- a number up to which so many numbers stand is the item of that place
+    -- a number that has the property is the item at the place that counts the earlier ones
     pub item_of : (x c : ℕ) → x < b → P x → IsCount P (x + 1) c → (j : ℕ) × (j < length ks) × (get_or ks j 0 ≡ x) × (c ≡ suc j)
     item_of x c h q r =
         let at = e.all x h q in

@@ -5,16 +5,16 @@ use Rattle.fill_tokens.specs.declared.token.Token.{Token}
 use Rattle.fill_tokens.specs.declared.place.Place.{Place}
 use Rattle.fill_tokens.specs.declared.place.Place.TheVariants.{CPos, Pos}
 
--- of the numbers below the first one, exactly so many have the property
+-- the second number counts those below the first one that have the property
 abbrev pub IsCount : (ℕ → Type 0) → ℕ → ℕ → Type 0
 IsCount P zero c = c ≡ 0
 IsCount P (suc n) c = ((d : ℕ) × (c ≡ d + 1) × P n × IsCount P n d) ⊎ ((P n → ⊥) × IsCount P n c)
 
--- a cut, and so many cuts stand up to it
+-- the position is a cut, the c-th from the left
 abbrev pub IsCutFromLeft : List Token → List Token → List ℕ → ℕ → ℕ → Type 0
 IsCutFromLeft r s t c k = (k ≤ length t) × IsCut r s t k × IsCount (IsCut r s t) (k + 1) c
 
--- a cut, and so many cuts stand from it on
+-- the position is a cut, the c-th from the right
 abbrev pub IsCutFromRight : List Token → List Token → List ℕ → ℕ → ℕ → Type 0
 IsCutFromRight r s t c k = (k ≤ length t) × IsCut r s t k × IsCount (λ i. IsCut r s t (length t - i)) (length t - k + 1) c
 

@@ -148,7 +148,7 @@ fn fixed_cost(k: i32, prices: &Prices) -> u64
     })
 }
 
-/// The cost of so many steps.
+/// The cost of `passed` steps.
 fn steps_cost(step: u16, passed: u32) -> u64
     ensures value { result ≡ step * passed }
     ensures few { result < 2 ^ 48 }

@@ -53,7 +53,7 @@ abbrev pub has_part : Atoms → Bool
 has_part end = false
 has_part (more a rest) = is_part a || has_part rest
 
--- the numbers of a lookup belong to the tables: a key of so many columns, and a column that is not one of them
+-- the numbers of a lookup belong to the tables: a key of this size, and a column that is not one of its columns
 abbrev pub AreNumbersOf : List TableData → ℕ → ℕ → ℕ → ℕ → Type 0
 AreNumbersOf tables column table key size = (columns : List ℕ) × (width : ℕ) × (key_at tables table key ≡ Some columns)
     × (width_at tables table ≡ Some width) × (length columns ≡ size) × (1 ≤ column) × (column ≤ width) × ¬ (Contains columns column)

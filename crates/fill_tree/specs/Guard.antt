@@ -10,7 +10,7 @@ use Rattle.fill_tree.specs.Value.{ProgramIs}
 use Rattle.fill_tree.specs.declared.guard.Literal.{Literal}
 use Rattle.fill_tree.specs.declared.guard.Guard.{Guard}
 
--- pieces that the sequence spans begin at so many positions of the text, or at more
+-- pieces that the sequence spans begin at the least number of positions of the text, or at more
 abbrev pub HasMatches : List Token → List ℕ → ℕ → Type 0
 HasMatches r t least = (count : ℕ) × IsCount (Begins r t) (length t + 1) count × (least ≤ count)
 

@@ -52,7 +52,7 @@ fn allows(constants: Constants, text: &Text) -> bool
     }
 }
 
-/// Whether at most so many lookups stand inside each other.
+/// Whether lookups stand at most `limit` deep inside each other.
 #[cycle(depth)]
 fn is_no_deeper(source: &Source, limit: u8) -> bool
     ensures { IsTrue result ↔ (source_depth (source_tree source.now) ≤ limit) }
@@ -165,7 +165,7 @@ pub fn is_input(column: u32, sheet: &Sheet) -> bool
     sheet.inputs().contains(&column)
 }
 
-/// Whether the numbers of a lookup by so many conditions belong to the tables.
+/// Whether the numbers of a lookup by `size` conditions belong to the tables.
 fn are_numbers_of(column: u32, table: u32, key: u32, size: usize, tables: &Tables) -> bool
     ensures { IsTrue result ↔ AreNumbersOf tables.now column table key size }
 {

@@ -3,7 +3,7 @@ use crate::tree::Program;
 use fill_text::List;
 use fill_tokens::Seq;
 
-/// A test of one cell: the cell in the column has at least so many matches of the sequence, or where negated has not.
+/// A test of one cell: the cell in the column has at least `least` matches of the sequence; where negated, it has fewer.
 #[derive(Clone, Copy, Debug)]
 pub struct Literal {
     pub negated: bool,

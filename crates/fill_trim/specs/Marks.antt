@@ -15,7 +15,7 @@ HasNoWalk nodes edges = (sets : List ℕ) → ¬ (HasWalk sets edges 0 (nodes - 
 abbrev pub IsMarked : List Bool → ℕ → Type 0
 IsMarked marks m = slice_get marks m ≡ Some true
 
--- marks of so many nodes, true exactly where a node has the property
+-- one mark for each node, true exactly where the node has the property
 pub record AreMarks (nodes : ℕ) (P : ℕ → Type 0) (marks : List Bool) : Type 0 where
   pub long : length marks ≡ nodes
   pub each : (m : ℕ) → m < nodes → IsMarked marks m ↔ P m

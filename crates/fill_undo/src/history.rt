@@ -74,7 +74,7 @@ impl<S: Drop> History<S> {
         }
     }
 
-    /// The same state, to be changed.
+    /// The state of a place, to be changed.
     pub fn state_mut(&mut self, i: usize) -> &mut S
         requires { i < count_of self.old }
         ensures value { state_at self.old i ≡ Some result.now }

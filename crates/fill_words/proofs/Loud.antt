@@ -1,12 +1,12 @@
 -- Words that ask are not quiet.
 use Rattle.std.proofs.Common.{◌≡◌, ◌∙◌, ℕ, Bool, true, false, List, [], ◌∷◌, Option, None, Some, ap, refl, sym}
-use Rattle.std.specs.Prelude.{bytes_eq, codes, if◌then◌else◌}
+use Rattle.std.specs.Prelude.{codes, if◌then◌else◌}
 use Rattle.std.specs.List.{list_any}
 use Rattle.clap.specs.Words.{Kinds, Row, Text, fault_of, first_of, matches_of}
 use Rattle.clap.specs.declared.error.kind.ErrorKind.{ErrorKind}
 use Rattle.clap.specs.declared.error.kind.ErrorKind.TheVariants.{DisplayHelp, DisplayVersion}
 use Rattle.fill_words.specs.Options.{app, run_app}
-use Rattle.fill_words.specs.Words.{AskedData, Asks, ChosenData, LookupData, Meaning, Runs, Shows, TargetData, TypedData, Wrong, ask_in, asked_in, chosen, chosen_in, data_in, is_rule_word, is_set, meaning_by, meaning_of, meaning_of_kind, meaning_of_rows, run_meaning, run_of_rows, sheet_meaning}
+use Rattle.fill_words.specs.Words.{AskedData, Asks, ChosenData, LookupData, Meaning, TargetData, TypedData, ask_in, asked_in, chosen, chosen_in, data_in, is_rule_word, is_set, meaning_by, meaning_of, meaning_of_kind, meaning_of_rows, run_meaning, run_of_rows, sheet_meaning}
 
 ask_loud : (ask quiet : Bool) (file : Option Text) (x : Bool) → ask_in ask quiet file ≡ Some x → quiet ≡ true → x ≡ false
 ask_loud false quiet file x is loud = cc

@@ -1,5 +1,5 @@
 //! The options that take one of a few words.
-ghost use Rattle.std.specs.Prelude.{◌≡◌, IfOk, IfErr, Some, option_map, string_bytes};
+ghost use Rattle.std.specs.Prelude.{◌≡◌, IfOk, IfErr, Some, option_map};
 ghost use Rattle.fill_words.specs.Words.{RefusesPart, ask_in, depth_in, only_sure_in, profile_in, target_data, target_in};
 
 use crate::{Refusal, Target};

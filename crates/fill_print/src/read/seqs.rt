@@ -91,7 +91,8 @@ fn later_token(
     }
 }
 
-/// At most so many tokens up to the bracket, and the bytes after it. Start may stand first if `starts`, End last if `ends`.
+/// The tokens up to the bracket, at most `room` of them, and the bytes after it. Start may stand first if `starts`, End
+/// last if `ends`.
 pub(crate) fn seq(
     bytes: &[u8],
     notation: Notation,

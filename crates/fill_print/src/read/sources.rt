@@ -39,7 +39,7 @@ pub(crate) fn constant(
     Ok((Atom::Const(text), rest))
 }
 
-/// A source of at most so many lookups inside each other, and the bytes after it.
+/// A source in which lookups stand at most `depth` deep inside each other, and the bytes after it.
 #[cycle(sources)]
 fn source(
     alloc: Global,

@@ -55,7 +55,7 @@ fn some_case(
     Ok((Some(case), rest))
 }
 
-/// The next case, if so many may still come, or none where the last program comes.
+/// The next case, or none where the last program comes; at most `room` cases may still come.
 fn next_case(
     alloc: Global,
     bytes: &[u8],

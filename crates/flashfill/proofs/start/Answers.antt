@@ -1,4 +1,4 @@
-use Rattle.std.proofs.Common.{◌≡◌, ◌∙◌, ℕ, None, Some, refl, sym}
+use Rattle.std.proofs.Common.{◌∙◌, sym}
 use Rattle.fill_command.proofs.Endings.{no_command}
 use Rattle.flashfill.proofs.start.Goals as goal
 

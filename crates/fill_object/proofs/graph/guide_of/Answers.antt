@@ -1,4 +1,4 @@
-use Rattle.std.proofs.Common.{◌≡◌, ◌-◌, sym, subst, arith}
+use Rattle.std.proofs.Common.{◌-◌, arith}
 use Rattle.fill_arena.specs.declared.entry.Entry.TheVariants.{Graph}
 use Rattle.fill_rank.proofs.Walk.{the_graph}
 use Rattle.fill_object.proofs.graph.guide_of.Goals as goal

@@ -1,4 +1,4 @@
-use Rattle.std.proofs.Common.{rules, ◌≡◌, ◌+◌, ◌-◌, ◌≤◌, get_or, Some, ap, subst, ◌∙◌, arith}
+use Rattle.std.proofs.Common.{rules, ◌≡◌, ◌+◌, ◌-◌, get_or, Some, ap, subst, ◌∙◌, arith}
 use Rattle.fill_tree.specs.Meaning.{atom_tree}
 use Rattle.fill_arena.proofs.Lists.{get_there}
 use Rattle.fill_arena.proofs.Scan.{here}

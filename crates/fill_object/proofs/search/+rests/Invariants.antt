@@ -1,4 +1,4 @@
-use Rattle.std.proofs.Common.{◌≡◌, ◌+◌, ◌*◌, ◌-◌, ◌<◌, ◌≤◌, ◌^◌, length}
+use Rattle.std.proofs.Common.{◌≡◌, ◌+◌, ◌*◌, ◌-◌, ◌≤◌, ◌^◌, length}
 use Rattle.fill_tree.specs.Meaning.{atom_tree}
 use Rattle.fill_rank.specs.Sets.{SomeBelow}
 use Rattle.fill_object.specs.Chains.{IsLeastWithin}

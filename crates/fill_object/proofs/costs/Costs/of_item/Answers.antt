@@ -1,5 +1,4 @@
-use Rattle.std.proofs.Common.{◌≤◌, sym, subst, arith}
-use Rattle.fill_tree.specs.Cost.{atom_cost}
+use Rattle.std.proofs.Common.{subst, arith}
 use Rattle.fill_arena.specs.Stands.{AtomFits}
 use Rattle.fill_object.proofs.CostLaws.{constant_least, whole_least, sub_least}
 use Rattle.fill_object.proofs.costs.Costs.of_item.Goals as goal
