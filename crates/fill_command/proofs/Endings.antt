@@ -3,7 +3,8 @@ use Rattle.std.proofs.Common.{◌≡◌, ◌∙◌, ◌≤◌, ◌⊎◌, ℕ, L
 use Rattle.std.specs.Prelude.{◌↔◌, IfOk, IsErrOf, IsTrue, string_bytes}
 use Rattle.fill_edge.specs.Outside.{Files, Rose}
 use Rattle.fill_open.specs.Command.{CommandData, made}
-use Rattle.fill_open.specs.Opened.{Held, Told, Opened, Opening, NotACommand, Passed, Refused, Unread, further}
+use Rattle.fill_open.specs.Opened.{Held, Told, Opened, Opening, Passed, Refused, Unread, further}
+use Rattle.fill_open.specs.Refusal.{RefusalData}
 use Rattle.fill_open.specs.Made.{made_session, made_sheet}
 use Rattle.fill_open.specs.Steps.{made_name, made_opens, script_in, sheet_in}
 use Rattle.fill_open.specs.declared.session.Ready.{Ready}
@@ -14,7 +15,7 @@ use Rattle.fill_open.proofs.Binds.{told_one}
 use Rattle.fill_report.specs.Output.{Writes, WritesPart, WritesRecords}
 use Rattle.fill_output.specs.declared.halt.Halt.{Halt}
 use Rattle.fill_output.specs.declared.halt.Halt.TheVariants as halt
-use Rattle.fill_command.specs.Asked.{Asked, IsRefused, Opens, StepsEnd, files_of}
+use Rattle.fill_command.specs.Asked.{Asked, Opens, StepsEnd, files_of}
 use Rattle.fill_command.specs.Ending.{IsOfStop, halt_ending, report_ending, status_of}
 use Rattle.fill_command.specs.Output.{WritesAll, WritesFirst}
 use Rattle.fill_command.specs.Run.{Ends, Gives, IsQuiet, MayGive, RunEnds, World}
@@ -28,11 +29,10 @@ told_all (Some held) P f = f held
 
 module _ (command : CommandData) (a b : World) where
   -- the steps stopped
-  pub stop_ends : (why : Stop) (e : Ending) → IsOfStop why e → Stopped command (files_of command a.files) a.unread b.unread why → IsQuiet a b → Ends command a b e
+  pub stop_ends : (why : Stop RefusalData) (e : Ending) → IsOfStop why e → Stopped command (files_of command a.files) a.unread b.unread why → IsQuiet a b → Ends command a b e
   stop_ends why e (inl none) s quiet = subst (λ (x : Ending). Ends command a b x) (sym none) (inl quiet)
   stop_ends (stop.Unread name) e (inr h) s quiet = subst (λ (x : Ending). Ends command a b x) (sym h.2) (string_bytes name, s, h.1, quiet)
-  stop_ends (stop.Refused text) e (inr h) s quiet =
-      subst (λ (x : Ending). Ends command a b x) (sym h.2) (subst (λ (l : List ℕ). IsRefused command a.files l) (sym h.1) s, quiet)
+  stop_ends (stop.Refused why) e (inr h) s quiet = subst (λ (x : Ending). Ends command a b x) (sym h.2) (why, s, h.1, quiet)
   stop_ends stop.NoMemory e (inr h) s quiet = subst (λ (x : Ending). Ends command a b x) (sym h.2) (inl quiet)
 
   module _ (x : Asked command) (opens : Opens command a.files x) where
@@ -71,26 +71,24 @@ no_command (Some command) a b (ending.Refused line) h is = absurd (omega (arith,
 no_command (Some command) a b ending.NoMemory h is = absurd (omega (arith, is))
 
 -- an unread file, and want of memory, may come whatever the steps end with
-three_given : {A : Type 0} (o : Opened A) → MayGive o 3
-three_given NotACommand = tt
+three_given : {R A : Type 0} (o : Opened R A) → MayGive o 3
 three_given (Unread name) = inl refl
-three_given (Refused line) = inr (inr refl)
+three_given (Refused why) = inr (inr refl)
 three_given (Passed x) = inr (inr (inl refl))
 
-six_given : {A : Type 0} (o : Opened A) → MayGive o 6
-six_given NotACommand = tt
+six_given : {R A : Type 0} (o : Opened R A) → MayGive o 6
 six_given (Unread name) = inr refl
-six_given (Refused line) = inr (inl refl)
+six_given (Refused why) = inr (inl refl)
 six_given (Passed x) = inr (inl refl)
 
 module _ (one : IsOne) (command : CommandData) (a b : World) where
-  as_told : (how : Opened (Asked command)) (status : ℕ) → Told (files_of command a.files) (λ held. StepsEnd command held how) → MayGive how status → Gives (Some command) a.files status
+  as_told : (how : Opened RefusalData (Asked command)) (status : ℕ) → Told (files_of command a.files) (λ held. StepsEnd command held how) → MayGive how status → Gives (Some command) a.files status
   as_told how status told given =
-      told_one (files_of command a.files) (λ held. StepsEnd command held how) (λ held. (other : Opened (Asked command)) → StepsEnd command held other → MayGive other status)
-      (λ held h other k. subst (λ (o : Opened (Asked command)). MayGive o status) (one_end one command held how other h k) given) told
+      told_one (files_of command a.files) (λ held. StepsEnd command held how) (λ held. (other : Opened RefusalData (Asked command)) → StepsEnd command held other → MayGive other status)
+      (λ held h other k. subst (λ (o : Opened RefusalData (Asked command)). MayGive o status) (one_end one command held how other h k) given) told
 
-  at_any : (status : ℕ) → ((o : Opened (Asked command)) → MayGive o status) → Gives (Some command) a.files status
-  at_any status given = told_all (files_of command a.files) (λ held. (other : Opened (Asked command)) → StepsEnd command held other → MayGive other status) (λ held other k. given other)
+  at_any : (status : ℕ) → ((o : Opened RefusalData (Asked command)) → MayGive o status) → Gives (Some command) a.files status
+  at_any status given = told_all (files_of command a.files) (λ held. (other : Opened RefusalData (Asked command)) → StepsEnd command held other → MayGive other status) (λ held other k. given other)
 
   -- how the steps end says what the status may be
   pub ends_give : (e : Ending) → Ends command a b e → Gives (Some command) a.files (status_of e)
@@ -99,14 +97,13 @@ module _ (one : IsOne) (command : CommandData) (a b : World) where
   ends_give ending.NoCommand h = absurd h
   ends_give (ending.Unread line) h = at_any 3 three_given
   ends_give ending.Unwritten h = as_told (Passed h.0.0) 4 h.0.1 (inr (inr (inr refl)))
-  ends_give (ending.Refused line) h = as_told (Refused (string_bytes line)) 5 h.0 (inl refl)
+  ends_give (ending.Refused line) h = as_told (Refused h.0) 5 h.1 (inl refl)
   ends_give ending.NoMemory h = at_any 6 six_given
 
 -- steps that read nothing, and then further ones
-reads_no_more : {A B : Type 0} (rest : A → Opening B) (o : Opened A) → ((x : A) → (rest x).reads ≡ []) → (further rest o).reads ≡ []
-reads_no_more rest NotACommand none = refl
+reads_no_more : {R A B : Type 0} (rest : A → Opening R B) (o : Opened R A) → ((x : A) → (rest x).reads ≡ []) → (further rest o).reads ≡ []
 reads_no_more rest (Unread name) none = refl
-reads_no_more rest (Refused line) none = refl
+reads_no_more rest (Refused why) none = refl
 reads_no_more rest (Passed x) none = none x
 
 made_reads : (n : ℕ) → (made_opens n).reads ≡ []
@@ -117,8 +114,8 @@ none_contained names name none c = let here = rw none at c in omega (arith, here
 
 -- a generated session opens, so it is written, unless a write fails or memory runs out
 module _ (n : ℕ) (ready : Ready) (opens : (made_opens n).outcome ≡ Passed ready) where
-  ends_as_opened : (held : Held) (how : Opened Ready) → StepsEnd (made n) held how → how ≡ Passed ready
-  ends_as_opened held how h = sym h.2 ∙ ap (λ (o : Opening Ready). o.outcome) h.1 ∙ opens
+  ends_as_opened : (held : Held) (how : Opened RefusalData Ready) → StepsEnd (made n) held how → how ≡ Passed ready
+  ends_as_opened held how h = sym h.2 ∙ ap (λ (o : Opening RefusalData Ready). o.outcome) h.1 ∙ opens
 
   pub made_ends : (a b : World) (e : Ending) → Ends (made n) a b e → (status_of e ≤ 1) ⊎ (status_of e ≡ 4) ⊎ (status_of e ≡ 6)
   made_ends a b ending.Done h = inl (omega arith)
@@ -129,5 +126,5 @@ module _ (n : ℕ) (ready : Ready) (opens : (made_opens n).outcome ≡ Passed re
     | inr r ↦ absurd (none_contained (made_opens n).reads h.0 (made_reads n) (r.0 (made_opens n) refl))
   ]
   made_ends a b ending.Unwritten h = inr (inl refl)
-  made_ends a b (ending.Refused line) h = let e : Refused (string_bytes line) ≡ Passed ready = ends_as_opened (λ name. None) (Refused (string_bytes line)) h.0 in absurd (cc)
+  made_ends a b (ending.Refused line) h = let e : Refused h.0 ≡ Passed ready = ends_as_opened (λ name. None) (Refused h.0) h.1 in absurd (cc)
   made_ends a b ending.NoMemory h = inr (inr refl)

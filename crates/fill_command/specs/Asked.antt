@@ -6,6 +6,7 @@ use Rattle.fill_open.specs.Apply.{Applied, IsReading, Reading, apply_opens}
 use Rattle.fill_open.specs.Command.{CommandData, apply, keys, made, replay}
 use Rattle.fill_open.specs.Keys.{keys_opens}
 use Rattle.fill_open.specs.Opened.{Held, Told, Opened, Opening, Passed, Refused, Unread}
+use Rattle.fill_open.specs.Refusal.{RefusalData}
 use Rattle.fill_open.specs.Steps.{made_opens, replay_opens}
 use Rattle.fill_open.specs.Stops.{Counts}
 use Rattle.fill_open.specs.declared.session.Ready.{Ready}
@@ -18,7 +19,7 @@ Asked (apply names) = Applied
 Asked (keys file) = List TableData
 
 -- the steps of a command over the files: which it reads, in order, and what they end with
-abbrev pub AreSteps : (command : CommandData) → Held → Opening (Asked command) → Type 0
+abbrev pub AreSteps : (command : CommandData) → Held → Opening RefusalData (Asked command) → Type 0
 AreSteps (replay name) held steps = steps ≡ replay_opens held name
 AreSteps (made n) held steps = steps ≡ made_opens n
 AreSteps (apply names) held steps = (r : Reading) × IsReading names held r × (steps ≡ apply_opens r names held)
@@ -32,20 +33,20 @@ files_of (apply names) files = files
 files_of (keys file) files = files
 
 -- the steps of a command end with this
-abbrev pub StepsEnd : (command : CommandData) → Held → Opened (Asked command) → Type 0
-StepsEnd command held how = (steps : Opening (Asked command)) × AreSteps command held steps × (steps.outcome ≡ how)
+abbrev pub StepsEnd : (command : CommandData) → Held → Opened RefusalData (Asked command) → Type 0
+StepsEnd command held how = (steps : Opening RefusalData (Asked command)) × AreSteps command held steps × (steps.outcome ≡ how)
 
 -- all steps of a command pass, and open this
 abbrev pub Opens : (command : CommandData) → Files → Asked command → Type 0
 Opens command files x = Told (files_of command files) (λ held. StepsEnd command held (Passed x))
 
--- a file is refused, with this line
-abbrev pub IsRefused : CommandData → Files → List ℕ → Type 0
-IsRefused command files line = Told (files_of command files) (λ held. StepsEnd command held (Refused line))
+-- a file is refused, for this reason
+abbrev pub IsRefused : CommandData → Files → RefusalData → Type 0
+IsRefused command files why = Told (files_of command files) (λ held. StepsEnd command held (Refused why))
 
 -- the steps of a command come to the file of this name
 abbrev pub ComesTo : CommandData → Held → List ℕ → Type 0
-ComesTo command held name = (steps : Opening (Asked command)) → AreSteps command held steps → Contains steps.reads name
+ComesTo command held name = (steps : Opening RefusalData (Asked command)) → AreSteps command held steps → Contains steps.reads name
 
 -- the file of the name is the next to read and is not there, or a read of it failed: its count rose
 abbrev pub Misses : CommandData → Files → Counts → Counts → List ℕ → Type 0

@@ -5,6 +5,7 @@ use Rattle.std.proofs.Common.{Global}
 use Rattle.std.specs.declared.string.String.{String}
 use Rattle.fill_edge.specs.Outside.{AppendsPart, Rose}
 use Rattle.fill_open.specs.Lines.{memory_line}
+use Rattle.fill_open.specs.Refusal.{RefusalData}
 use Rattle.fill_open.specs.Stops.{stop_line}
 use Rattle.fill_open.specs.declared.stop.Stop.{Stop}
 use Rattle.fill_open.specs.declared.stop.Stop.TheVariants as stop
@@ -44,13 +45,13 @@ Says old new before now None = Keeps old new
 Says old new before now (Some line) = Appends old new line ⊎ (Rose before now × AppendsPart old new line)
 
 -- the ending of a stop with this line
-abbrev pub stop_ending : Stop → String Global → Ending
+abbrev pub stop_ending : Stop RefusalData → String Global → Ending
 stop_ending (stop.Unread name) line = ending.Unread line
-stop_ending (stop.Refused text) line = ending.Refused line
+stop_ending (stop.Refused why) line = ending.Refused line
 stop_ending stop.NoMemory line = ending.NoMemory
 
 -- the ending is that of a stop, or out of memory for its line
-abbrev pub IsOfStop : Stop → Ending → Type 0
+abbrev pub IsOfStop : Stop RefusalData → Ending → Type 0
 IsOfStop why e = (e ≡ ending.NoMemory) ⊎ ((line : String Global) × (string_bytes line ≡ stop_line why) × (e ≡ stop_ending why line))
 
 -- the ending of a writing that halted

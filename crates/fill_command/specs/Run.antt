@@ -3,8 +3,9 @@ use Rattle.std.specs.Prelude.{◌≡◌, ◌⊎◌, ℕ, ◌≤◌, List, Bool, 
 use Rattle.std.specs.Io.KnownBytes.{Keeps}
 use Rattle.fill_edge.specs.Outside.{Files, Rose}
 use Rattle.fill_open.specs.Command.{CommandData, apply, keys, made, replay}
-use Rattle.fill_open.specs.Lines.{unread_line}
-use Rattle.fill_open.specs.Opened.{Told, Opened, NotACommand, Passed, Refused, Unread}
+use Rattle.fill_open.specs.Lines.{refusal_line, unread_line}
+use Rattle.fill_open.specs.Opened.{Told, Opened, Passed, Refused, Unread}
+use Rattle.fill_open.specs.Refusal.{RefusalData}
 use Rattle.fill_open.specs.Stops.{Counts}
 use Rattle.fill_report.specs.Output.{Writes, WritesPart, WritesRecords}
 use Rattle.fill_command.specs.Asked.{Asked, IsRefused, Misses, Opens, StepsEnd, files_of}
@@ -49,7 +50,7 @@ Ends command a b ending.NoCommand = ⊥
 Ends command a b (ending.Unread line) =
     (name : List ℕ) × Misses command (files_of command a.files) a.unread b.unread name × (string_bytes line ≡ unread_line name) × IsQuiet a b
 Ends command a b ending.Unwritten = WritesPrefix command a b × Rose a.unwritten b.unwritten
-Ends command a b (ending.Refused line) = IsRefused command a.files (string_bytes line) × IsQuiet a b
+Ends command a b (ending.Refused line) = (why : RefusalData) × IsRefused command a.files why × (string_bytes line ≡ refusal_line why) × IsQuiet a b
 Ends command a b ending.NoMemory = IsQuiet a b ⊎ WritesSome command a b
 
 -- a run ends so: as the command of its words, or at once where they are none
@@ -58,16 +59,15 @@ RunEnds None a b e = (e ≡ ending.NoCommand) × IsQuiet a b
 RunEnds (Some command) a b e = Ends command a b e
 
 -- steps that end so give one of these statuses
-abbrev pub MayGive : {A : Type 0} → Opened A → ℕ → Type 0
-MayGive NotACommand status = ⊤
+abbrev pub MayGive : {R A : Type 0} → Opened R A → ℕ → Type 0
 MayGive (Unread name) status = (status ≡ 3) ⊎ (status ≡ 6)
-MayGive (Refused line) status = (status ≡ 5) ⊎ (status ≡ 6) ⊎ (status ≡ 3)
+MayGive (Refused why) status = (status ≡ 5) ⊎ (status ≡ 6) ⊎ (status ≡ 3)
 MayGive (Passed x) status = (status ≤ 1) ⊎ (status ≡ 6) ⊎ (status ≡ 3) ⊎ (status ≡ 4)
 
 -- the other way round: what the words and the files say of the status
 abbrev pub Gives : Option CommandData → Files → ℕ → Type 0
 Gives None files status = status ≡ 2
-Gives (Some command) files status = Told (files_of command files) (λ held. (how : Opened (Asked command)) → StepsEnd command held how → MayGive how status)
+Gives (Some command) files status = Told (files_of command files) (λ held. (how : Opened RefusalData (Asked command)) → StepsEnd command held how → MayGive how status)
 
 -- the command is a session, which alone makes steps
 abbrev pub IsOfSession : Option CommandData → Type 0

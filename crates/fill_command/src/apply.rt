@@ -28,6 +28,6 @@ pub fn apply<C: Cabinet, O: Sink>(
             Ok(()) => Ending::Done,
             Err(halt) => Ending::of_halt(halt),
         },
-        Err(stop) => Ending::of_stop(alloc, stop),
+        Err(stop) => Ending::of_stop(alloc, &stop),
     }
 }

@@ -5,7 +5,7 @@ ghost use Rattle.fill_command.specs.Ending.{IsOfStop, Says, halt_ending, line_of
 use fill_edge::{Sink, write_all};
 use fill_open::Stop;
 use fill_output::Halt;
-use std::alloc::{AllocError, Global};
+use std::alloc::Global;
 
 /// How a run ends.
 #[derive(Debug, Drop)]
@@ -34,17 +34,17 @@ const OUTPUT_LINE: &[u8] = b"flashfill: output cannot be written\n";
 const MEMORY_LINE: &[u8] = b"flashfill: out of memory\n";
 
 impl Ending {
-    /// The ending of steps that stopped; out of memory where there is none for its line.
-    pub(crate) fn of_stop(alloc: Global, stop: Stop) -> Ending
-        ensures { IsOfStop stop result }
+    /// The ending of steps that stopped, for which the line is made here; out of memory where there is none for it.
+    pub(crate) fn of_stop(alloc: Global, stop: &Stop) -> Ending
+        ensures { IsOfStop stop.now result }
     {
+        let Ok(line) = stop.line(alloc) else {
+            return Ending::NoMemory;
+        };
         match stop {
-            Stop::Refused(line) => Ending::Refused(line),
+            Stop::Unread(_) => Ending::Unread(line),
+            Stop::Refused(_) => Ending::Refused(line),
             Stop::NoMemory => Ending::NoMemory,
-            Stop::Unread(name) => match Stop::Unread(name).line(alloc) {
-                Ok(line) => Ending::Unread(line),
-                Err(AllocError) => Ending::NoMemory,
-            },
         }
     }
 

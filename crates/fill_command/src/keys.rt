@@ -20,6 +20,6 @@ pub fn keys<C: Cabinet, O: Sink>(alloc: Global, file: &str, cabinet: &mut C, out
             Ok(()) => Ending::Done,
             Err(halt) => Ending::of_halt(halt),
         },
-        Err(stop) => Ending::of_stop(alloc, stop),
+        Err(stop) => Ending::of_stop(alloc, &stop),
     }
 }

@@ -33,7 +33,7 @@ pub fn replay<C: Cabinet, O: Sink, L: Ledger>(
 {
     match open_replay(alloc, cabinet, session) {
         Ok(ready) => ended(report(alloc, ready, out, steps)),
-        Err(stop) => Ending::of_stop(alloc, stop),
+        Err(stop) => Ending::of_stop(alloc, &stop),
     }
 }
 
@@ -46,7 +46,7 @@ pub fn made<O: Sink, L: Ledger>(alloc: Global, n: u32, out: &mut O, steps: &mut 
 {
     match open_made(alloc, n) {
         Ok(ready) => ended(report(alloc, ready, out, steps)),
-        Err(stop) => Ending::of_stop(alloc, stop),
+        Err(stop) => Ending::of_stop(alloc, &stop),
     }
 }
 

@@ -21,7 +21,7 @@ told_all : (files : Files) (P : Held → Type 0) → ((held : Held) → P held) 
 told_all None P f = tt
 told_all (Some held) P f = f held
 
-refused_unread : (line name : List ℕ) → (let x : Opened SheetRead = Refused line in x ≡ Unread name) → ⊥
+refused_unread : (line name : List ℕ) → (let x : Opened (List ℕ) SheetRead = Refused line in x ≡ Unread name) → ⊥
 refused_unread line name e = cc
 
 passed_unread : (x : SheetRead) (name : List ℕ) → Passed x ≡ Unread name → ⊥
@@ -83,7 +83,7 @@ module _ (asked : AskedData) (files : Files) (input : Heard) (before now : Count
     unsaved = λ e. same;
     always_unread = told_one files (λ held. (sheet_opens asked held).outcome ≡ Refused line) (NotUnread asked files r) (λ held h name k. absurd (refused_unread line name (sym h ∙ k))) why;
     always_refused = told_all files (NotRefused asked files r) (λ held other h. inl is);
-    always_ready = told_one files (λ held. (sheet_opens asked held).outcome ≡ Refused line) (AlwaysReady asked files r) (λ held h p. absurd (subst (λ (o : Opened SheetRead). IsPassed o) h p)) why;
+    always_ready = told_one files (λ held. (sheet_opens asked held).outcome ≡ Refused line) (AlwaysReady asked files r) (λ held h p. absurd (subst (λ (o : Opened (List ℕ) SheetRead). IsPassed o) h p)) why;
   }
 
   -- memory ran out
@@ -104,11 +104,11 @@ module _ (asked : AskedData) (files : Files) (input : Heard) (before now : Count
   }
 
   -- the steps stopped
-  pub stopped_ends : (why : Stop) → Stops (sheet_opens asked) files before now why → kept.files ≡ held.files → Keeps old new
+  pub stopped_ends : (why : Stop (List ℕ)) → Stops (sheet_opens asked) files before now why → kept.files ≡ held.files → Keeps old new
       → (r ≢ 6 → (r ≡ status_of why) × Said (stop_line why)) → (r ≡ 6 → Said memory_line) → (r ≡ status_of why) ⊎ (r ≡ 6) → Ending
   stopped_ends why stops same keeps said out (inr six) = memory_ends six same (inl keeps) (out six)
   stopped_ends (stop.Unread name) stops same keeps said out (inl three) = unread_ends three same keeps (string_bytes name) stops (said (λ e. absurd (omega arith))).1
-  stopped_ends (stop.Refused line) stops same keeps said out (inl five) = refused_ends five same keeps (string_bytes line) stops (said (λ e. absurd (omega arith))).1
+  stopped_ends (stop.Refused line) stops same keeps said out (inl five) = refused_ends five same keeps line stops (said (λ e. absurd (omega arith))).1
   stopped_ends stop.NoMemory stops same keeps said out (inl six) = memory_ends six same (inl keeps) (out six)
 
   -- all was written, and nothing is left to do

@@ -21,7 +21,7 @@ use Rattle.fill_session.proofs.OneFate.{branches_are_one}
 use Rattle.fill_cells.proofs.Alike.{of_cells}
 use Rattle.fill_report.specs.Records.{Fields}
 use Rattle.fill_filter.specs.Filled.{ValueIs}
-use Rattle.fill_open.specs.Opened.{Held, NotACommand, Opened, Opening, Passed, Refused, Unread, at_once, further}
+use Rattle.fill_open.specs.Opened.{Held, Opened, Opening, Passed, Refused, Unread, at_once, further}
 use Rattle.fill_columns.specs.Choice.{ChoiceData, Refusal}
 use Rattle.fill_lookups.specs.Files.{file_opens, most_of_sheet}
 use Rattle.fill_lookups.specs.Tables.{lookups_open}
@@ -37,8 +37,7 @@ abbrev IsSheetOf : AskedData → SheetRead → Type 0
 IsSheetOf asked read = read_up_to most_records asked.header read.choice.from (output_of asked.replace read.choice.to) read.bytes ≡ Ok read.sheet
 
 -- where steps pass, the first of them did, and so did the others
-passed_through : {A B : Type 0} (rest : A → Opening B) (o : Opened A) (y : B) → (further rest o).outcome ≡ Passed y → (x : A) × (o ≡ Passed x) × ((rest x).outcome ≡ Passed y)
-passed_through rest NotACommand y is = cc
+passed_through : {R A B : Type 0} (rest : A → Opening R B) (o : Opened R A) (y : B) → (further rest o).outcome ≡ Passed y → (x : A) × (o ≡ Passed x) × ((rest x).outcome ≡ Passed y)
 passed_through rest (Unread name) y is = cc
 passed_through rest (Refused line) y is = cc
 passed_through rest (Passed x) y is = (x, refl, is)
@@ -48,9 +47,8 @@ record IsReadOf (asked : AskedData) (bytes : List ℕ) (choice : ChoiceData) (r 
   bytes_are : bytes ≡ read.bytes
   choice_is : choice ≡ read.choice
 
-of_examples : (asked : AskedData) (bytes : List ℕ) (choice : ChoiceData) (sheet : SheetData) (o : Opened (List Example)) (read : SheetRead) → with_examples bytes choice sheet o ≡ Passed read
+of_examples : (asked : AskedData) (bytes : List ℕ) (choice : ChoiceData) (sheet : SheetData) (o : Opened (List ℕ) (List Example)) (read : SheetRead) → with_examples bytes choice sheet o ≡ Passed read
     → IsReadOf asked bytes choice (Ok sheet) read
-of_examples asked bytes choice sheet NotACommand read is = cc
 of_examples asked bytes choice sheet (Unread name) read is = cc
 of_examples asked bytes choice sheet (Refused line) read is = cc
 of_examples asked bytes choice sheet (Passed typed) read is =

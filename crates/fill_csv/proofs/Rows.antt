@@ -96,7 +96,7 @@ pub readable : (header : Bool) (inputs : List ℕ) (output : Option ℕ) (bytes 
 readable header inputs output bytes more none is few = readable_up_to most_records header inputs output bytes refl none (few_of most_records header inputs output bytes more is few)
 
 -- where the texts for rows are refused, so is the sheet with them
-pub examples_refused : (bytes : List ℕ) (choice : ChoiceData) (sheet : SheetData) (o : Opened (List Example)) (why : Stop)
+pub examples_refused : (bytes : List ℕ) (choice : ChoiceData) (sheet : SheetData) (o : Opened (List ℕ) (List Example)) (why : Stop (List ℕ))
     → Refuses o why → Refuses (with_examples bytes choice sheet o) why
 examples_refused bytes choice sheet o (stop.Unread name) is = absurd is
 examples_refused bytes choice sheet o (stop.Refused line) is = ap (with_examples bytes choice sheet) is

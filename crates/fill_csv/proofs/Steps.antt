@@ -17,7 +17,7 @@ told_all None P f = tt
 told_all (Some held) P f = f held
 
 -- what a check of bytes refuses stops a step that is that check
-refuses_stops : {A : Type 0} (o : Opened A) (files : Files) (before now : Counts) (why : Stop) → Refuses o why → Stops (λ held. at_once o) files before now why
+refuses_stops : {R A : Type 0} (o : Opened R A) (files : Files) (before now : Counts) (why : Stop R) → Refuses o why → Stops (λ held. at_once o) files before now why
 refuses_stops o files before now (stop.Unread name) r = absurd r
 refuses_stops o files before now (stop.Refused line) r = told_all files _ (λ held. r)
 refuses_stops o files before now stop.NoMemory r = r
@@ -27,7 +27,7 @@ module _ (asked : AskedData) (files : Files) (bytes : List ℕ) (read : Told fil
   bytes_on = all_go_on files (λ held. file_opens most_of_sheet held asked.file) (λ held. from_bytes asked held) bytes read
 
   -- what the check of the sheet refuses stops the opening
-  pub check_stops : (before mid now : Counts) → NoneFell before mid → (why : Stop) → Refuses (sheet_in asked bytes) why → Stops (sheet_opens asked) files before now why
+  pub check_stops : (before mid now : Counts) → NoneFell before mid → (why : Stop (List ℕ)) → Refuses (sheet_in asked bytes) why → Stops (sheet_opens asked) files before now why
   check_stops before mid now fell why r =
       stops_later (sheet_opens asked) (λ held. from_bytes asked held bytes) before mid now fell files why bytes_on
       (stops_first (λ held. at_once (sheet_in asked bytes)) (λ held. from_sheet asked held) mid now files why (refuses_stops (sheet_in asked bytes) files mid now why r))
@@ -38,7 +38,7 @@ module _ (asked : AskedData) (files : Files) (bytes : List ℕ) (read : Told fil
         (all_go_on files (λ held. at_once (sheet_in asked bytes)) (λ held. from_sheet asked held) sheet (told_all files _ (λ held. checked)))
 
     -- what stops the tables stops the opening
-    pub tables_stop : (before mid now : Counts) → NoneFell before mid → (why : Stop) → Stops (λ held. lookups_open held [] asked.lookups) files mid now why → Stops (sheet_opens asked) files before now why
+    pub tables_stop : (before mid now : Counts) → NoneFell before mid → (why : Stop (List ℕ)) → Stops (λ held. lookups_open held [] asked.lookups) files mid now why → Stops (sheet_opens asked) files before now why
     tables_stop before mid now fell why s =
         stops_later (sheet_opens asked) (λ held. from_sheet asked held sheet) before mid now fell files why sheet_on
         (stops_first (λ held. lookups_open held [] asked.lookups) (λ held tables. at_once (Passed (with_tables sheet tables))) mid now files why s)

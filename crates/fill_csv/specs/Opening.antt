@@ -5,7 +5,7 @@ use Rattle.fill_text.specs.Data.{SheetData, TableData}
 use Rattle.fill_records.specs.Records.{records_of}
 use Rattle.fill_sheet.specs.Sheet.{headers, read_up_to}
 use Rattle.fill_sheet.specs.declared.error.SheetError.{SheetError}
-use Rattle.fill_open.specs.Opened.{Held, Opened, Opening, NotACommand, Unread, Refused, Passed, at_once, and_then}
+use Rattle.fill_open.specs.Opened.{Held, Opened, Opening, Unread, Refused, Passed, at_once, and_then}
 use Rattle.fill_columns.specs.Columns.{names_of, width}
 use Rattle.fill_columns.specs.Choice.{ChoiceData, Refusal, choice_after, choice_in}
 use Rattle.fill_tree.specs.declared.user.Example.{Example}
@@ -61,12 +61,12 @@ missing_row above rows (e ∷ more) = if is_there above rows e.row then missing_
 abbrev pub example_of : ℕ → TypedData → Example
 example_of above e = record { row = e.row - above; text = chars e.text }
 
-abbrev pub with_missing : AskedData → Option ℕ → Opened (List Example)
+abbrev pub with_missing : AskedData → Option ℕ → Opened (List ℕ) (List Example)
 with_missing asked None = Passed (map (example_of (headers asked.header)) asked.examples)
 with_missing asked (Some row) = Refused (row_line asked.file row)
 
 -- the texts that the words give for rows of a sheet of this many, where each row is there
-abbrev pub examples_in : AskedData → ℕ → Opened (List Example)
+abbrev pub examples_in : AskedData → ℕ → Opened (List ℕ) (List Example)
 examples_in asked rows = with_missing asked (missing_row (headers asked.header) rows asked.examples)
 
 -- ---- the sheet
@@ -76,26 +76,25 @@ abbrev pub output_of : Bool → ℕ → Option ℕ
 output_of false column = Some column
 output_of true column = None
 
-abbrev pub with_examples : List ℕ → ChoiceData → SheetData → Opened (List Example) → Opened SheetRead
-with_examples bytes choice sheet NotACommand = NotACommand
+abbrev pub with_examples : List ℕ → ChoiceData → SheetData → Opened (List ℕ) (List Example) → Opened (List ℕ) SheetRead
 with_examples bytes choice sheet (Unread name) = Unread name
 with_examples bytes choice sheet (Refused line) = Refused line
 with_examples bytes choice sheet (Passed typed) = Passed (record { bytes = bytes; choice = choice; sheet = sheet; typed = typed; tables = [] })
 
 -- the rows in the chosen columns with the texts for them, or why there are none
-abbrev pub with_rows : AskedData → List ℕ → ChoiceData → Result SheetData SheetError → Opened SheetRead
+abbrev pub with_rows : AskedData → List ℕ → ChoiceData → Result SheetData SheetError → Opened (List ℕ) SheetRead
 with_rows asked bytes choice (Ok sheet) = with_examples bytes choice sheet (examples_in asked (length sheet.rows))
 with_rows asked bytes choice (Err e) = Refused (sheet_line asked.file e)
 
-abbrev pub rows_in : AskedData → List ℕ → ChoiceData → Opened SheetRead
+abbrev pub rows_in : AskedData → List ℕ → ChoiceData → Opened (List ℕ) SheetRead
 rows_in asked bytes choice = with_rows asked bytes choice (read_up_to most_records asked.header choice.from (output_of asked.replace choice.to) bytes)
 
-abbrev pub with_choice : AskedData → List ℕ → Result ChoiceData Refusal → Opened SheetRead
+abbrev pub with_choice : AskedData → List ℕ → Result ChoiceData Refusal → Opened (List ℕ) SheetRead
 with_choice asked bytes (Ok choice) = rows_in asked bytes choice
 with_choice asked bytes (Err e) = Refused (choice_line asked.file (names_of (header_of asked.header (records_in bytes))) e)
 
 -- the columns are chosen, and then the rows are read
-abbrev pub sheet_in : AskedData → List ℕ → Opened SheetRead
+abbrev pub sheet_in : AskedData → List ℕ → Opened (List ℕ) SheetRead
 sheet_in asked bytes = with_choice asked bytes (choice_of asked (records_in bytes))
 
 -- a sheet with tables
@@ -103,15 +102,15 @@ abbrev pub with_tables : SheetRead → List TableData → SheetRead
 with_tables read tables = record read { tables = tables }
 
 -- a sheet, and then its tables and their keys
-abbrev pub from_sheet : AskedData → Held → SheetRead → Opening SheetRead
+abbrev pub from_sheet : AskedData → Held → SheetRead → Opening (List ℕ) SheetRead
 from_sheet asked held read = and_then (lookups_open held [] asked.lookups) (λ tables. at_once (Passed (with_tables read tables)))
 
 -- the bytes of a sheet's file are checked, and then come its tables
-abbrev pub from_bytes : AskedData → Held → List ℕ → Opening SheetRead
+abbrev pub from_bytes : AskedData → Held → List ℕ → Opening (List ℕ) SheetRead
 from_bytes asked held bytes = and_then (at_once (sheet_in asked bytes)) (from_sheet asked held)
 
 -- the sheet's file is read and checked, and then those of its tables
-abbrev pub sheet_opens : AskedData → Held → Opening SheetRead
+abbrev pub sheet_opens : AskedData → Held → Opening (List ℕ) SheetRead
 sheet_opens asked held = and_then (file_opens most_of_sheet held asked.file) (from_bytes asked held)
 
 -- the byte order mark

@@ -8,15 +8,15 @@ use Rattle.fill_lookups.specs.Lines.{memory_line}
 use Rattle.fill_csv.specs.Lines.{unread_line, unsaved_line}
 
 -- the status of a stop
-abbrev pub status_of : Stop → ℕ
+abbrev pub status_of : Stop (List ℕ) → ℕ
 status_of (stop.Unread name) = 3
 status_of (stop.Refused line) = 5
 status_of stop.NoMemory = 6
 
 -- the line of a stop
-abbrev pub stop_line : Stop → List ℕ
+abbrev pub stop_line : Stop (List ℕ) → List ℕ
 stop_line (stop.Unread name) = unread_line (string_bytes name)
-stop_line (stop.Refused line) = string_bytes line
+stop_line (stop.Refused line) = line
 stop_line stop.NoMemory = memory_line
 
 -- the line was written, or a proper prefix of it where a write failed

@@ -19,7 +19,7 @@ use crate::typed::examples_in;
 use fill_columns::{Choice, ChoiceError, choose, choose_new};
 use fill_edge::Cabinet;
 use fill_long::{Seen, first_bad};
-use fill_lookups::{LARGEST_SHEET, open_file, open_tables, refused};
+use fill_lookups::{LARGEST_SHEET, Line, open_file, open_tables, refused};
 use fill_open::Stop;
 use fill_records::Record;
 use fill_sheet::SheetError;
@@ -54,7 +54,7 @@ pub(crate) fn open_sheet<C: Cabinet>(
     alloc: Global,
     cabinet: &mut C,
     asked: &Asked,
-) -> Result<SheetRead, Stop>
+) -> Result<SheetRead, Stop<Line>>
     requires { All IsLookup (map lookup_data asked.now.lookups.items) }
     ensures ready { IfOk result (λ read. Told (C.files cabinet.old) (λ held. (sheet_opens (data_of asked.now) held).outcome ≡ Passed (read_data (data_of asked.now) read))) }
     ensures parts { IfOk result (AreParts (data_of asked.now)) }
@@ -80,7 +80,7 @@ pub(crate) fn open_sheet<C: Cabinet>(
 }
 
 /// The sheet in the bytes of its file.
-fn sheet_in(alloc: Global, asked: &Asked, bytes: List<u8>) -> Result<SheetRead, Stop>
+fn sheet_in(alloc: Global, asked: &Asked, bytes: List<u8>) -> Result<SheetRead, Stop<Line>>
     ensures ready { IfOk result (λ read. sheet_in (data_of asked.now) bytes ≡ Passed (read_data (data_of asked.now) read)) }
     ensures parts { IfOk result (AreParts (data_of asked.now)) }
     ensures stopped { IfErr result (IsRefusedBy (sheet_in (data_of asked.now) bytes)) }
@@ -108,7 +108,7 @@ fn sheet_in(alloc: Global, asked: &Asked, bytes: List<u8>) -> Result<SheetRead, 
 }
 
 /// The columns that words choose among those that were seen.
-fn choice_in(alloc: Global, asked: &Asked, seen: &Seen) -> Result<Choice, Stop>
+fn choice_in(alloc: Global, asked: &Asked, seen: &Seen) -> Result<Choice, Stop<Line>>
     ensures ready { IfOk result (λ choice. (bytes : Listed ℕ) → IsSeen asked.now.header most_records (records_of bytes) seen.now →
         choice_of (data_of asked.now) (records_in bytes) ≡ Ok (choice_data choice)) }
     ensures inputs { IfOk result (λ choice. AreInputs choice.from.items) }
@@ -149,7 +149,7 @@ fn rows_in(
     choice: &Choice,
     bytes: &[u8],
     seen: &Seen,
-) -> Result<List<Example>, Stop>
+) -> Result<List<Example>, Stop<Line>>
     requires inputs { AreInputs choice.now.from.items }
     requires output { IsOutput choice.now.from.items (Some choice.now.to) }
     requires seen { IsSeen asked.now.header most_records (records_of bytes.now) seen.now }

@@ -5,6 +5,7 @@ ghost use Rattle.fill_lookups.specs.Lines.{memory_line};
 
 use crate::lines::unread_line;
 use fill_edge::{Sink, write_all};
+use fill_lookups::Line;
 use fill_open::Stop;
 use std::alloc::{AllocError, Global};
 
@@ -20,7 +21,7 @@ pub fn say<E: Sink>(err: &mut E, line: &[u8])
     let _ = write_all(err, line);
 }
 
-fn status_of(stop: &Stop) -> u8
+fn status_of(stop: &Stop<Line>) -> u8
     ensures { result ≡ status_of stop.now }
 {
     match stop {
@@ -31,7 +32,7 @@ fn status_of(stop: &Stop) -> u8
 }
 
 /// The line of a stop; there may be no memory for it.
-fn stop_line(alloc: Global, stop: &Stop) -> Result<String, AllocError>
+fn stop_line(alloc: Global, stop: &Stop<Line>) -> Result<String, AllocError>
     ensures { IfOk result (λ line. string_bytes line ≡ stop_line stop.now) }
 {
     match stop {
@@ -42,7 +43,7 @@ fn stop_line(alloc: Global, stop: &Stop) -> Result<String, AllocError>
 }
 
 /// Writes the line of a stop, and answers its status. Where there is no memory for the line, the stop is one of memory.
-pub(crate) fn tell<E: Sink>(alloc: Global, err: &mut E, stop: &Stop) -> u8
+pub(crate) fn tell<E: Sink>(alloc: Global, err: &mut E, stop: &Stop<Line>) -> u8
     ensures said { result ≢ 6 → (result ≡ status_of stop.now) × Says (E.written err.old) (E.written err.new) (E.faults err.old) (E.faults err.new) (stop_line stop.now) }
     ensures memory { result ≡ 6 → Says (E.written err.old) (E.written err.new) (E.faults err.old) (E.faults err.new) memory_line }
     ensures status { (result ≡ status_of stop.now) ⊎ (result ≡ 6) }

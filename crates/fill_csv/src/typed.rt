@@ -6,7 +6,7 @@ ghost use Rattle.fill_words.specs.Words.{data_of, typed_data};
 ghost use Rattle.fill_csv.specs.Opening.{example_of, examples_in, is_there, missing_row};
 
 use crate::lines::row_line;
-use fill_lookups::refused;
+use fill_lookups::{Line, refused};
 use fill_open::Stop;
 use fill_text::{List, NoMemory, Text};
 use fill_tree::Example;
@@ -14,7 +14,11 @@ use fill_words::{Asked, Typed};
 use std::alloc::Global;
 
 /// The texts that the words give for rows of a sheet with `rows` rows, where each row is there.
-pub(crate) fn examples_in(alloc: Global, asked: &Asked, rows: u32) -> Result<List<Example>, Stop>
+pub(crate) fn examples_in(
+    alloc: Global,
+    asked: &Asked,
+    rows: u32,
+) -> Result<List<Example>, Stop<Line>>
     ensures ready { IfOk result (λ typed. examples_in (data_of asked.now) rows ≡ Passed typed) }
     ensures stopped { IfErr result (IsRefusedBy (examples_in (data_of asked.now) rows)) }
 {

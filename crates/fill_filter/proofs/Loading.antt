@@ -6,11 +6,11 @@ use Rattle.fill_open.specs.Stops.{Counts, Stops}
 use Rattle.fill_open.specs.declared.stop.Stop.{Stop}
 use Rattle.fill_open.proofs.Binds.{Continues, continues_itself, stops_later}
 
-goes_itself : {A : Type 0} (steps : Held → Opening A) (files : Files) → Told files (λ held. Continues (steps held) (steps held))
+goes_itself : {R A : Type 0} (steps : Held → Opening R A) (files : Files) → Told files (λ held. Continues (steps held) (steps held))
 goes_itself steps None = tt
 goes_itself steps (Some held) = continues_itself (steps held)
 
 -- what stops steps stops them by any earlier counts too
-pub stops_earlier : {A : Type 0} (steps : Held → Opening A) (files : Files) (before mid now : Counts) → NoneFell before mid → (why : Stop)
+pub stops_earlier : {R A : Type 0} (steps : Held → Opening R A) (files : Files) (before mid now : Counts) → NoneFell before mid → (why : Stop R)
     → Stops steps files mid now why → Stops steps files before now why
 stops_earlier steps files before mid now fell why stops = stops_later steps steps before mid now fell files why (goes_itself steps files) stops

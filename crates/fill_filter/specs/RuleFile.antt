@@ -51,7 +51,7 @@ no_rule_line name norule.Unread = unread_line name
 no_rule_line name norule.TooLong = codes "fillcsv: " ++ (name ++ codes ": more than 16777216 bytes\n")
 no_rule_line name (norule.BadLine n) = codes "fillcsv: " ++ (name ++ (codes ": line " ++ (decimal n ++ codes " is not understood\n")))
 no_rule_line name (norule.NoTables (stop.Unread file)) = unread_line (string_bytes file)
-no_rule_line name (norule.NoTables (stop.Refused line)) = string_bytes line
+no_rule_line name (norule.NoTables (stop.Refused line)) = line
 no_rule_line name (norule.NoTables stop.NoMemory) = codes "fillcsv: out of memory\n"
 no_rule_line name norule.NoMemory = codes "fillcsv: out of memory\n"
 

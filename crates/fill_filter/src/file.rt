@@ -9,7 +9,7 @@ ghost use Rattle.fill_filter.specs.Said.{Says};
 use crate::lines::{MEMORY_LINE, no_rule_line, say};
 use crate::{LoadedRule, Ran, run_rule};
 use fill_edge::{Cabinet, LARGEST_FILE, ReadError, Sink, read_all};
-use fill_lookups::open_tables;
+use fill_lookups::{Line, open_tables};
 use fill_open::Stop;
 use fill_rule::{Rule, RuleError, read_rule};
 use fill_stream::Source;
@@ -34,7 +34,7 @@ pub(crate) enum NoRule {
     /// The line of this number, from 1, is the first that no rule has there.
     BadLine { number: usize },
     /// The tables that it looks up in do not open.
-    NoTables(Stop),
+    NoTables(Stop<Line>),
     /// Out of memory.
     NoMemory,
 }

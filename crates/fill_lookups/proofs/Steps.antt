@@ -12,7 +12,7 @@ use Rattle.fill_words.specs.Words.{lookup_data}
 use Rattle.fill_words.specs.declared.asked.Lookup.{Lookup}
 use Rattle.fill_lookups.specs.Tables.{lookup_opens, lookups_open}
 
-abbrev pub from_lookups : List TableData → List Lookup → Held → Opening (List TableData)
+abbrev pub from_lookups : List TableData → List Lookup → Held → Opening (List ℕ) (List TableData)
 from_lookups tables lookups held = lookups_open held tables (map lookup_data lookups)
 
 module _ (files : Files) (lookups : List Lookup) (tables : List TableData) (i : ℕ)
@@ -23,10 +23,10 @@ module _ (files : Files) (lookups : List Lookup) (tables : List TableData) (i : 
       told_one files _ _ (λ held c. c.same ∙ ap (λ (ls : List Lookup). (from_lookups tables ls held).outcome) (drop_all i lookups past)) rest
 
   module _ (lookup : Lookup) (is : lookup ≡ get_or lookups i lookup) (within : i < length lookups) where
-    abbrev first : Held → Opening (List TableData)
+    abbrev first : Held → Opening (List ℕ) (List TableData)
     first held = lookup_opens held tables (lookup_data lookup)
 
-    abbrev others : Held → List TableData → Opening (List TableData)
+    abbrev others : Held → List TableData → Opening (List ℕ) (List TableData)
     others held after = from_lookups after (drop (i + 1) lookups) held
 
     here : Told files (λ held. Continues (from_lookups [] lookups held) (and_then (first held) (others held)))
@@ -35,7 +35,7 @@ module _ (files : Files) (lookups : List Lookup) (tables : List TableData) (i : 
         subst (λ (ls : List Lookup). Told files (λ held. Continues (from_lookups [] lookups held) (from_lookups tables ls held))) next rest
 
     -- what stops one stops all
-    pub lookup_stops : (before mid now : Counts) → NoneFell before mid → (why : Stop) → Stops first files mid now why → Stops (from_lookups [] lookups) files before now why
+    pub lookup_stops : (before mid now : Counts) → NoneFell before mid → (why : Stop (List ℕ)) → Stops first files mid now why → Stops (from_lookups [] lookups) files before now why
     lookup_stops before mid now fell why s =
         stops_later (from_lookups [] lookups) (λ held. and_then (first held) (others held)) before mid now fell files why here (stops_first first others mid now files why s)
 

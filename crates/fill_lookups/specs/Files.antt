@@ -12,10 +12,10 @@ abbrev pub most_of_sheet : ℕ
 most_of_sheet = 1073741824
 
 -- the bytes of a file that is there and has at most these bytes
-abbrev pub bytes_of : ℕ → List ℕ → Option (List ℕ) → Opened (List ℕ)
+abbrev pub bytes_of : ℕ → List ℕ → Option (List ℕ) → Opened (List ℕ) (List ℕ)
 bytes_of most name None = Unread name
 bytes_of most name (Some bytes) = if nat_lt most (length bytes) then Refused (long_line most name) else Passed bytes
 
 -- the file of this name is read, which may have at most these bytes
-abbrev pub file_opens : ℕ → Held → List ℕ → Opening (List ℕ)
+abbrev pub file_opens : ℕ → Held → List ℕ → Opening (List ℕ) (List ℕ)
 file_opens most held name = record { reads = name ∷ []; outcome = bytes_of most name (held name) }

@@ -1,15 +1,17 @@
 //! Reading a file.
-ghost use Rattle.std.specs.Prelude.{◌≡◌, ◌≤◌, IfOk, IfErr, MatchResult};
+ghost use Rattle.std.specs.Prelude.{◌≡◌, ◌≤◌, IfOk, IfErr};
 ghost use Rattle.fill_edge.specs.Outside.{NoneFell};
 ghost use Rattle.fill_open.specs.Opened.{Told, Passed};
 ghost use Rattle.fill_open.specs.Stops.{Stops};
 ghost use Rattle.fill_lookups.specs.Files.{file_opens};
 
+use crate::Line;
+use crate::line::refused;
 use crate::lines::long_line;
 use fill_edge::{Cabinet, LAST_PLACE, ReadError, read_all};
 use fill_open::Stop;
 use fill_text::List;
-use std::alloc::{AllocError, Global};
+use std::alloc::Global;
 
 /// The most bytes of a sheet that is filled, 1 GiB.
 pub const LARGEST_SHEET: usize = 1_073_741_824;
@@ -20,7 +22,7 @@ pub fn open_file<C: Cabinet>(
     cabinet: &mut C,
     most: usize,
     name: &str,
-) -> Result<List<u8>, Stop>
+) -> Result<List<u8>, Stop<Line>>
     requires { most ≤ LAST_PLACE }
     ensures ready { IfOk result (λ bytes. Told (C.files cabinet.old) (λ held. (file_opens most held name.now).outcome ≡ Passed bytes)) }
     ensures stopped { IfErr result (Stops (λ held. file_opens most held name.now) (C.files cabinet.old) (C.faults cabinet.old) (C.faults cabinet.new)) }
@@ -35,15 +37,5 @@ pub fn open_file<C: Cabinet>(
             Ok(name) => Err(Stop::Unread(name)),
             Err(_) => Err(Stop::NoMemory),
         },
-    }
-}
-
-/// The refusal with this line, or `NoMemory` where memory ran out for the line.
-pub fn refused(line: Result<String, AllocError>) -> Stop
-    ensures { MatchResult line (λ text. result ≡ Stop.Refused text) (λ _. result ≡ Stop.NoMemory) }
-{
-    match line {
-        Ok(line) => Stop::Refused(line),
-        Err(AllocError) => Stop::NoMemory,
     }
 }

@@ -2,8 +2,10 @@
 #![tactic(auto)]
 
 mod file;
+mod line;
 mod lines;
 mod tables;
 
-pub use file::{LARGEST_SHEET, open_file, refused};
+pub use file::{LARGEST_SHEET, open_file};
+pub use line::{Line, refused};
 pub use tables::open_tables;

@@ -7,7 +7,9 @@ ghost use Rattle.fill_open.specs.Stops.{Refuses, Stops};
 ghost use Rattle.fill_words.specs.Words.{IsLookup, lookup_data};
 ghost use Rattle.fill_lookups.specs.Tables.{key_in, lookup_opens, lookups_open, table_in};
 
-use crate::file::{open_file, refused};
+use crate::Line;
+use crate::file::open_file;
+use crate::line::refused;
 use crate::lines::lookup_line;
 use fill_edge::{Cabinet, LARGEST_FILE};
 use fill_open::Stop;
@@ -20,7 +22,7 @@ pub fn open_tables<C: Cabinet>(
     alloc: Global,
     cabinet: &mut C,
     lookups: &[Lookup],
-) -> Result<Tables, Stop>
+) -> Result<Tables, Stop<Line>>
     requires { All IsLookup (map lookup_data lookups.now) }
     ensures ready { IfOk result (λ tables. Told (C.files cabinet.old) (λ held. (lookups_open held [] (map lookup_data lookups.now)).outcome ≡ Passed tables)) }
     ensures stopped { IfErr result (Stops (λ held. lookups_open held [] (map lookup_data lookups.now)) (C.files cabinet.old) (C.faults cabinet.old) (C.faults cabinet.new)) }
@@ -43,7 +45,7 @@ fn add<C: Cabinet>(
     cabinet: &mut C,
     tables: &mut Tables,
     lookup: &Lookup,
-) -> Result<(), Stop>
+) -> Result<(), Stop<Line>>
     requires { IsLookup (lookup_data lookup.now) }
     ensures ready { OnOk result (Told (C.files cabinet.old) (λ held. (lookup_opens held tables.old (lookup_data lookup.now)).outcome ≡ Passed tables.new)) }
     ensures stopped { IfErr result (Stops (λ held. lookup_opens held tables.old (lookup_data lookup.now)) (C.files cabinet.old) (C.faults cabinet.old) (C.faults cabinet.new)) }
@@ -69,7 +71,7 @@ fn add_table(
     name: &str,
     file: &str,
     bytes: &[u8],
-) -> Result<(), Stop>
+) -> Result<(), Stop<Line>>
     ensures ready { OnOk result (table_in name.now file.now tables.old bytes.now ≡ Passed tables.new) }
     ensures stopped { IfErr result (Refuses (table_in name.now file.now tables.old bytes.now)) }
 {
@@ -80,7 +82,12 @@ fn add_table(
 }
 
 /// Adds a key to the table of a name.
-fn add_key(alloc: Global, tables: &mut Tables, name: &str, columns: &[u32]) -> Result<(), Stop>
+fn add_key(
+    alloc: Global,
+    tables: &mut Tables,
+    name: &str,
+    columns: &[u32],
+) -> Result<(), Stop<Line>>
     requires { AreKeyColumns columns.now }
     ensures ready { OnOk result (key_in name.now columns.now tables.old ≡ Passed tables.new) }
     ensures stopped { IfErr result (Refuses (key_in name.now columns.now tables.old)) }

@@ -1,7 +1,6 @@
 -- The steps of an application.
-use Rattle.std.proofs.Common.{◌≡◌, ◌≢◌, ℕ, ◌≤◌, List, [], ◌⊎◌, inl, inr, None, Some, Result, Ok, Err, Contains, refl, sym, ap, ◌∙◌, arith, subst, Global}
-use Rattle.std.specs.Prelude.{IfOk, string_bytes}
-use Rattle.std.specs.declared.string.String.{String}
+use Rattle.std.proofs.Common.{◌≡◌, ℕ, ◌≤◌, List, [], ◌⊎◌, inl, inr, None, Some, Result, Ok, Err, Contains, refl, sym, ap, ◌∙◌, arith, subst}
+use Rattle.std.specs.Prelude.{string_bytes}
 use Rattle.std.proofs.lemmas.List.Elements.{Contains-append_left}
 use Rattle.fill_text.specs.Data.{SheetData, TableData}
 use Rattle.fill_edge.specs.Outside.{Files, Rose, NoneFell}
@@ -10,23 +9,23 @@ use Rattle.fill_script.specs.declared.script.Script.{Script}
 use Rattle.fill_apply.specs.Saved.{SavedIs}
 use Rattle.fill_apply.specs.declared.error.ApplyError.{ApplyError}
 use Rattle.fill_apply.specs.declared.error.ApplyError.TheVariants as error
-use Rattle.fill_open.specs.Apply.{Applied, AppliedIs, ApplyStops, ApplyUnread, IsReading, Names, ProgramRefuses, Reading, applied_sheet_opens, apply_line, apply_opens, program_in, with_program, with_report, with_script, with_sheet}
-use Rattle.fill_open.specs.Opened.{Held, Told, Opened, NotACommand, Unread, Refused, Passed, at_once, further}
+use Rattle.fill_open.specs.Apply.{Applied, AppliedIs, ApplyStops, ApplyUnread, IsReading, Names, ProgramRefuses, Reading, applied_sheet_opens, apply_opens, program_in, with_program, with_report, with_script, with_sheet}
+use Rattle.fill_open.specs.Opened.{Held, Told, Opened, Unread, Refused, Passed, at_once, further}
+use Rattle.fill_open.specs.Refusal.{RefusalData}
 use Rattle.fill_open.specs.Steps.{file_opens, script_opens, tables_open}
 use Rattle.fill_open.specs.Stops.{Counts, IsUnread, ReadFails, Stops}
 use Rattle.fill_open.specs.declared.stop.Stop.{Stop}
 use Rattle.fill_open.specs.declared.stop.Stop.TheVariants as stop
 use Rattle.fill_open.proofs.Binds.{Continues, continues_both, goes_on, refused_first, stops_first, stops_later, told_both, told_one, unread_first}
-use Rattle.fill_open.proofs.Refusals.{IsStopOf}
 
-same_passed : {A : Type 0} (o : Opened A) (x y : A) → o ≡ Passed x → o ≡ Passed y → x ≡ y
+same_passed : {A : Type 0} (o : Opened RefusalData A) (x y : A) → o ≡ Passed x → o ≡ Passed y → x ≡ y
 same_passed o x y p q = let e : Passed x ≡ Passed y = sym p ∙ q in cc
 
-unread_passed : {A : Type 0} (o : Opened A) (name : List ℕ) (x : A) → o ≡ Unread name → o ≡ Passed x → ⊥
+unread_passed : {A : Type 0} (o : Opened RefusalData A) (name : List ℕ) (x : A) → o ≡ Unread name → o ≡ Passed x → ⊥
 unread_passed o name x p q = let e : Unread name ≡ Passed x = sym p ∙ q in cc
 
-refused_passed : {A : Type 0} (o : Opened A) (line : List ℕ) (x : A) → o ≡ Refused line → o ≡ Passed x → ⊥
-refused_passed o line x p q = let e : Refused line ≡ Passed x = sym p ∙ q in cc
+refused_passed : {A : Type 0} (o : Opened RefusalData A) (r : RefusalData) (x : A) → o ≡ Refused r → o ≡ Passed x → ⊥
+refused_passed o r x p q = let e : Refused r ≡ Passed x = sym p ∙ q in cc
 
 rose_before : (a b c : ℕ) → a ≤ b → Rose b c → Rose a c
 rose_before a b c le r = omega arith
@@ -45,14 +44,13 @@ script_unread names (Some held) before now name (inl u) =
 script_unread names (Some held) before now name (inr r) =
     inr ((λ reading is. Contains-append_left (script_opens held names.session).reads (further (with_script reading names held) (script_opens held names.session).outcome).reads name r.0), r.1)
 
-pub script_stops : (names : Names) (files : Files) (before now : Counts) (why : Stop) → Stops (λ held. script_opens held names.session) files before now why → ApplyStops names files before now why
+pub script_stops : (names : Names) (files : Files) (before now : Counts) (why : Stop RefusalData) → Stops (λ held. script_opens held names.session) files before now why → ApplyStops names files before now why
 script_stops names files before now (stop.Unread name) s = script_unread names files before now (string_bytes name) s
-script_stops names files before now (stop.Refused line) s =
-    let text = string_bytes line in
-    told_one files (λ held. (script_opens held names.session).outcome ≡ Refused text) (λ held. AppliedIs names held (Refused text)) (λ held e. (
+script_stops names files before now (stop.Refused r) s =
+    told_one files (λ held. (script_opens held names.session).outcome ≡ Refused r) (λ held. AppliedIs names held (Refused r)) (λ held e. (
       any,
-      (λ script bytes p q. absurd (refused_passed (script_opens held names.session).outcome text script e p)),
-      refused_first (with_script any names held) (script_opens held names.session) text e,
+      (λ script bytes p q. absurd (refused_passed (script_opens held names.session).outcome r script e p)),
+      refused_first (with_script any names held) (script_opens held names.session) r e,
     )) s
 script_stops names files before now stop.NoMemory s = tt
 
@@ -72,15 +70,14 @@ report_unread names (Some held) script before mid now fell passed name (inr r) =
   rose_before _ _ _ (fell name) r.1,
 )
 
-pub report_stops : (names : Names) (files : Files) (script : Script) (before mid now : Counts) (why : Stop) → NoneFell before mid
+pub report_stops : (names : Names) (files : Files) (script : Script) (before mid now : Counts) (why : Stop RefusalData) → NoneFell before mid
     → Told files (λ held. (script_opens held names.session).outcome ≡ Passed script) → Stops (λ held. file_opens held names.program) files mid now why → ApplyStops names files before now why
 report_stops names files script before mid now (stop.Unread name) fell passed s = report_unread names files script before mid now fell passed (string_bytes name) s
-report_stops names files script before mid now (stop.Refused line) fell passed s =
-    let text = string_bytes line in
-    told_both files (λ held. (script_opens held names.session).outcome ≡ Passed script) (λ held. (file_opens held names.program).outcome ≡ Refused text) (λ held. AppliedIs names held (Refused text)) (λ held p e. (
+report_stops names files script before mid now (stop.Refused r) fell passed s =
+    told_both files (λ held. (script_opens held names.session).outcome ≡ Passed script) (λ held. (file_opens held names.program).outcome ≡ Refused r) (λ held. AppliedIs names held (Refused r)) (λ held p e. (
       any,
-      (λ other bytes _ q. absurd (refused_passed (file_opens held names.program).outcome text bytes e q)),
-      (goes_on (with_script any names held) (script_opens held names.session) script p).same ∙ refused_first (λ (bytes : List ℕ). with_report held names script any) (file_opens held names.program) text e,
+      (λ other bytes _ q. absurd (refused_passed (file_opens held names.program).outcome r bytes e q)),
+      (goes_on (with_script any names held) (script_opens held names.session) script p).same ∙ refused_first (λ (bytes : List ℕ). with_report held names script any) (file_opens held names.program) r e,
     )) passed s
 report_stops names files script before mid now stop.NoMemory fell passed s = tt
 
@@ -99,28 +96,21 @@ module _ (names : Names) (script : Script) (bytes : List ℕ) (r : Reading) (sav
       (goes_on (λ (more : List ℕ). with_report held names script r) (file_opens held names.program) bytes q)
 
   -- the report is refused
-  pub refused_report : (files : Files) (line : List ℕ) → Told files (λ held. (script_opens held names.session).outcome ≡ Passed script) → Told files (λ held. (file_opens held names.program).outcome ≡ Passed bytes)
-      → program_in names.program r ≡ Refused line → Told files (λ held. AppliedIs names held (Refused line))
-  refused_report files line p q e =
-      told_both files (λ held. (script_opens held names.session).outcome ≡ Passed script) (λ held. (file_opens held names.program).outcome ≡ Passed bytes) (λ held. AppliedIs names held (Refused line)) (λ held a b. (
+  pub refused_report : (files : Files) (x : RefusalData) → Told files (λ held. (script_opens held names.session).outcome ≡ Passed script) → Told files (λ held. (file_opens held names.program).outcome ≡ Passed bytes)
+      → program_in names.program r ≡ Refused x → Told files (λ held. AppliedIs names held (Refused x))
+  refused_report files x p q e =
+      told_both files (λ held. (script_opens held names.session).outcome ≡ Passed script) (λ held. (file_opens held names.program).outcome ≡ Passed bytes) (λ held. AppliedIs names held (Refused x)) (λ held a b. (
         r,
         is_reading held a b,
-        (to_report held a b).same ∙ refused_first (with_program held names script) (at_once (program_in names.program r)) line e,
+        (to_report held a b).same ∙ refused_first (with_program held names script) (at_once (program_in names.program r)) x e,
       )) p q
 
-pub report_refused : (names : Names) (files : Files) (script : Script) (bytes : List ℕ) (before now : Counts) (why : Stop)
+pub report_refused : (names : Names) (files : Files) (script : Script) (bytes : List ℕ) (before now : Counts) (why : Stop RefusalData)
     → Told files (λ held. (script_opens held names.session).outcome ≡ Passed script) → Told files (λ held. (file_opens held names.program).outcome ≡ Passed bytes)
     → ProgramRefuses script.inputs names.program bytes why → ApplyStops names files before now why
 report_refused names files script bytes before now (stop.Unread name) p q h = absurd h
-report_refused names files script bytes before now (stop.Refused line) p q h = refused_report names script bytes h.0 h.1 files (string_bytes line) p q h.2
+report_refused names files script bytes before now (stop.Refused x) p q h = refused_report names script bytes h.0 h.1 files x p q h.2
 report_refused names files script bytes before now stop.NoMemory p q h = tt
-
--- what a check of a report refuses, with its line
-pub program_refused : {E : Type 0} (inputs program bytes : List ℕ) (e : ApplyError) (line : Result (String Global) E) (why : Stop) → IsStopOf line why
-    → IfOk line (λ l. string_bytes l ≡ apply_line program e) → IfOk line (λ l. e ≢ error.NoMemory) → (e ≢ error.NoMemory → SavedIs inputs bytes (Err e)) → ProgramRefuses inputs program bytes why
-program_refused inputs program bytes e (Ok l) why is says m known =
-    subst (ProgramRefuses inputs program bytes) (sym is) (Err e, known m, sym (ap Refused says))
-program_refused inputs program bytes e (Err f) why is says m known = subst (ProgramRefuses inputs program bytes) (sym is) tt
 
 abbrev pub IsOne : Type 0
 IsOne = (inputs : List ℕ) (bytes : List ℕ) (x : Result SwitchTree ApplyError) (y : Result SwitchTree ApplyError) → SavedIs inputs bytes x → SavedIs inputs bytes y → x ≡ y
@@ -144,26 +134,25 @@ module _ (one : IsOne) (names : Names) (script : Script) (bytes : List ℕ) (s :
   )
 
   -- what stops the later steps stops all
-  pub later_stops : (files : Files) (before mid now : Counts) (why : Stop) → NoneFell before mid → Told files (λ held. (script_opens held names.session).outcome ≡ Passed script)
+  pub later_stops : (files : Files) (before mid now : Counts) (why : Stop RefusalData) → NoneFell before mid → Told files (λ held. (script_opens held names.session).outcome ≡ Passed script)
       → Told files (λ held. (file_opens held names.program).outcome ≡ Passed bytes) → Stops (λ held. with_program held names script s) files mid now why → ApplyStops names files before now why
   later_stops files before mid now (stop.Unread name) fell p q st = later_unread files before mid now fell p q (string_bytes name) st
-  later_stops files before mid now (stop.Refused line) fell p q st =
-      let text = string_bytes line in
+  later_stops files before mid now (stop.Refused r) fell p q st =
       let known = told_both files (λ held. (script_opens held names.session).outcome ≡ Passed script) (λ held. (file_opens held names.program).outcome ≡ Passed bytes)
       (λ held. IsReading names held (Ok s) × Continues (apply_opens (Ok s) names held) (with_program held names script s)) (λ held a b. (is_reading names script bytes (Ok s) saved held a b, to_program held a b)) p q in
-      told_both files (λ held. IsReading names held (Ok s) × Continues (apply_opens (Ok s) names held) (with_program held names script s)) (λ held. (with_program held names script s).outcome ≡ Refused text)
-      (λ held. AppliedIs names held (Refused text)) (λ held k e. (Ok s, k.0, k.1.same ∙ e)) known st
+      told_both files (λ held. IsReading names held (Ok s) × Continues (apply_opens (Ok s) names held) (with_program held names script s)) (λ held. (with_program held names script s).outcome ≡ Refused r)
+      (λ held. AppliedIs names held (Refused r)) (λ held k e. (Ok s, k.0, k.1.same ∙ e)) known st
   later_stops files before mid now stop.NoMemory fell p q st = tt
 
   -- what stops the sheet
-  pub sheet_stops : (files : Files) (before mid now : Counts) (why : Stop) → NoneFell before mid → Told files (λ held. (script_opens held names.session).outcome ≡ Passed script)
+  pub sheet_stops : (files : Files) (before mid now : Counts) (why : Stop RefusalData) → NoneFell before mid → Told files (λ held. (script_opens held names.session).outcome ≡ Passed script)
       → Told files (λ held. (file_opens held names.program).outcome ≡ Passed bytes) → Stops (λ held. applied_sheet_opens held script names.sheet) files mid now why → ApplyStops names files before now why
   sheet_stops files before mid now why fell p q st =
       later_stops files before mid now why fell p q (stops_first (λ held. applied_sheet_opens held script names.sheet) (λ held. with_sheet held names script s) mid now files why st)
 
   module _ (sheet : SheetData) where
     -- what stops the tables
-    pub tables_stop : (files : Files) (before first mid now : Counts) (why : Stop) → NoneFell before first → NoneFell first mid → Told files (λ held. (script_opens held names.session).outcome ≡ Passed script)
+    pub tables_stop : (files : Files) (before first mid now : Counts) (why : Stop RefusalData) → NoneFell before first → NoneFell first mid → Told files (λ held. (script_opens held names.session).outcome ≡ Passed script)
         → Told files (λ held. (file_opens held names.program).outcome ≡ Passed bytes) → Told files (λ held. (applied_sheet_opens held script names.sheet).outcome ≡ Passed sheet)
         → Stops (λ held. tables_open held names.session [] script.tables) files mid now why → ApplyStops names files before now why
     tables_stop files before first mid now why fell fell_on p q t st =
@@ -187,18 +176,16 @@ module _ (one : IsOne) (names : Names) (script : Script) (bytes : List ℕ) (s :
 
 -- the steps end with one thing at most
 module _ (one : IsOne) (names : Names) (held : Held) (r t : Reading) (h : IsReading names held r) (k : IsReading names held t) where
-  by_report : (script : Script) → (script_opens held names.session).outcome ≡ Passed script → (o : Opened (List ℕ)) → (file_opens held names.program).outcome ≡ o
+  by_report : (script : Script) → (script_opens held names.session).outcome ≡ Passed script → (o : Opened RefusalData (List ℕ)) → (file_opens held names.program).outcome ≡ o
       → (further (λ (bytes : List ℕ). with_report held names script r) o).outcome ≡ (further (λ (bytes : List ℕ). with_report held names script t) o).outcome
-  by_report script p NotACommand q = refl
   by_report script p (Unread name) q = refl
-  by_report script p (Refused line) q = refl
+  by_report script p (Refused x) q = refl
   by_report script p (Passed bytes) q = ap (λ (x : Reading). (with_report held names script x).outcome) (one script.inputs bytes r t (h script bytes p q) (k script bytes p q))
 
-  by_script : (o : Opened Script) → (script_opens held names.session).outcome ≡ o → (further (with_script r names held) o).outcome ≡ (further (with_script t names held) o).outcome
-  by_script NotACommand p = refl
+  by_script : (o : Opened RefusalData Script) → (script_opens held names.session).outcome ≡ o → (further (with_script r names held) o).outcome ≡ (further (with_script t names held) o).outcome
   by_script (Unread name) p = refl
-  by_script (Refused line) p = refl
+  by_script (Refused x) p = refl
   by_script (Passed script) p = by_report script p (file_opens held names.program).outcome refl
 
-pub applied_one : IsOne → (names : Names) (held : Held) (x y : Opened Applied) → AppliedIs names held x → AppliedIs names held y → x ≡ y
+pub applied_one : IsOne → (names : Names) (held : Held) (x y : Opened RefusalData Applied) → AppliedIs names held x → AppliedIs names held y → x ≡ y
 applied_one one names held x y h k = sym h.2 ∙ by_script one names held h.0 k.0 h.1 k.1 (script_opens held names.session).outcome refl ∙ k.2

@@ -3,5 +3,4 @@ pub mod Binds
 pub mod MadeLines
 pub mod MadeOpens
 pub mod MadeRecords
-pub mod Refusals
 pub mod Replays

@@ -8,6 +8,7 @@ use Rattle.fill_script.specs.declared.script.Script.{Script}
 use Rattle.fill_script.specs.declared.script.TableLine.{TableLine}
 use Rattle.fill_open.specs.Opened.{Held, Told, Opening, Passed, at_once, and_then}
 use Rattle.fill_open.specs.Steps.{script_opens, sheet_opens, line_opens, tables_open, from_script, from_sheet, replay_opens}
+use Rattle.fill_open.specs.Refusal.{RefusalData}
 use Rattle.fill_open.specs.Stops.{Counts, Stops}
 use Rattle.fill_open.specs.declared.stop.Stop.{Stop}
 use Rattle.fill_open.proofs.Binds.{Continues, continues_both, told_one, told_both, stops_later, stops_first, all_go_on}
@@ -23,10 +24,10 @@ module _ (files : Files) (session : List ℕ) (lines : List TableLine) (tables :
       told_one files _ _ (λ held c. c.same ∙ ap (λ (ls : List TableLine). (tables_open held session tables ls).outcome) (drop_all i lines past)) rest
 
   module _ (line : TableLine) (is : line ≡ get_or lines i line) (within : i < length lines) where
-    abbrev first : Held → Opening (List TableData)
+    abbrev first : Held → Opening RefusalData (List TableData)
     first held = line_opens held session tables line
 
-    abbrev others : Held → List TableData → Opening (List TableData)
+    abbrev others : Held → List TableData → Opening RefusalData (List TableData)
     others held after = tables_open held session after (drop (i + 1) lines)
 
     here : Told files (λ held. Continues (tables_open held session [] lines) (and_then (first held) (others held)))
@@ -35,7 +36,7 @@ module _ (files : Files) (session : List ℕ) (lines : List TableLine) (tables :
         subst (λ (ls : List TableLine). Told files (λ held. Continues (tables_open held session [] lines) (tables_open held session tables ls))) next rest
 
     -- what stops a line stops all lines
-    pub line_stops : (before mid now : Counts) → NoneFell before mid → (why : Stop) → Stops first files mid now why → Stops (λ held. tables_open held session [] lines) files before now why
+    pub line_stops : (before mid now : Counts) → NoneFell before mid → (why : Stop RefusalData) → Stops first files mid now why → Stops (λ held. tables_open held session [] lines) files before now why
     line_stops before mid now fell why s =
         stops_later (λ held. tables_open held session [] lines) (λ held. and_then (first held) (others held)) before mid now fell files why here (stops_first first others mid now files why s)
 
@@ -49,7 +50,7 @@ module _ (files : Files) (name : List ℕ) (script : Script) (read : Told files 
   from_script_on = all_go_on files (λ held. script_opens held name) (λ held. from_script held name) script read
 
   -- what stops the sheet stops the replay
-  pub sheet_stops : (before mid now : Counts) → NoneFell before mid → (why : Stop) → Stops (λ held. sheet_opens held script) files mid now why → Stops (λ held. replay_opens held name) files before now why
+  pub sheet_stops : (before mid now : Counts) → NoneFell before mid → (why : Stop RefusalData) → Stops (λ held. sheet_opens held script) files mid now why → Stops (λ held. replay_opens held name) files before now why
   sheet_stops before mid now fell why s =
       stops_later (λ held. replay_opens held name) (λ held. from_script held name script) before mid now fell files why from_script_on
       (stops_first (λ held. sheet_opens held script) (λ held. from_sheet held name script) mid now files why s)
@@ -61,7 +62,7 @@ module _ (files : Files) (name : List ℕ) (script : Script) (read : Told files 
         (all_go_on files (λ held. sheet_opens held script) (λ held. from_sheet held name script) sheet sheet_read)
 
     -- what stops the tables stops the replay
-    pub tables_stop : (before first mid now : Counts) → NoneFell before first → NoneFell first mid → (why : Stop) → Stops (λ held. tables_open held name [] script.tables) files mid now why
+    pub tables_stop : (before first mid now : Counts) → NoneFell before first → NoneFell first mid → (why : Stop RefusalData) → Stops (λ held. tables_open held name [] script.tables) files mid now why
         → Stops (λ held. replay_opens held name) files before now why
     tables_stop before first mid now fell fell_on why s =
         stops_later (λ held. replay_opens held name) (λ held. from_sheet held name script sheet) before mid now (none_fell_both before first mid fell fell_on) files why from_sheet_on

@@ -7,9 +7,10 @@ use Rattle.fill_script.specs.Script.{read_script}
 use Rattle.fill_script.specs.declared.script.Script.{Script}
 use Rattle.fill_script.specs.declared.script.TableLine.{TableLine}
 use Rattle.fill_script.specs.declared.script.TableLine.TheVariants.{Table, Key}
-use Rattle.fill_open.specs.Lines.{long_line, script_line, sheet_line, table_line, key_line}
 use Rattle.fill_open.specs.Made.{made_session, made_sheet}
 use Rattle.fill_open.specs.Opened.{Held, Opened, Opening, Unread, Refused, Passed, at_once, and_then, checked}
+use Rattle.fill_open.specs.Refusal.{RefusalData, key_refusal, refusal, table_refusal}
+use Rattle.fill_open.specs.declared.fault.Fault.TheVariants as fault
 use Rattle.fill_open.specs.declared.session.Ready.{Ready}
 
 -- a file has more bytes than one may have
@@ -17,56 +18,56 @@ abbrev pub is_too_long : List ℕ → Bool
 is_too_long bytes = nat_lt 16777216 (length bytes)
 
 -- the bytes of a file that is there and not too long
-abbrev pub bytes_of : List ℕ → Option (List ℕ) → Opened (List ℕ)
+abbrev pub bytes_of : List ℕ → Option (List ℕ) → Opened RefusalData (List ℕ)
 bytes_of name None = Unread name
-bytes_of name (Some bytes) = if is_too_long bytes then Refused (long_line name) else Passed bytes
+bytes_of name (Some bytes) = if is_too_long bytes then Refused (refusal name fault.TooLong) else Passed bytes
 
 -- the file of this name is read
-abbrev pub file_opens : Held → List ℕ → Opening (List ℕ)
+abbrev pub file_opens : Held → List ℕ → Opening RefusalData (List ℕ)
 file_opens held name = record { reads = name ∷ []; outcome = bytes_of name (held name) }
 
 -- the script of a session's bytes
-abbrev pub script_in : List ℕ → List ℕ → Opened Script
-script_in session bytes = checked (script_line session) (read_script bytes)
+abbrev pub script_in : List ℕ → List ℕ → Opened RefusalData Script
+script_in session bytes = checked (λ e. refusal session (fault.Script e)) (read_script bytes)
 
 -- the session file is read and checked
-abbrev pub script_opens : Held → List ℕ → Opening Script
+abbrev pub script_opens : Held → List ℕ → Opening RefusalData Script
 script_opens held session = and_then (file_opens held session) (λ bytes. at_once (script_in session bytes))
 
 -- the sheet of a script in the bytes of its file
-abbrev pub sheet_in : Script → List ℕ → Opened SheetData
-sheet_in script bytes = checked (sheet_line (encode_utf8_all script.sheet)) (read_sheet script.header script.inputs script.output bytes)
+abbrev pub sheet_in : Script → List ℕ → Opened RefusalData SheetData
+sheet_in script bytes = checked (λ e. refusal (encode_utf8_all script.sheet) (fault.Sheet e)) (read_sheet script.header script.inputs script.output bytes)
 
 -- the sheet's file is read and checked
-abbrev pub sheet_opens : Held → Script → Opening SheetData
+abbrev pub sheet_opens : Held → Script → Opening RefusalData SheetData
 sheet_opens held script = and_then (file_opens held (encode_utf8_all script.sheet)) (λ bytes. at_once (sheet_in script bytes))
 
 -- the tables with the one of a file's bytes, which a line of the session names
-abbrev pub table_in : List ℕ → ℕ → List ℕ → List ℕ → List TableData → List ℕ → Opened (List TableData)
-table_in session number file name tables bytes = checked (table_line session number file) (add_table_to tables name bytes)
+abbrev pub table_in : List ℕ → ℕ → List ℕ → List ℕ → List TableData → List ℕ → Opened RefusalData (List TableData)
+table_in session number file name tables bytes = checked (table_refusal session number file) (add_table_to tables name bytes)
 
 -- the tables after a line: for a table its file is read, and then the table is added; for a key nothing is read
-abbrev pub line_opens : Held → List ℕ → List TableData → TableLine → Opening (List TableData)
+abbrev pub line_opens : Held → List ℕ → List TableData → TableLine → Opening RefusalData (List TableData)
 line_opens held session tables (Table number name file) =
     and_then (file_opens held (encode_utf8_all file)) (λ bytes. at_once (table_in session number (encode_utf8_all file) name tables bytes))
-line_opens held session tables (Key number name columns) = at_once (checked (key_line session number) (add_key_to tables name columns))
+line_opens held session tables (Key number name columns) = at_once (checked (key_refusal session number) (add_key_to tables name columns))
 
 -- the tables after lines, one after the other
-abbrev pub tables_open : Held → List ℕ → List TableData → List TableLine → Opening (List TableData)
+abbrev pub tables_open : Held → List ℕ → List TableData → List TableLine → Opening RefusalData (List TableData)
 tables_open held session tables [] = at_once (Passed tables)
 tables_open held session tables (line ∷ more) = and_then (line_opens held session tables line) (λ after. tables_open held session after more)
 
 -- a script and its sheet, and then its tables and keys
-abbrev pub from_sheet : Held → List ℕ → Script → SheetData → Opening Ready
+abbrev pub from_sheet : Held → List ℕ → Script → SheetData → Opening RefusalData Ready
 from_sheet held name script sheet =
     and_then (tables_open held name [] script.tables) (λ tables. at_once (Passed (record { script = script; sheet = sheet; tables = tables })))
 
 -- a script, and then its sheet and the rest
-abbrev pub from_script : Held → List ℕ → Script → Opening Ready
+abbrev pub from_script : Held → List ℕ → Script → Opening RefusalData Ready
 from_script held name script = and_then (sheet_opens held script) (from_sheet held name script)
 
 -- a session file, its sheet, and then its tables and keys
-abbrev pub replay_opens : Held → List ℕ → Opening Ready
+abbrev pub replay_opens : Held → List ℕ → Opening RefusalData Ready
 replay_opens held name = and_then (script_opens held name) (from_script held name)
 
 -- the name that a generated session file would have
@@ -74,7 +75,7 @@ abbrev pub made_name : List ℕ
 made_name = codes "made"
 
 -- the generated session and its sheet, for which no file is read; it has no tables
-abbrev pub made_opens : ℕ → Opening Ready
+abbrev pub made_opens : ℕ → Opening RefusalData Ready
 made_opens n =
     and_then (at_once (script_in made_name made_session)) (λ script.
     and_then (at_once (sheet_in script (made_sheet n))) (λ sheet.

@@ -1,26 +1,25 @@
 //! What is applied: a saved program, and the sheet on whose rows it is run.
-ghost use Rattle.std.specs.Prelude.{◌≡◌, ◌≢◌, All, Contains, IfErr, IfOk, Ok, string_bytes};
+ghost use Rattle.std.specs.Prelude.{◌≡◌, All, Contains, IfErr, IfOk, Ok};
 ghost use Rattle.std.specs.List.Sorted.{IsPermutation};
 ghost use Rattle.fill_edge.specs.Outside.{NoneFell};
 ghost use Rattle.fill_apply.specs.Saved.{SavedIs, columns_read};
 ghost use Rattle.fill_script.specs.Script.{IsScript};
 ghost use Rattle.fill_tree.specs.Switch.{switch_tree};
-ghost use Rattle.fill_open.specs.Apply.{AppliedIs, ApplyStops, ProgramRefuses, application_data, applied_sheet_in, applied_sheet_opens, apply_line, named};
+ghost use Rattle.fill_open.specs.Apply.{AppliedIs, ApplyStops, ProgramRefuses, application_data, applied_sheet_in, applied_sheet_opens, named};
 ghost use Rattle.fill_open.specs.Opened.{Told, Passed};
 ghost use Rattle.fill_open.specs.Stops.{Refuses, Stops};
 
-use crate::Stop;
 use crate::file::open_file;
-use crate::lines::sheet_line;
 use crate::script::open_script;
 use crate::tables::open_tables;
+use crate::{Fault, Stop};
 use fill_apply::{ApplyError, open_switch, saved_programs_are_one};
 use fill_edge::Cabinet;
 use fill_script::Script;
-use fill_sheet::Sheet;
+use fill_sheet::{Sheet, SheetError};
 use fill_tables::Tables;
 use fill_tree::Switch;
-use std::alloc::{AllocError, Global};
+use std::alloc::Global;
 
 /// A conditional program, the sheet on whose rows it is run, and the tables in which it looks up.
 #[derive(Debug, Drop)]
@@ -85,24 +84,8 @@ fn program_in(alloc: Global, script: &Script, program: &str, bytes: &[u8]) -> Re
 {
     match open_switch(alloc, bytes, script.inputs.as_slice()) {
         Ok(switch) => Ok(switch),
-        Err(e) => Err(Stop::refused(apply_line(alloc, program, e))),
-    }
-}
-
-/// The line of a report that gives no program.
-fn apply_line(alloc: Global, program: &str, error: ApplyError) -> Result<String, AllocError>
-    ensures line { IfOk result (λ line. string_bytes line ≡ apply_line program.now error) }
-    ensures memory { IfOk result (λ line. error ≢ ApplyError.NoMemory) }
-{
-    match error {
-        ApplyError::NoSwitch => format!(in alloc; "flashfill: {program}: no switch\n"),
-        ApplyError::BadSwitch { at } => {
-            format!(in alloc; "flashfill: {program}: switch is wrong at byte {at}\n")
-        }
-        ApplyError::NoInput { column } => {
-            format!(in alloc; "flashfill: {program}: column {column} is no input\n")
-        }
-        ApplyError::NoMemory => Err(AllocError),
+        Err(ApplyError::NoMemory) => Err(Stop::NoMemory),
+        Err(e) => Err(Stop::refused(alloc, program, Fault::Program(e))),
     }
 }
 
@@ -136,6 +119,7 @@ fn applied_sheet_in(alloc: Global, script: &Script, name: &str, bytes: &[u8]) ->
     let inputs = script.inputs.as_slice();
     match Sheet::read(alloc, bytes, script.header, inputs, None) {
         Ok(sheet) => Ok(sheet),
-        Err(e) => Err(Stop::refused(sheet_line(alloc, name, e))),
+        Err(SheetError::NoMemory) => Err(Stop::NoMemory),
+        Err(e) => Err(Stop::refused(alloc, name, Fault::Sheet(e))),
     }
 }

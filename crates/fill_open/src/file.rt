@@ -5,8 +5,7 @@ ghost use Rattle.fill_open.specs.Opened.{Told, Passed};
 ghost use Rattle.fill_open.specs.Steps.{file_opens};
 ghost use Rattle.fill_open.specs.Stops.{Stops};
 
-use crate::Stop;
-use crate::lines::long_line;
+use crate::{Fault, Stop};
 use fill_edge::{Cabinet, LARGEST_FILE, ReadError, read_all};
 use fill_text::List;
 use std::alloc::Global;
@@ -25,7 +24,7 @@ pub(crate) fn open_file<C: Cabinet>(
     match read_all(alloc, cabinet, name, LARGEST_FILE) {
         Ok(bytes) => Ok(bytes),
         Err(ReadError::NoMemory) => Err(Stop::NoMemory),
-        Err(ReadError::TooLong { .. }) => Err(Stop::refused(long_line(alloc, name))),
+        Err(ReadError::TooLong { .. }) => Err(Stop::refused(alloc, name, Fault::TooLong)),
         Err(_) => match String::from_str(alloc, name) {
             Ok(name) => Err(Stop::Unread(name)),
             Err(_) => Err(Stop::NoMemory),

@@ -6,13 +6,11 @@ ghost use Rattle.fill_open.specs.Keys.{AreKeys, OpensKeys, keys_opens, narrow_ta
 ghost use Rattle.fill_open.specs.Opened.{Passed};
 ghost use Rattle.fill_open.specs.Stops.{Refuses, Stops};
 
-use crate::Stop;
 use crate::file::open_file;
-use crate::lines::wide_line;
-use crate::tables::add_table;
+use crate::{Fault, Stop};
 use fill_edge::Cabinet;
 use fill_keys::{KeysError, keys_of};
-use fill_tables::Tables;
+use fill_tables::{TableError, Tables};
 use fill_text::List;
 use std::alloc::Global;
 
@@ -42,9 +40,10 @@ fn keys_in(alloc: Global, file: &str, bytes: &[u8]) -> Result<List<List<u32>>, S
     ensures stopped { IfErr result (Refuses (narrow_table_opens file.now bytes.now).outcome) }
 {
     let mut tables = Tables::new(alloc);
-    match add_table(alloc, file, 1, file, file, &mut tables, bytes) {
+    match tables.add_table(file, bytes) {
         Ok(()) => table_keys(alloc, file, &tables),
-        Err(stop) => Err(stop),
+        Err(TableError::NoMemory) => Err(Stop::NoMemory),
+        Err(e) => Err(Stop::refused(alloc, file, Fault::Table(e))),
     }
 }
 
@@ -57,7 +56,7 @@ fn table_keys(alloc: Global, file: &str, tables: &Tables) -> Result<List<List<u3
 {
     match keys_of(alloc, tables, 1) {
         Ok(keys) => Ok(keys),
-        Err(KeysError::TooWide { .. }) => Err(Stop::refused(wide_line(alloc, file))),
+        Err(KeysError::TooWide { .. }) => Err(Stop::refused(alloc, file, Fault::TooWide)),
         Err(KeysError::NoMemory) => Err(Stop::NoMemory),
     }
 }

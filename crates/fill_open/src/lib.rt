@@ -3,11 +3,12 @@
 
 mod apply;
 mod command;
+mod fault;
 mod file;
 mod generator;
 mod keys;
 mod laws;
-mod lines;
+mod refusal;
 mod script;
 mod session;
 mod sheet;
@@ -16,8 +17,10 @@ mod tables;
 
 pub use apply::{Application, open_application};
 pub use command::{Command, command_of};
+pub use fault::Fault;
 pub use generator::{MadeFiles, made};
 pub use keys::open_keys;
 pub use laws::generated_session_opens;
+pub use refusal::Refusal;
 pub use session::{Ready, open_made, open_replay};
 pub use stop::Stop;

@@ -6,11 +6,10 @@ ghost use Rattle.fill_open.specs.Opened.{Told, Passed};
 ghost use Rattle.fill_open.specs.Steps.{script_in, script_opens};
 ghost use Rattle.fill_open.specs.Stops.{Refuses, Stops};
 
-use crate::Stop;
 use crate::file::open_file;
-use crate::lines::script_line;
+use crate::{Fault, Stop};
 use fill_edge::Cabinet;
-use fill_script::Script;
+use fill_script::{Script, ScriptError};
 use std::alloc::Global;
 
 /// The script of the session file of a name.
@@ -39,6 +38,7 @@ pub(crate) fn script_in(alloc: Global, session: &str, bytes: &[u8]) -> Result<Sc
 {
     match Script::read(alloc, bytes) {
         Ok(script) => Ok(script),
-        Err(e) => Err(Stop::refused(script_line(alloc, session, e))),
+        Err(ScriptError::NoMemory) => Err(Stop::NoMemory),
+        Err(e) => Err(Stop::refused(alloc, session, Fault::Script(e))),
     }
 }

@@ -6,12 +6,11 @@ ghost use Rattle.fill_open.specs.Opened.{Told, Passed};
 ghost use Rattle.fill_open.specs.Steps.{sheet_in, sheet_opens};
 ghost use Rattle.fill_open.specs.Stops.{Refuses, Stops};
 
-use crate::Stop;
 use crate::file::open_file;
-use crate::lines::sheet_line;
+use crate::{Fault, Stop};
 use fill_edge::Cabinet;
 use fill_script::Script;
-use fill_sheet::Sheet;
+use fill_sheet::{Sheet, SheetError};
 use std::alloc::Global;
 
 /// The sheet that a script names.
@@ -41,6 +40,7 @@ pub(crate) fn sheet_in(alloc: Global, script: &Script, bytes: &[u8]) -> Result<S
     let inputs = script.inputs.as_slice();
     match Sheet::read(alloc, bytes, script.header, inputs, script.output) {
         Ok(sheet) => Ok(sheet),
-        Err(e) => Err(Stop::refused(sheet_line(alloc, script.sheet.as_str(), e))),
+        Err(SheetError::NoMemory) => Err(Stop::NoMemory),
+        Err(e) => Err(Stop::refused(alloc, script.sheet.as_str(), Fault::Sheet(e))),
     }
 }

@@ -1,27 +1,29 @@
 //! Why steps stop.
-ghost use Rattle.std.specs.Prelude.{◌≡◌, IfOk, MatchResult, string_bytes};
-ghost use Rattle.fill_open.specs.Stops.{stop_line};
+ghost use Rattle.std.specs.Prelude.{◌≡◌, IfOk, string_bytes};
+ghost use Rattle.fill_open.specs.Refusal.{refusal};
+ghost use Rattle.fill_open.specs.Stops.{IsStopOf, stop_line};
 
+use crate::{Fault, Refusal};
 use std::alloc::{AllocError, Global};
 
-/// Why there is no session.
+/// Why steps that read files stop.
 #[derive(Debug, Drop)]
-pub enum Stop {
+pub enum Stop<R = Refusal> {
     /// The file of this name could not be read.
     Unread(String),
-    /// A file is refused; this is the line that says so.
-    Refused(String),
+    /// A file is refused, for this reason.
+    Refused(R),
     /// Out of memory.
     NoMemory,
 }
 
 impl Stop {
-    /// The refusal with this line, or `NoMemory` where memory ran out for the line.
-    pub(crate) fn refused(line: Result<String, AllocError>) -> Stop
-        ensures { MatchResult line (λ text. result ≡ Stop.Refused text) (λ _. result ≡ Stop.NoMemory) }
+    /// The refusal of the file of a name, or `NoMemory` where there is none for the name.
+    pub(crate) fn refused(alloc: Global, file: &str, fault: Fault) -> Stop
+        ensures { IsStopOf (refusal file.now fault) result }
     {
-        match line {
-            Ok(line) => Stop::Refused(line),
+        match Refusal::of(alloc, file, fault) {
+            Ok(refusal) => Stop::Refused(refusal),
             Err(AllocError) => Stop::NoMemory,
         }
     }
@@ -32,7 +34,9 @@ impl Stop {
     {
         match self {
             Stop::Unread(name) => format!(in alloc; "flashfill: {name}: cannot be read\n"),
-            Stop::Refused(line) => String::from_str(alloc, line.as_str()),
+            Stop::Refused(refusal) => {
+                format!(in alloc; "flashfill: {}: {}\n", refusal.file(), refusal.fault())
+            }
             Stop::NoMemory => Err(AllocError),
         }
     }

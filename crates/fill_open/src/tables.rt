@@ -5,17 +5,16 @@ ghost use Rattle.fill_edge.specs.Outside.{NoneFell};
 ghost use Rattle.fill_script.specs.Script.{IsTableLine};
 ghost use Rattle.fill_tables.specs.Keys.{AreKeyColumns};
 ghost use Rattle.fill_tables.specs.Tables.{add_key_to};
-ghost use Rattle.fill_open.specs.Lines.{key_line};
 ghost use Rattle.fill_open.specs.Opened.{Told, Passed, checked};
+ghost use Rattle.fill_open.specs.Refusal.{key_refusal};
 ghost use Rattle.fill_open.specs.Steps.{line_opens, table_in, tables_open};
 ghost use Rattle.fill_open.specs.Stops.{Refuses, Stops};
 
-use crate::Stop;
 use crate::file::open_file;
-use crate::lines::table_line;
+use crate::{Fault, Stop};
 use fill_edge::Cabinet;
 use fill_script::TableLine;
-use fill_tables::Tables;
+use fill_tables::{TableError, Tables};
 use std::alloc::Global;
 
 /// The tables of a session's lines, which are added one after the other. The first that is refused decides.
@@ -87,7 +86,7 @@ fn open_line<C: Cabinet>(
 }
 
 /// Adds the table of a file's bytes under a name, for the session's line of this number.
-pub(crate) fn add_table(
+fn add_table(
     alloc: Global,
     session: &str,
     number: u32,
@@ -101,7 +100,13 @@ pub(crate) fn add_table(
 {
     match tables.add_table(name, bytes) {
         Ok(()) => Ok(()),
-        Err(e) => Err(Stop::refused(table_line(alloc, session, number, file, e))),
+        Err(TableError::NoMemory) => Err(Stop::NoMemory),
+        Err(error) => match error {
+            TableError::TooManyRows { .. } | TableError::NotUtf8 { .. } => {
+                Err(Stop::refused(alloc, file, Fault::Table(error)))
+            }
+            _ => Err(Stop::refused(alloc, session, Fault::Line { number, error })),
+        },
     }
 }
 
@@ -115,11 +120,12 @@ fn add_key(
     columns: &[u32],
 ) -> Result<(), Stop>
     requires { AreKeyColumns columns.now }
-    ensures ready { OnOk result (checked (key_line session.now number) (add_key_to tables.old (chars name.now) columns.now) ≡ Passed tables.new) }
-    ensures stopped { IfErr result (Refuses (checked (key_line session.now number) (add_key_to tables.old (chars name.now) columns.now))) }
+    ensures ready { OnOk result (checked (key_refusal session.now number) (add_key_to tables.old (chars name.now) columns.now) ≡ Passed tables.new) }
+    ensures stopped { IfErr result (Refuses (checked (key_refusal session.now number) (add_key_to tables.old (chars name.now) columns.now))) }
 {
     match tables.add_key(name, columns) {
         Ok(()) => Ok(()),
-        Err(e) => Err(Stop::refused(table_line(alloc, session, number, session, e))),
+        Err(TableError::NoMemory) => Err(Stop::NoMemory),
+        Err(error) => Err(Stop::refused(alloc, session, Fault::Line { number, error })),
     }
 }

@@ -1,6 +1,9 @@
 //! How sessions open, over files in memory.
 use fill_edge::MemoryCabinet;
 use fill_open::*;
+use fill_script::ScriptError;
+use fill_sheet::SheetError;
+use fill_tables::TableError;
 use fill_text::{List, NoMemory};
 use std::alloc::Global;
 use std::test::Fail;
@@ -121,6 +124,61 @@ fn sessions_are_ready_or_refused(rt: HostRuntime) -> Result<(), Fail> {
     ];
     for (session, line) in rows {
         assert!(rt; ends(alloc, &scene_of(session), line)?, "{line}");
+    }
+    Ok(())
+}
+
+/// Whether the session of this file is refused for this fault of a file.
+fn is_refused_for(
+    alloc: Global,
+    session: &[u8],
+    file: &str,
+    fault: Fault,
+) -> Result<bool, NoMemory> {
+    let mut cabinet = MemoryCabinet::new(alloc, PLENTY);
+    put_files(&mut cabinet, &scene_of(session))?;
+    match open_replay(alloc, &mut cabinet, "s.csv") {
+        Err(Stop::Refused(refusal)) => Ok(refusal.file() == file && refusal.fault() == fault),
+        _ => Ok(false),
+    }
+}
+
+#[test]
+fn refusals_are_told_by_type(rt: HostRuntime) -> Result<(), Fail> {
+    let alloc = rt.alloc();
+    let rows: [(&[u8], &str, Fault); 4] = [
+        (
+            b"sheet,a.csv\ninputs,1\n",
+            "s.csv",
+            Fault::Script(ScriptError::MissingBegin),
+        ),
+        (
+            b"sheet,bad.csv\ninputs,1\noutput,2\nbegin\n",
+            "bad.csv",
+            Fault::Sheet(SheetError::NotUtf8 {
+                number: 1,
+                column: 2,
+            }),
+        ),
+        (
+            b"sheet,sheet.csv\ninputs,1\ntable,t,bad.csv\nbegin\n",
+            "bad.csv",
+            Fault::Table(TableError::NotUtf8 {
+                number: 1,
+                column: 2,
+            }),
+        ),
+        (
+            b"sheet,sheet.csv\ninputs,1\ntable,t,prices.csv\nkey,t,1\nbegin\n",
+            "s.csv",
+            Fault::Line {
+                number: 4,
+                error: TableError::NotAKey { row1: 1, row2: 2 },
+            },
+        ),
+    ];
+    for (session, file, fault) in rows {
+        assert!(rt; is_refused_for(alloc, session, file, fault)?, "{fault}");
     }
     Ok(())
 }

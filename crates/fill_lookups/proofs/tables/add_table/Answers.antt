@@ -1,9 +1,9 @@
 use Rattle.std.proofs.Common.{◌≢◌, ap}
 use Rattle.fill_tables.specs.declared.error.TableError.TheVariants as error
 use Rattle.fill_open.specs.Opened.{checked}
-use Rattle.fill_open.proofs.Refusals.{refused_by}
 use Rattle.fill_lookups.specs.Lines.{lookup_line}
 use Rattle.fill_lookups.specs.Tables.{table_in}
+use Rattle.fill_lookups.proofs.Refusals.{refused_by}
 use Rattle.fill_lookups.proofs.tables.add_table.Goals as goal
 
 pub returns-in-Err-clause-stopped : goal.returns-in-Err-clause-stopped
