@@ -1,5 +1,5 @@
--- What was found of single examples stays so as the arena grows and is copied, and with one row more.
-use Rattle.std.proofs.Common.{◌≡◌, ℕ, Bool, true, false, cond, List, [], ◌∷◌, Some, slice_get, nat_eq, refl, sym, ◌∙◌, subst, rules}
+-- What was found of single examples stays so as the arena grows, is copied or is cut, and with one row more.
+use Rattle.std.proofs.Common.{◌≡◌, ℕ, Bool, true, false, cond, List, [], ◌∷◌, Some, nat_eq, refl, sym, ◌∙◌, subst, rules}
 use Rattle.std.specs.HashMap.{get, Updates}
 use Rattle.fill_arena.specs.Contents.{Extends}
 use Rattle.fill_arena.specs.WellMade.{IsWellMade}
@@ -9,10 +9,10 @@ use Rattle.fill_sources.specs.declared.memory.PlaceMemory.{PlaceMemory}
 use Rattle.fill_sources.proofs.Finding.{places_stand_on}
 use Rattle.fill_space.specs.Built.{AreBuilt, IsBuilt}
 use Rattle.fill_space.specs.Ground.{Ground}
-use Rattle.fill_space.specs.Met.{AreCopies}
+use Rattle.fill_space.specs.Met.{AreRenamed, IsRenamed}
 use Rattle.fill_space.specs.declared.built.Built.{Built}
 use Rattle.fill_space.specs.declared.built.BuiltFor.{BuiltFor}
-use Rattle.fill_space.proofs.Copies.{same_at}
+use Rattle.fill_space.specs.declared.carried.Renaming.{Renaming}
 use Rattle.fill_space.proofs.Growing.{grown}
 
 pub built_stays : (g : Ground) (c d : List Entry) → IsWellMade c → Extends c d → (built : Built) → AreBuilt g c built → AreBuilt g d built
@@ -25,13 +25,14 @@ built_stays g c d made on built b = record {
 pub build_kept : (g : Ground) (c d : List Entry) → IsWellMade c → Extends c d → (built : Built) (places : PlaceMemory) → PlacesStand d places → AreBuilt g c built → AreBuilt g d (record built { places = places })
 build_kept g c d made on built places stand b = record { each = (built_stays g c d made on built b).each; places = stand }
 
-pub built_carried : (g : Ground) (c d : List Entry) (old new : List ℕ) → AreCopies c d old new → (row : ℕ) (text : List ℕ) (i k n : ℕ)
-    → slice_get old i ≡ Some k → slice_get new i ≡ Some n → IsBuilt g c row text k → IsBuilt g d row text n
-built_carried g c d old new copies row text i k n hk hn s = record {
-  graph = copies.graphs i n hn;
-  exact = λ p. let same = same_at c d old new copies i k n hk hn p in ((λ h. (s.exact p).0 (same.0 h)), (λ explains. same.1 ((s.exact p).1 explains)));
-  some = s.some;
-}
+pub built_carried : (g : Ground) (c d : List Entry) (r : Renaming) → AreRenamed c d r → (row : ℕ) (text : List ℕ) (k n : ℕ) → IsRenamed r k n → IsBuilt g c row text k → IsBuilt g d row text n
+built_carried g c d r renamed row text k n h s =
+    let now = renamed.each k n s.graph h in
+    record {
+      graph = now.0;
+      exact = λ p. ((λ h. (s.exact p).0 ((now.1 p).0 h)), (λ explains. (now.1 p).1 ((s.exact p).1 explains)));
+      some = s.some;
+    }
 
 -- what is known with one more row
 module _ (g : Ground) (c : List Entry) (old new : Built) (row : ℕ) (made : BuiltFor) where

@@ -1,13 +1,18 @@
--- What was found of two graphs is so of their copies.
-use Rattle.std.proofs.Common.{◌≡◌, zero, suc, ℕ, Bool, true, false, cond, List, [], ◌∷◌, Some, None, slice_get, nat_eq, refl, sym, ◌∙◌, subst, rules}
+-- What was found of two graphs is so under their new numbers.
+use Rattle.std.proofs.Common.{◌≡◌, zero, suc, ℕ, Bool, true, false, cond, List, [], ◌∷◌, Some, None, slice_get, take, nat_eq, refl, ap, sym, ◌∙◌, subst, rules}
 use Rattle.std.specs.Prelude.{◌↔◌}
 use Rattle.std.specs.HashMap.{HashMap, get, Updates}
 use Rattle.std.specs.List.{AllZip}
 use Rattle.fill_tree.specs.Tree.{Atoms}
-use Rattle.fill_arena.specs.Contents.{EachIn, IsGraph}
+use Rattle.fill_arena.specs.Contents.{EachIn, Extends, IsGraph}
 use Rattle.fill_arena.specs.Stands.{ProgramStands}
+use Rattle.fill_arena.specs.WellMade.{IsWellMade}
 use Rattle.fill_arena.specs.declared.entry.Entry.{Entry}
-use Rattle.fill_space.specs.Met.{IsTold, AreCopies, AreReplaced}
+use Rattle.fill_arena.proofs.Grows.{programs_stay}
+use Rattle.fill_arena.proofs.Lists.{get_taken}
+use Rattle.fill_space.specs.Met.{AreRenamed, AreReplaced, IsRenamed, IsTold}
+use Rattle.fill_space.specs.declared.carried.Renaming.{Renaming}
+use Rattle.fill_space.specs.declared.carried.Renaming.TheVariants.{Cut}
 
 zip_at : {A B : Type 0} (R : A → B → Type 0) (xs : List A) (ys : List B) (i : ℕ) (x : A) (y : B) → AllZip R xs ys → slice_get xs i ≡ Some x → slice_get ys i ≡ Some y → R x y
 zip_at R [] ys i x y z hx hy = absurd cc
@@ -18,40 +23,56 @@ zip_at R (u ∷ xs) (v ∷ ys) zero x y z hx hy =
     subst (λ w. R w y) first (subst (λ w. R u w) second z.0)
 zip_at R (u ∷ xs) (v ∷ ys) (suc i) x y z hx hy = zip_at R xs ys i x y z.1 hx hy
 
-pub are_copies : (c d : List Entry) (old new listed lent : List ℕ) → old ≡ listed → new ≡ lent → EachIn (IsGraph d) new → AllZip (λ k n. (p : Atoms) → ProgramStands d n p ↔ ProgramStands c k p) old new → AreCopies c d listed lent
-are_copies c d old new listed lent e f graphs same =
-    let copies : AreCopies c d old new = record { graphs = graphs; same = same } in
-    subst (λ (ks : List ℕ). AreCopies c d ks lent) e (subst (λ (ns : List ℕ). AreCopies c d old ns) f copies)
+-- copies rename what is listed
+pub copied_renamed : (c d : List Entry) (old new listed lent : List ℕ) (r : Renaming) → old ≡ listed → new ≡ lent → EachIn (IsGraph d) new
+    → AllZip (λ k n. (p : Atoms) → ProgramStands d n p ↔ ProgramStands c k p) old new
+    → ((k n : ℕ) → IsRenamed r k n → (i : ℕ) × (slice_get listed i ≡ Some k) × (slice_get lent i ≡ Some n)) → AreRenamed c d r
+copied_renamed c d old new listed lent r e f graphs same replaced = record {
+  each = λ k n g h.
+      (let at = replaced k n h in
+      let hk = subst (λ (ks : List ℕ). slice_get ks at.0 ≡ Some k) (sym e) at.1 in
+      let hn = subst (λ (ns : List ℕ). slice_get ns at.0 ≡ Some n) (sym f) at.2 in
+      (graphs at.0 n hn, zip_at (λ k n. (p : Atoms) → ProgramStands d n p ↔ ProgramStands c k p) old new at.0 k n same hk hn));
+}
 
-module _ (c d : List Entry) (old new : List ℕ) (copies : AreCopies c d old new) where
-  -- the same programs stand in a graph and in its copy
-  pub same_at : (i k n : ℕ) → slice_get old i ≡ Some k → slice_get new i ≡ Some n → (p : Atoms) → ProgramStands d n p ↔ ProgramStands c k p
-  same_at i k n hk hn = zip_at (λ k n. (p : Atoms) → ProgramStands d n p ↔ ProgramStands c k p) old new i k n copies.same hk hn
+-- a cut leaves the graphs before its mark
+pub cut_renamed : (c d : List Entry) (m : ℕ) → IsWellMade d → d ≡ take m c → Extends d c → AreRenamed c d (Cut m)
+cut_renamed c d m made cut on = record {
+  each = λ k n g h.
+      (let front : slice_get (take m c) k ≡ slice_get c k = get_taken m c k h.1 in
+      let here : IsGraph d k = (g.0, g.1, (ap (λ (xs : List Entry). slice_get xs k) cut ∙ front ∙ g.2)) in
+      subst (λ v. IsGraph d v × ((p : Atoms) → ProgramStands d v p ↔ ProgramStands c k p)) (sym h.0) (here, λ p. programs_stay d c made on k p here));
+}
 
-  module _ (i j a b x y : ℕ) (ha : slice_get old i ≡ Some a) (hb : slice_get old j ≡ Some b) (hx : slice_get new i ≡ Some x) (hy : slice_get new j ≡ Some y) where
-    pub none_carried : IsTold c a b None → IsTold d x y None
-    none_carried t =
-        record {
-          first = copies.graphs i x hx;
-          second = copies.graphs j y hy;
-          met = λ p h. t.met p ((same_at i a x ha hx p).0 h.0, (same_at j b y hb hy p).0 h.1);
-          some = tt;
-        }
+module _ (c d : List Entry) (r : Renaming) (renamed : AreRenamed c d r) (a b x y : ℕ) (ha : IsRenamed r a x) (hb : IsRenamed r b y) where
+  pub none_carried : IsTold c a b None → IsTold d x y None
+  none_carried t =
+      let first = renamed.each a x t.first ha in
+      let second = renamed.each b y t.second hb in
+      record {
+        first = first.0;
+        second = second.0;
+        met = λ p h. t.met p ((first.1 p).0 h.0, (second.1 p).0 h.1);
+        some = tt;
+      }
 
-    pub some_carried : (m k n : ℕ) → slice_get old m ≡ Some k → slice_get new m ≡ Some n → IsTold c a b (Some k) → IsTold d x y (Some n)
-    some_carried m k n hk hn t =
-        record {
-          first = copies.graphs i x hx;
-          second = copies.graphs j y hy;
-          met = (
-            copies.graphs m n hn,
-            λ p. (
-              λ h. let both = (t.met.1 p).0 ((same_at m k n hk hn p).0 h) in ((same_at i a x ha hx p).1 both.0, (same_at j b y hb hy p).1 both.1),
-              λ h. (same_at m k n hk hn p).1 ((t.met.1 p).1 ((same_at i a x ha hx p).0 h.0, (same_at j b y hb hy p).0 h.1)),
-            ),
-          );
-          some = (t.some.0, (same_at i a x ha hx t.some.0).1 t.some.1, (same_at j b y hb hy t.some.0).1 t.some.2);
-        }
+  pub some_carried : (k n : ℕ) → IsRenamed r k n → IsTold c a b (Some k) → IsTold d x y (Some n)
+  some_carried k n hk t =
+      let first = renamed.each a x t.first ha in
+      let second = renamed.each b y t.second hb in
+      let both = renamed.each k n t.met.0 hk in
+      record {
+        first = first.0;
+        second = second.0;
+        met = (
+          both.0,
+          λ p. (
+            λ h. let each = (t.met.1 p).0 ((both.1 p).0 h) in ((first.1 p).1 each.0, (second.1 p).1 each.1),
+            λ h. (both.1 p).1 ((t.met.1 p).1 ((first.1 p).0 h.0, (second.1 p).0 h.1)),
+          ),
+        );
+        some = (t.some.0, (first.1 t.some.0).1 t.some.1, (second.1 t.some.0).1 t.some.2);
+      }
 
 -- a table of copies with one more
 module _ {S : Type 0} (old new : List ℕ) (copies more : HashMap ℕ ℕ S) (i k n : ℕ) (hk : slice_get old i ≡ Some k) (hn : slice_get new i ≡ Some n) where

@@ -8,3 +8,4 @@ pub mod Marks
 pub mod Meeting
 pub mod Objector
 pub mod Told
+pub mod Weighing

@@ -1,10 +1,8 @@
 -- What calls of the lower crates tell of spaces, where `s` is what the fields are seen as.
-use Rattle.std.proofs.Common.{◌≡◌, ◌≤◌, ◌^◌, ℕ, List, ◌++◌, length, Bool, Option, Some, None, Result, Ok, Err, subst, sym, arith}
+use Rattle.std.proofs.Common.{◌≡◌, ◌≤◌, ℕ, List, ◌++◌, length, Bool, Option, Some, None, Result, Ok, Err, subst, sym}
 use Rattle.std.specs.Prelude.{◌↔◌, IfOk, IfSome, IsTrue, MatchOption, OnSome}
 use Rattle.fill_text.specs.declared.error.NoMemory.{NoMemory}
-use Rattle.fill_tokens.specs.Prices.{ArePrices}
 use Rattle.fill_tree.specs.Chosen.{IsLeast}
-use Rattle.fill_tree.specs.Cost.{program_cost}
 use Rattle.fill_tree.specs.Meaning.{program_tree}
 use Rattle.fill_tree.specs.Tree.{Atoms}
 use Rattle.fill_tree.specs.declared.tree.Program.{Program}
@@ -13,7 +11,6 @@ use Rattle.fill_arena.specs.Contents.{Extends}
 use Rattle.fill_arena.specs.Stands.{ProgramStands}
 use Rattle.fill_arena.specs.WellMade.{IsWellMade}
 use Rattle.fill_arena.specs.declared.entry.Entry.{Entry}
-use Rattle.fill_arena.proofs.Costs.{program_present}
 use Rattle.fill_doubt.specs.Gives.{Differ}
 use Rattle.fill_meet.specs.Meet.{IsMeet, NoneInBoth}
 use Rattle.fill_split.specs.Keeping.{KeepsMarks}
@@ -64,10 +61,6 @@ pub doubt_told : (s : SpacesData) (k row : ℕ) (r : Result Bool NoMemory)
     → IfOk r (λ b. (l : List Example) → SpaceStands s k l → IsTrue b ↔ IsDoubtful s.ground l row)
 doubt_told s k row (Ok b) h = λ l x. let same = doubtful s k row l x in ((λ yes. same.0 (h.0 yes)), (λ differ. h.1 (same.1 differ)))
 doubt_told s k row (Err want) h = tt
-
--- no chosen program of a space costs more than 64 bits hold
-pub too_dear : (s : SpacesData) (k : ℕ) (l : List Example) (p : Atoms) → ArePrices s.ground.settings.profile.prices → IsWellMade s.arena → SpaceStands s k l → ChosenOn s.ground l p → 2 ^ 64 ≤ program_cost s.ground.settings.profile.prices p → ⊥
-too_dear s k l p small made x best dear = let cheap = program_present s.ground.settings.profile.prices small s.arena made k p ((x.exact p).1 best.has) in omega (arith, cheap, dear)
 
 -- what was made for a list stands for some list
 pub some_made : (s : SpacesData) (made : Option ℕ) (none : Type 0) (l : List Example) → MatchOption made none (λ k. SpaceStands s k l)

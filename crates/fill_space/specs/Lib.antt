@@ -5,4 +5,5 @@ pub mod Ground
 pub mod Met
 pub mod Objector
 pub mod Spaces
+pub mod Weighed
 pub mod Weights

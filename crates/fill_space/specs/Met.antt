@@ -1,13 +1,14 @@
 -- What is known of pairs of graphs that were met.
-use Rattle.std.specs.Prelude.{◌≡◌, ◌↔◌, ℕ, List, Option, MatchOption, OnSome, Some, nat_eq, slice_get}
+use Rattle.std.specs.Prelude.{◌≡◌, ◌↔◌, ℕ, ◌<◌, List, Option, MatchOption, OnSome, Some, nat_eq, slice_get}
 use Rattle.std.specs.HashMap.{HashMap, get}
-use Rattle.std.specs.List.{AllZip}
 use Rattle.fill_tree.specs.Tree.{Atoms}
-use Rattle.fill_arena.specs.Contents.{EachIn, IsGraph}
+use Rattle.fill_arena.specs.Contents.{IsGraph}
 use Rattle.fill_arena.specs.Stands.{ProgramStands}
 use Rattle.fill_arena.specs.declared.entry.Entry.{Entry}
 use Rattle.fill_meet.specs.Meet.{IsMeet, NoneInBoth}
 use Rattle.fill_meet.specs.Memory.{AreRight}
+use Rattle.fill_space.specs.declared.carried.Renaming.{Renaming}
+use Rattle.fill_space.specs.declared.carried.Renaming.TheVariants.{Copied, Cut}
 use Rattle.fill_space.specs.declared.met.Met.{Met}
 
 -- both are graphs of the arena, and this is the graph of what stands in both; it is none where nothing does
@@ -21,12 +22,15 @@ pub record IsTold (c : List Entry) (a b : ℕ) (made : Option ℕ) : Type 0 wher
 abbrev pub AreTold : List Entry → Met → Type 0
 AreTold c met = AreRight (IsTold c) met.table
 
--- for each graph of the first list one of the second arena, at the same place of the second list, in which the same
--- programs stand
-pub record AreCopies (c d : List Entry) (old new : List ℕ) : Type 0 where
-  pub graphs : EachIn (IsGraph d) new
-  pub same : AllZip (λ k n. (p : Atoms) → ProgramStands d n p ↔ ProgramStands c k p) old new
-
 -- for each graph of the table the one at its place of the second list
 pub record AreReplaced {S : Type 0} (old new : List ℕ) (copies : HashMap ℕ ℕ S) : Type 0 where
   pub each : (k n : ℕ) → get nat_eq copies k ≡ Some n → (i : ℕ) × (slice_get old i ≡ Some k) × (slice_get new i ≡ Some n)
+
+-- the first number's graph has the second one now
+abbrev pub IsRenamed : Renaming → ℕ → ℕ → Type 0
+IsRenamed (Copied copies) k n = get nat_eq copies k ≡ Some n
+IsRenamed (Cut mark) k n = (n ≡ k) × (k < mark)
+
+-- each graph that has a new number is a graph of the second arena under it, in which the same programs stand
+pub record AreRenamed (c d : List Entry) (r : Renaming) : Type 0 where
+  pub each : (k n : ℕ) → IsGraph c k → IsRenamed r k n → IsGraph d n × ((p : Atoms) → ProgramStands d n p ↔ ProgramStands c k p)

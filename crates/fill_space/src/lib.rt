@@ -13,6 +13,7 @@ mod maker;
 mod met;
 mod space;
 mod spaces;
+mod weights;
 
 pub use fill_doubt::Shapes;
 pub use fill_object::{Guide, Objection};

@@ -4,11 +4,13 @@ ghost use Rattle.fill_space.specs.Ground.{FitsOn, WeighsOn, MayStand};
 ghost use Rattle.fill_space.specs.Spaces.{SpaceStands, first_spaces};
 ghost use Rattle.fill_space.specs.Weights.{one_weight};
 
-use crate::built::{Built, build_once};
+use crate::built::build_once;
+use crate::carried::{Renaming, carry_built, carry_met, carry_weights};
 use crate::ground::Ground;
-use crate::met::{Met, meet_once};
+use crate::met::meet_once;
 use crate::space::Space;
 use crate::spaces::Spaces;
+use crate::weights::weigh_once;
 use fill_arena::Mark;
 use fill_edge::{Ledger, Steps};
 use fill_split::Maker;
@@ -79,19 +81,21 @@ impl Maker for Spaces {
 
     fn cut(&mut self, mark: Mark) {
         self.arena.cut(mark);
-        self.met = Met::new(self.alloc);
-        self.built = Built::new(self.alloc);
+        self.arena.keeps_made();
+        let renaming = Renaming::Cut(mark);
+        self.met = carry_met(self.alloc, &self.met, &renaming);
+        self.built = carry_built(self.alloc, &self.built, &renaming);
+        self.weights = carry_weights(self.alloc, &self.weights, &renaming);
     }
 
-    fn weight(&self, kept: Space) -> Result<u64, NoMemory> {
-        self.arena.keeps_made();
-        let prices = &self.ground.settings.profile.prices;
-        prices.keep_small();
-        let program = self.least(kept)?;
-        let Some(cost) = program.cost(prices) else {
-            unreachable!()
-        };
-        Ok(cost)
+    fn weight(&mut self, kept: Space) -> Result<u64, NoMemory> {
+        weigh_once(
+            self.alloc,
+            &self.ground.settings.profile.prices,
+            &self.arena,
+            &mut self.weights,
+            kept.graph(),
+        )
     }
 
     ghost stands_fit = { λ s k l stands. stands.some };

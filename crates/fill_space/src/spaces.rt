@@ -15,10 +15,11 @@ ghost use Rattle.fill_space.specs.Objector.{ObjectionIs, ObjectionWithin, object
 ghost use Rattle.fill_space.specs.Spaces.{GuideStands, SpaceStands, Succeeds, no_spaces};
 
 use crate::built::Built;
-use crate::carried::{carry_built, carry_met, known_copies};
+use crate::carried::{Renaming, carry_built, carry_met, carry_weights, known_copies};
 use crate::ground::Ground;
 use crate::met::Met;
 use crate::space::{Space, graphs_of, put_graphs};
+use crate::weights::Weights;
 use fill_arena::{Arena, GraphId};
 use fill_doubt::Shapes;
 use fill_object::{Guide, Objection, OnRow};
@@ -37,6 +38,7 @@ pub struct Spaces {
     pub(crate) arena: Arena,
     pub(crate) met: Met,
     pub(crate) built: Built,
+    pub(crate) weights: Weights,
 }
 
 impl Model for Spaces {
@@ -44,12 +46,13 @@ impl Model for Spaces {
     ghost use Rattle.fill_space.specs.Built.{AreBuilt};
     ghost use Rattle.fill_space.specs.Met.{AreTold};
     ghost use Rattle.fill_space.specs.Spaces.{SpacesData, spaces_over};
+    ghost use Rattle.fill_space.specs.Weighed.{AreWeighed};
 
     ghost Value = { SpacesData };
 
     ghost view = { λ spaces. spaces_over spaces.ground spaces.arena };
 
-    ghost invariant = { λ spaces. AreSettings spaces.ground.settings × AreTold spaces.arena spaces.met × AreBuilt spaces.ground spaces.arena spaces.built };
+    ghost invariant = { λ spaces. AreSettings spaces.ground.settings × AreTold spaces.arena spaces.met × AreBuilt spaces.ground spaces.arena spaces.built × AreWeighed spaces.ground.settings.profile.prices spaces.arena spaces.weights };
 }
 
 impl Spaces {
@@ -68,6 +71,7 @@ impl Spaces {
             arena: Arena::new(alloc),
             met: Met::new(alloc),
             built: Built::new(alloc),
+            weights: Weights::new(alloc),
         }
     }
 
@@ -267,8 +271,10 @@ impl Spaces {
         self.arena = self.arena.copy(self.alloc, graphs.as_mut_slice())?;
         let copies = graphs.as_slice();
         let known = known_copies(self.alloc, listed.as_slice(), copies);
-        self.met = carry_met(self.alloc, &self.met, &known);
-        self.built = carry_built(self.alloc, &self.built, &known);
+        let renaming = Renaming::Copied(known);
+        self.met = carry_met(self.alloc, &self.met, &renaming);
+        self.built = carry_built(self.alloc, &self.built, &renaming);
+        self.weights = carry_weights(self.alloc, &self.weights, &renaming);
         put_graphs(live, copies);
         Ok(())
     }

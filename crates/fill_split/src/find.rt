@@ -22,9 +22,10 @@ pub struct Choice<K: Copy> {
 }
 
 /// What the items that the value stands for weigh under the rule.
-fn load<M: Maker>(maker: &M, rule: Placing, kept: M::Kept) -> Result<u64, NoMemory>
-    requires { (l : Listed M.Item) × M.stands maker.now kept l }
-    ensures { IfOk result (λ n. (l : Listed M.Item) → M.stands maker.now kept l → Loads rule (M.weight (M.base maker.now)) l n) }
+fn load<M: Maker>(maker: &mut M, rule: Placing, kept: M::Kept) -> Result<u64, NoMemory>
+    requires { (l : Listed M.Item) × M.stands maker.old kept l }
+    ensures same { maker.new ≡ maker.old }
+    ensures load { IfOk result (λ n. (l : Listed M.Item) → M.stands maker.old kept l → Loads rule (M.weight (M.base maker.old)) l n) }
 {
     match rule {
         Placing::First => Ok(0),

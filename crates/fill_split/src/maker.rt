@@ -94,10 +94,12 @@ pub trait Maker {
         ensures marked { (m : Self.Mark) → no_later m mark → valid self.old m → Keeps (marked self.old m) (marked self.new m) }
         ensures only_marked { (m : Self.Mark) → no_later m mark → valid self.old m → Keeps (marked self.new m) (marked self.old m) };
 
-    /// The weight of the items that the value stands for. It takes no step.
-    fn weight(&self, kept: Self::Kept) -> Result<u64, NoMemory>
-        requires { (l : List Self.Item) × stands self.now kept l }
-        ensures { IfOk result (λ w. (l : List Self.Item) → stands self.now kept l → weight (base self.now) l w) };
+    /// The weight of the items that the value stands for. It takes no step. A maker may keep weights, so that none is found
+    /// twice.
+    fn weight(&mut self, kept: Self::Kept) -> Result<u64, NoMemory>
+        requires { (l : List Self.Item) × stands self.old kept l }
+        ensures same { self.new ≡ self.old }
+        ensures weight { IfOk result (λ w. (l : List Self.Item) → stands self.old kept l → weight (base self.old) l w) };
 
     // what a value stands for fits
     ghost stands_fit: { (m : Self) (k : Self.Kept) (l : List Self.Item) → stands m k l → fits (base m) l };

@@ -67,8 +67,9 @@ fn last_word(alloc: Global) -> Result<Program, NoMemory> {
 }
 
 /// Whether the last word is the space's least program, and one of its programs.
-fn learned_last_word(alloc: Global, spaces: &Spaces, space: Space) -> Result<bool, NoMemory>
-    requires { (l : List Given) × SpaceStands spaces.now space l }
+fn learned_last_word(alloc: Global, spaces: &mut Spaces, space: Space) -> Result<bool, NoMemory>
+    requires { (l : List Given) × SpaceStands spaces.old space l }
+    ensures { spaces.new ≡ spaces.old }
 {
     let weight = spaces.weight(space)?;
     let program = last_word(alloc)?;

@@ -126,7 +126,7 @@ impl Maker for Sums {
         self.kept.truncate(mark);
     }
 
-    fn weight(&self, kept: usize) -> Result<u64, NoMemory> {
+    fn weight(&mut self, kept: usize) -> Result<u64, NoMemory> {
         Ok(10 - self.kept[kept] as u64)
     }
 

@@ -10,13 +10,13 @@ loop-row-preserved c =
     let left = subst (All (λ e. get nat_eq c.args.built.now.table e.0 ≡ Some e.1)) c.in-Some.ensures.steps c.loop-row.invariant.found in
     record {
       found = All-tail (λ e. get nat_eq c.args.built.now.table e.0 ≡ Some e.1) (row, built) _ left;
-      told = λ g before after old new told replaced copies.
-          c.carry_row.ensures g before after old new (told.each row built (All-head (λ e. get nat_eq c.args.built.now.table e.0 ≡ Some e.1) (row, built) _ left)) replaced copies
-          (c.loop-row.invariant.told g before after old new told replaced copies);
+      told = λ g before after told renamed.
+          c.carry_row.ensures g before after (told.each row built (All-head (λ e. get nat_eq c.args.built.now.table e.0 ≡ Some e.1) (row, built) _ left)) renamed
+          (c.loop-row.invariant.told g before after told renamed);
     }
 
 pub loop-row-init : goal.loop-row-init
 loop-row-init c = record {
   found = search rules;
-  told = λ g before after old new told replaced copies. c.new-carried.ensures g after;
+  told = λ g before after told renamed. c.new-carried.ensures g after;
 }

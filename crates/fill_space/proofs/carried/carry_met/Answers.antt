@@ -11,7 +11,7 @@ loop-pair-preserved c =
     let left = subst (All (λ e. get pair_eq c.args.met.now.table e.0 ≡ Some e.1)) c.in-Some.ensures.steps c.loop-pair.invariant.found in
     record {
       found = All-tail (λ e. get pair_eq c.args.met.now.table e.0 ≡ Some e.1) (pair, made) _ left;
-      told = λ before after old new told replaced copies.
-          c.carry_pair.ensures before after old new (told.each (pair.0, pair.1) made (All-head (λ e. get pair_eq c.args.met.now.table e.0 ≡ Some e.1) (pair, made) _ left)) replaced copies
-          (c.loop-pair.invariant.told before after old new told replaced copies);
+      told = λ before after told renamed.
+          c.carry_pair.ensures before after (told.each (pair.0, pair.1) made (All-head (λ e. get pair_eq c.args.met.now.table e.0 ≡ Some e.1) (pair, made) _ left)) renamed
+          (c.loop-pair.invariant.told before after told renamed);
     }

@@ -1,9 +1,10 @@
-use Rattle.std.proofs.Common.{◌∙◌, arith, subst, refl, ◌++◌}
+use Rattle.std.proofs.Common.{◌≡◌, ◌∙◌, ◌+◌, Some, arith, subst, refl, sym, ◌++◌}
 use Rattle.std.proofs.lemmas.Option.{slice_get-get_or}
+use Rattle.fill_split.specs.Keeping.{Keeps, KeepsMarks}
 use Rattle.fill_split.specs.Placement.{Loads}
 use Rattle.fill_split.proofs.Zips.{zip_some}
 use Rattle.fill_split.proofs.Marks.{marks_trans}
-use Rattle.fill_split.proofs.Choosing.{yet_skip, yet_more, yet_settled, yet_end, within_more, within_still}
+use Rattle.fill_split.proofs.Choosing.{ChosenYet, yet_skip, yet_more, yet_settled, yet_end, within_more, within_still}
 use Rattle.fill_split.proofs.find.find.Goals as goal
 
 pub join-requires-clause-kept : goal.join-requires-clause-kept
@@ -53,17 +54,19 @@ loop-i-preserved g c =
     let e = c.in-Ok-Some.ensures in
     let base = e.base ∙ c.loop-i.invariant.base in
     let both = rw c.in-Ok-Some.field-0-is at e.both in
+    let same = sym c.in-Ok.ensures.same in
     record {
-      base = base;
-      older = λ k l s. e.older k l (c.loop-i.invariant.older k l s);
-      marks = marks_trans c.loop-i.invariant.marks e.marks;
+      base = subst (λ w. m.base w ≡ b) same base;
+      older = subst (λ w. Keeps (m.stands c.args.maker.now) (m.stands w)) same (λ k l s. e.older k l (c.loop-i.invariant.older k l s));
+      marks = subst (λ w. KeepsMarks (m.valid c.args.maker.now) (m.valid w) (m.marked c.args.maker.now) (m.marked w)) same (marks_trans c.loop-i.invariant.marks e.marks);
       cost = let a = e.step in let d = c.loop-i.invariant.cost in omega arith;
       within = within_more c.loop-i.i c.loop-i.best _ c.lighter.result refl c.loop-i.invariant.within c.lighter.ensures;
-      yet = yet_more (m.stands c.args.maker.now) c.args.rule (m.fits b) (m.weight b) c.args.branches.now c.args.single (m.stands c.loop-i.maker) c.loop-i.i (m.stands c.join.new.self) e.older c.loop-i.invariant.older _ at
+      yet = subst (λ w. ChosenYet (m.stands c.args.maker.now) (m.stands w) c.args.rule (m.fits b) (m.weight b) c.args.branches.now c.args.single (c.loop-i.i + 1) (Some c.lighter.result)) same
+          (yet_more (m.stands c.args.maker.now) c.args.rule (m.fits b) (m.weight b) c.args.branches.now c.args.single (m.stands c.loop-i.maker) c.loop-i.i (m.stands c.join.new.self) e.older c.loop-i.invariant.older _ at
           (λ l v w. g.met.M.Maker.one_weight b l v w) c.loop-i.best _ c.lighter.result refl
           (λ l s. subst (λ b. m.fits b l) base (g.met.M.Maker.stands_fit c.join.new.self c.in-Ok-Some.joined l s))
-          (λ l s. subst (λ b. Loads c.args.rule (m.weight b) l c.in-Ok.load) base (c.in-Ok.ensures l s))
-          both c.lighter.ensures c.loop-i.invariant.yet;
+          (λ l s. subst (λ b. Loads c.args.rule (m.weight b) l c.in-Ok.load) base (c.in-Ok.ensures.load l s))
+          both c.lighter.ensures c.loop-i.invariant.yet);
     }
 
 pub returns-then-is_settled-clause-found : goal.returns-then-is_settled-clause-found

@@ -7,6 +7,7 @@ use Rattle.fill_space.specs.Ground.{Ground, FitsOn, MayStand}
 use Rattle.fill_space.specs.Spaces.{SpacesData, SpaceStands, spaces_over}
 use Rattle.fill_space.proofs.Meeting.{all_stay}
 use Rattle.fill_space.proofs.Told.{older_stay, older_marks}
+use Rattle.fill_space.proofs.Weighing.{weights_stay}
 use Rattle.fill_space.proofs.maker.SpacesMaker.first.Goals as goal
 
 pub build_once-requires-clause-allowed : goal.build_once-requires-clause-allowed
@@ -34,4 +35,5 @@ invariant_of-self g c = (
   c.self.invariant.0,
   all_stay c.self.inside.arena c.build_once.new.arena c.keeps_made.ensures c.build_once.ensures.kept c.self.inside.met c.self.invariant.1,
   c.build_once.ensures.built,
+  weights_stay c.self.inside.ground.settings.profile.prices c.self.inside.arena c.build_once.new.arena c.keeps_made.ensures c.build_once.ensures.kept c.self.inside.weights c.self.invariant.3,
 )

@@ -7,6 +7,7 @@ use Rattle.fill_space.specs.Ground.{Ground, FitsOn}
 use Rattle.fill_space.specs.Spaces.{SpacesData, SpaceStands, spaces_over}
 use Rattle.fill_space.proofs.Building.{built_stays}
 use Rattle.fill_space.proofs.Told.{older_stay, older_marks, both_told}
+use Rattle.fill_space.proofs.Weighing.{weights_stay}
 use Rattle.fill_space.proofs.maker.SpacesMaker.join.Goals as goal
 
 pub returns-clause-older : goal.returns-clause-older
@@ -34,4 +35,5 @@ invariant_of-self g c = (
   c.self.invariant.0,
   c.meet_once.ensures.told,
   built_stays c.self.inside.ground c.self.inside.arena c.meet_once.new.arena c.keeps_made.ensures c.meet_once.ensures.kept c.self.inside.built c.self.invariant.2,
+  weights_stay c.self.inside.ground.settings.profile.prices c.self.inside.arena c.meet_once.new.arena c.keeps_made.ensures c.meet_once.ensures.kept c.self.inside.weights c.self.invariant.3,
 )

@@ -1,20 +1,25 @@
-use Rattle.std.proofs.Common.{◌≡◌, ◌≤◌, ◌^◌, sym, subst}
-use Rattle.fill_tokens.specs.Prices.{ArePrices}
-use Rattle.fill_tree.specs.Cost.{program_cost}
-use Rattle.fill_tree.specs.Meaning.{program_tree}
-use Rattle.fill_arena.specs.WellMade.{IsWellMade}
-use Rattle.fill_space.specs.Spaces.{SpacesData}
-use Rattle.fill_space.proofs.Told.{too_dear}
+use Rattle.std.proofs.Common.{ℕ, List, subst, sym}
+use Rattle.std.specs.Prelude.{IfOk}
+use Rattle.fill_tree.specs.declared.user.Example.{Example}
+use Rattle.fill_arena.specs.Contents.{IsGraph}
+use Rattle.fill_space.specs.Ground.{WeighsOn}
+use Rattle.fill_space.specs.Spaces.{SpacesData, SpaceStands, spaces_over}
+use Rattle.fill_space.specs.Weighed.{IsWeighed}
+use Rattle.fill_space.proofs.Weighing.{weight_told}
 use Rattle.fill_space.proofs.maker.SpacesMaker.weight.Goals as goal
 
-pub unreachable-requires : goal.unreachable-requires
-unreachable-requires c =
-    let l = c.requires.0 in
+pub weigh_once-requires-clause-graph : goal.weigh_once-requires-clause-graph
+weigh_once-requires-clause-graph c =
     let stands = c.requires.1 in
-    let p = c.in_ok-program.program in
-    let small = subst (λ (v : SpacesData). ArePrices v.ground.settings.profile.prices) c.self.view_is c.keep_small.ensures in
-    too_dear c.args.self.now c.args.kept l (program_tree p) small (subst (λ (v : SpacesData). IsWellMade v.arena) c.self.view_is c.keeps_made.ensures)
-    stands (c.in_ok-program.ensures l stands) (subst (λ (v : SpacesData). 2 ^ 64 ≤ program_cost v.ground.settings.profile.prices (program_tree p)) c.self.view_is c.in_default.ensures.none)
+    subst (λ (v : SpacesData). IsGraph v.arena c.graph.result) (sym c.self.view_is) (subst (λ (k : ℕ). IsGraph c.args.self.now.arena k) (sym c.graph.ensures) stands.graph)
 
-pub returns : goal.returns
-returns c = λ l x. (program_tree c.in_ok-program.program, c.in_ok-program.ensures l x, sym (subst (λ (v : SpacesData). c.in-Some.cost ≡ program_cost v.ground.settings.profile.prices (program_tree c.in_ok-program.program)) c.self.view_is c.in-Some.ensures.some))
+pub returns-clause-weight : goal.returns-clause-weight
+returns-clause-weight c =
+    let over = c.self.inside.ground in
+    let arena = c.self.inside.arena in
+    subst (λ (v : SpacesData). IfOk c.weigh_once.result (λ w. (l : List Example) → SpaceStands v c.args.kept l → WeighsOn v.ground l w)) c.self.view_is
+    (weight_told (spaces_over over arena) c.args.kept c.weigh_once.result
+    (subst (λ (k : ℕ). IfOk c.weigh_once.result (IsWeighed over.settings.profile.prices arena k)) c.graph.ensures c.weigh_once.ensures.weight))
+
+pub invariant_of-self : goal.invariant_of-self
+invariant_of-self c = (c.self.invariant.0, c.self.invariant.1, c.self.invariant.2, c.weigh_once.ensures.weighed)

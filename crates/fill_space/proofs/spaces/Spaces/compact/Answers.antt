@@ -4,7 +4,7 @@ use Rattle.fill_arena.specs.Contents.{IsGraph}
 use Rattle.fill_arena.specs.Named.{IsNamed}
 use Rattle.fill_space.specs.Spaces.{SpacesData, Succeeds, spaces_over}
 use Rattle.fill_space.proofs.Compacted.{copies_stand, lent_back}
-use Rattle.fill_space.proofs.Copies.{are_copies}
+use Rattle.fill_space.proofs.Copies.{copied_renamed}
 use Rattle.fill_space.proofs.spaces.Spaces.compact.Goals as goal
 
 pub copy-requires : goal.copy-requires
@@ -24,10 +24,11 @@ invariant_of-self c =
     let lent = c.as_mut_slice.ensures.value ∙ c.in_ok-graphs.ensures in
     let listed = c.as_slice.ensures.value ∙ c.in_ok-listed.ensures in
     let put = c.as_slice-copies.ensures.value ∙ lent_back graphs.items c.as_mut_slice.result.now new graphs.len (let len = graphs.ok.0 in omega arith) c.as_mut_slice.ensures.value c.in_ok-self-inside.ensures.length in
-    let copies = are_copies arena made c.as_mut_slice.result.now new c.as_slice.result.now c.as_slice-copies.result.now (lent ∙ sym listed) (sym put) c.in_ok-self-inside.ensures.graphs c.in_ok-self-inside.ensures.same in (
+    let renamed = copied_renamed arena made c.as_mut_slice.result.now new c.as_slice.result.now c.as_slice-copies.result.now _ (lent ∙ sym listed) (sym put) c.in_ok-self-inside.ensures.graphs c.in_ok-self-inside.ensures.same c.known_copies-known.ensures.each in (
       c.self.invariant.0,
-      c.carry_met.ensures arena made c.as_slice.result.now c.as_slice-copies.result.now c.self.invariant.1 c.known_copies-known.ensures copies,
-      c.carry_built.ensures over arena made c.as_slice.result.now c.as_slice-copies.result.now c.self.invariant.2 c.known_copies-known.ensures copies,
+      c.carry_met.ensures arena made c.self.invariant.1 renamed,
+      c.carry_built.ensures over arena made c.self.invariant.2 renamed,
+      c.carry_weights.ensures over.settings.profile.prices arena made c.self.invariant.3 renamed,
     )
 
 pub returns-clause-stand : goal.returns-clause-stand
