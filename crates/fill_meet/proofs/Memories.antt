@@ -6,18 +6,22 @@ use Rattle.fill_arena.specs.Stands.{PlaceStands}
 use Rattle.fill_arena.specs.declared.entry.Entry.{Entry}
 use Rattle.fill_meet.specs.declared.memo.Memo.{Memo}
 use Rattle.fill_meet.specs.declared.tried.Told.{Told}
-use Rattle.fill_meet.specs.Memory.{pair_eq, AreRight, IsRight, WithinTold}
+use Rattle.fill_meet.specs.Memory.{pair_eq, AreRight, IsRight, CommonTold, WithinTold}
 use Rattle.fill_meet.proofs.Grows.{met_stay, place_sets_stay, source_sets_stay, atom_sets_stay}
 
-within_stays : (c d : List Entry) → Extends c d → (r : Option Told) → WithinTold c r → WithinTold d r
+within_stays : (c d : List Entry) → Extends c d → (r : Option (Told Bool)) → WithinTold c r → WithinTold d r
 within_stays c d o None h = h
 within_stays c d o (Some told) h = λ e. met_stay c d o PlaceStands told.s told.t told.s (h e)
+
+common_stays : (c d : List Entry) → Extends c d → (r : Option (Told (Option ℕ))) → CommonTold c r → CommonTold d r
+common_stays c d o None h = h
+common_stays c d o (Some told) h = place_sets_stay c d o told.s told.t told.told h
 
 pub right_stays : (c d : List Entry) → Extends c d → (memo : Memo) → IsRight c memo → IsRight d memo
 right_stays c d o memo r =
     record {
       within = λ k told h. within_stays c d o told (r.within k told h);
-      places = record { each = λ k made h. place_sets_stay c d o k.0 k.1 made (r.places.each k made h) };
+      places = λ k told h. common_stays c d o told (r.places k told h);
       sources = record { each = λ k made h. source_sets_stay c d o k.0 k.1 made (r.sources.each k made h) };
       atoms = record { each = λ k made h. atom_sets_stay c d o k.0 k.1 made (r.atoms.each k made h) };
     }

@@ -1,5 +1,5 @@
 -- Rows, by what the entries of an index have in common with an item.
-use Rattle.std.proofs.Common.{◌≡◌, ℕ, ◌+◌, ◌%◌, ◌<◌, ◌≤◌, inl, inr, List, length, set, Option, Some, slice_get, refl, sym, ap, ◌∙◌, subst, arith}
+use Rattle.std.proofs.Common.{◌≡◌, ℕ, ◌+◌, ◌%◌, ◌<◌, ◌≤◌, inl, inr, List, length, Option, None, Some, slice_get, refl, sym, ap, ◌∙◌, subst, arith}
 use Rattle.std.proofs.lemmas.Bool.{cases_eq, cases_lt}
 use Rattle.std.proofs.lemmas.Option.{slice_get_within}
 use Rattle.fill_arena.specs.Contents.{EachIn, Extends, IsAtomSet, SomeIn}
@@ -7,22 +7,22 @@ use Rattle.fill_arena.specs.declared.entry.AtomItem.{AtomItem}
 use Rattle.fill_arena.specs.declared.entry.AtomItem.TheVariants.{Const, Whole, Sub}
 use Rattle.fill_arena.specs.declared.entry.Entry.{Entry}
 use Rattle.fill_arena.specs.declared.entry.Entry.TheVariants as kind
-use Rattle.fill_trim.proofs.Ranks.{set_other}
 use Rattle.fill_meet.specs.Groups.{AreKeys, IsFirstFrom}
 use Rattle.fill_meet.specs.Index.{AreItems, IsEntryOf, IsListed, constant_hash, piece_hash}
 use Rattle.fill_meet.specs.Mates.{IsMated}
 use Rattle.fill_meet.specs.Meet.{AreApart}
-use Rattle.fill_meet.specs.Rows.{AreAlikeDone, AreDone, AreEndsDone, ArePiecesDone, IsCovered, IsEntryDone, IsRow}
+use Rattle.fill_meet.specs.Rows.{AreAlikeDone, AreDone, AreEndsDone, ArePiecesDone, IsCovered, IsEntryDone, IsRow, IsRowTold}
 use Rattle.fill_meet.specs.Runs.{Grows, HasFrom}
 use Rattle.fill_meet.specs.Sets.{AtomIn}
 use Rattle.fill_meet.specs.declared.index.Index.{Index}
 use Rattle.fill_meet.specs.declared.index.Item.{Item}
+use Rattle.fill_meet.specs.declared.rows.Known.{Known}
 use Rattle.fill_meet.specs.declared.runs.Run.{Run}
 use Rattle.fill_meet.proofs.AtomPairs as atoms
 use Rattle.fill_meet.proofs.Grown.{from_grown, has_or_not, in_grown, in_run}
 use Rattle.fill_meet.proofs.IndexLaws.{listed_back, listed_once}
 use Rattle.fill_meet.proofs.Lists.{AllBelow, all_end, same_value}
-use Rattle.fill_meet.proofs.Trials.{atoms_unshared, set_there}
+use Rattle.fill_meet.proofs.Trials.{atoms_unshared}
 
 module _ (c : List Entry) (i : Index) (P Q : ℕ → ℕ → AtomItem → Type 0) (on : (n j : ℕ) (y : AtomItem) → P n j y → Q n j y) where
   pub entry_on : (hash e : ℕ) → IsEntryDone c i P hash e → IsEntryDone c i Q hash e
@@ -206,18 +206,10 @@ module _ (c : List Entry) (labels : List ℕ) (start : ℕ) where
         each = λ n t ht. elim (row.each n t ht) [ inl has ↦ inl (in_grown old new run n grown has) | inr apart ↦ inr apart ];
       }
 
--- one more row
-pub rows_put : (c : List Entry) (labels firsts old new : List ℕ) (known : List (Option Run)) (number s : ℕ) (row : Run) → slice_get firsts number ≡ Some s → Grows old new → IsRow c labels new s row
-    → ((k t : ℕ) (run : Run) → slice_get known k ≡ Some (Some run) → slice_get firsts k ≡ Some t → IsRow c labels old t run)
-    → (k t : ℕ) (run : Run) → slice_get (set known number (Some row)) k ≡ Some (Some run) → slice_get firsts k ≡ Some t → IsRow c labels new t run
-rows_put c labels firsts old new known number s row hs grown made all k t run at ht = elim (cases_eq k number) [
-  | inl same ↦
-      let there = set_there known number (Some row) (Some run) (subst (λ n. slice_get (set known number (Some row)) n ≡ Some (Some run)) same at) in
-      let is : row ≡ run = cc in
-      let one : s ≡ t = same_value firsts number k s t (sym same) hs ht in
-      subst (λ n. IsRow c labels new n run) one (subst (IsRow c labels new s) is made)
-  | inr other ↦ row_grown c labels number old new t run grown (all k t run (sym (set_other known number k (Some row) other) ∙ at) ht)
-]
+-- what a slot tells holds of a longer list too
+pub told_grown : (c : List Entry) (labels old new : List ℕ) → Grows old new → (r : Option Known) → IsRowTold c labels old r → IsRowTold c labels new r
+told_grown c labels old new grown None h = h
+told_grown c labels old new grown (Some told) h = row_grown c labels 0 old new told.set told.row grown h
 
 -- one entry
 module _ (c : List Entry) (i : Index) (hash e : ℕ) (z : Item) (hz : slice_get i.items.items e ≡ Some z) where

@@ -57,7 +57,7 @@ pub done_any : (r : Result (Unit {0}) NoMemory) (P : Type 0) → P → OnOk r P
 done_any (Ok x) P h = h
 done_any (Err e) P h = tt
 
-pub set_there : {A : Type 0} (xs : List A) (at : ℕ) (x y : A) → slice_get (set xs at x) at ≡ Some y → x ≡ y
+set_there : {A : Type 0} (xs : List A) (at : ℕ) (x y : A) → slice_get (set xs at x) at ≡ Some y → x ≡ y
 set_there [] at x y h = absurd cc
 set_there (z ∷ xs) zero x y h = cc
 set_there (z ∷ xs) (suc at) x y h = set_there xs at x y h

@@ -7,7 +7,7 @@ use Rattle.fill_meet.specs.declared.bits.Bits.{Bits}
 abbrev pub IsBit : Bits → ℕ → ℕ → Type 0
 IsBit b u v = bit_at (get_or b.words.items (u * b.per_row + v / 64) 0) (v % 64) ≡ 1
 
--- so many rows, and at least so many columns
+-- room for these rows, and for at least these columns
 pub record HasRoom (rows columns : ℕ) (b : Bits) : Type 0 where
   pub tall : length b.words.items ≡ rows * b.per_row
   pub wide : b.per_row ≡ columns / 64 + 1

@@ -13,7 +13,7 @@ pub record AreClosed (ties : List Tie) (old new : List Bool) : Type 0 where
   pub kept : (m : ℕ) → IsMarked old m → IsMarked new m
   pub closed : EachIn (λ t. IsMarked new t.to → IsMarked new t.from) ties
 
--- marks of so many nodes, at least those that lead to the last one
+-- a mark for each node, set at least where the node leads to the last one
 pub record AreLive (nodes : ℕ) (ties : List Tie) (marks : List Bool) : Type 0 where
   pub long : length marks ≡ nodes
   pub last : IsMarked marks (nodes - 1)

@@ -10,17 +10,21 @@ use Rattle.fill_meet.specs.Sets.{PlaceSetsMeet, SourceSetsMeet, AtomSetsMeet, Is
 abbrev pub pair_eq : ℕ × ℕ → ℕ × ℕ → Bool
 pair_eq x y = nat_eq x.0 y.0 && nat_eq x.1 y.1
 
--- each row of the table tells what is so
+-- what the table tells of a pair holds of it
 pub record AreRight {S V : Type 0} (Meet : ℕ → ℕ → V → Type 0) (table : HashMap (ℕ × ℕ) V S) : Type 0 where
   pub each : (k : ℕ × ℕ) (made : V) → get pair_eq table k ≡ Some made → Meet k.0 k.1 made
 
 -- where a slot tells that a set of places stands within another one, it does
-abbrev pub WithinTold : List Entry → Option Told → Type 0
-WithinTold c r = IfSome r (λ told. IsTrue told.may → IsWithin c told.s told.t)
+abbrev pub WithinTold : List Entry → Option (Told Bool) → Type 0
+WithinTold c r = IfSome r (λ told. IsTrue told.told → IsWithin c told.s told.t)
+
+-- where a slot tells the common set of two sets of places, it is that
+abbrev pub CommonTold : List Entry → Option (Told (Option ℕ)) → Type 0
+CommonTold c r = IfSome r (λ told. PlaceSetsMeet c told.s told.t told.told)
 
 -- what the tables tell is so in the arena
 pub record IsRight (c : List Entry) (memo : Memo) : Type 0 where
   pub within : EachIn (WithinTold c) memo.within.items
-  pub places : AreRight (PlaceSetsMeet c) memo.places
+  pub places : EachIn (CommonTold c) memo.places.items
   pub sources : AreRight (SourceSetsMeet c) memo.sources
   pub atoms : AreRight (AtomSetsMeet c) memo.atoms

@@ -1,5 +1,6 @@
 -- Rows: the sets of a graph that may have an atom in common with a given one.
-use Rattle.std.specs.Prelude.{◌≡◌, ◌⊎◌, ℕ, ◌<◌, ◌≤◌, List, length, Some, slice_get}
+use Rattle.std.specs.Prelude.{◌≡◌, ◌⊎◌, ℕ, ◌<◌, ◌≤◌, List, length, Option, Some, IfSome, slice_get}
+use Rattle.fill_arena.specs.Contents.{EachIn}
 use Rattle.fill_arena.specs.Stands.{AtomStands}
 use Rattle.fill_arena.specs.declared.entry.AtomItem.{AtomItem}
 use Rattle.fill_arena.specs.declared.entry.Entry.{Entry}
@@ -11,6 +12,7 @@ use Rattle.fill_meet.specs.Sets.{AtomIn}
 use Rattle.fill_meet.specs.Tried.{AreTried}
 use Rattle.fill_meet.specs.declared.index.Index.{Index}
 use Rattle.fill_meet.specs.declared.index.Item.{Item}
+use Rattle.fill_meet.specs.declared.rows.Known.{Known}
 use Rattle.fill_meet.specs.declared.rows.Rows.{Rows}
 use Rattle.fill_meet.specs.declared.rows.Search.{Search}
 use Rattle.fill_meet.specs.declared.runs.Run.{Run}
@@ -50,7 +52,11 @@ pub record IsRow (c : List Entry) (labels numbers : List ℕ) (s : ℕ) (run : R
   pub within : run.end ≤ length numbers
   pub each : (n t : ℕ) → slice_get labels n ≡ Some t → HasIn numbers run n ⊎ AreApart AtomStands c s t
 
--- for sets of the first graph that were asked for their rows
-pub record AreRows (c : List Entry) (firsts : List ℕ) (i : Index) (r : Rows) : Type 0 where
+-- what a slot tells is so
+abbrev pub IsRowTold : List Entry → List ℕ → List ℕ → Option Known → Type 0
+IsRowTold c labels numbers r = IfSome r (λ told. IsRow c labels numbers told.set told.row)
+
+-- rows of sets of the first graph
+pub record AreRows (c : List Entry) (i : Index) (r : Rows) : Type 0 where
   pub search : IsSearch c i r.search
-  pub known : (k s : ℕ) (run : Run) → slice_get r.known.items k ≡ Some (Some run) → slice_get firsts k ≡ Some s → IsRow c i.labels.sets.items r.search.found.rows.numbers.items s run
+  pub known : EachIn (IsRowTold c i.labels.sets.items r.search.found.rows.numbers.items) r.known.items

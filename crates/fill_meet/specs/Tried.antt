@@ -19,8 +19,8 @@ abbrev pub SourcesTried : List Entry → ℕ → ℕ → Bool → Type 0
 SourcesTried c s t may = may ≡ false → AreApart SourceStands c s t
 
 -- what a slot tells is so
-abbrev pub IsTold : List Entry → Option Told → Type 0
-IsTold c r = IfSome r (λ told. PlacesTried c told.s told.t told.may)
+abbrev pub IsTold : List Entry → Option (Told Bool) → Type 0
+IsTold c r = IfSome r (λ told. PlacesTried c told.s told.t told.told)
 
 -- what the tables tell is so in the arena
 pub record AreTried (c : List Entry) (tried : Tried) : Type 0 where

@@ -16,7 +16,7 @@ use std::cmp::Ordering;
 /// How many pairs of items are few.
 const FEW_PAIRS: usize = 16;
 
-/// Whether two sets of so many items make many pairs.
+/// Whether two sets with these counts of items make many pairs.
 pub(crate) fn are_many(xs: usize, ys: usize) -> bool {
     xs.saturating_mul(ys) > FEW_PAIRS
 }
@@ -103,7 +103,7 @@ fn places_may_meet(arena: &Arena, tried: &mut Tried, s: PlaceSet, t: PlaceSet) -
     }
     arena.keeps_made();
     let may = share_place(arena.places(s), arena.places(t));
-    tell_places(tried.places.as_mut_slice(), Told { s, t, may });
+    tell_places(tried.places.as_mut_slice(), Told { s, t, told: may });
     may
 }
 

@@ -6,7 +6,7 @@ ghost use Rattle.fill_meet.specs.Bits.{HasRoom, IsBit, IsNextBit, IsPlace, IsPut
 use fill_text::NoMemory;
 use std::alloc::Global;
 
-/// Rows of bits, of so many words each.
+/// Rows of bits, each of the same count of words.
 #[derive(Drop)]
 pub(crate) struct Bits {
     pub(crate) words: Vec<u64>,

@@ -16,7 +16,7 @@ pub(crate) struct Groups {
 }
 
 impl Groups {
-    /// The places of so many keys, gone through once from the back.
+    /// The groups of the places of the keys, which are below the count. One pass from the back makes them.
     pub(crate) fn new(alloc: Global, count: usize, keys: &[usize]) -> Result<Groups, NoMemory>
         requires { EachIn (λ k. k < count) keys.now }
         ensures groups { IfOk result (AreGroups keys.now) }
@@ -72,7 +72,7 @@ fn chain(firsts: &mut [usize], nexts: &mut [usize], keys: &[usize])
     }
 }
 
-/// The group, of so many, of what has the hash.
+/// The group of what has the hash, where the count tells how many groups there are.
 pub(crate) fn group_of(hash: u64, count: usize) -> usize
     requires { 0 < count }
     ensures { result ≡ hash % count }

@@ -5,7 +5,7 @@ ghost use Rattle.fill_arena.specs.declared.entry.Entry.{Entry};
 ghost use Rattle.fill_meet.specs.Memory.{IsRight, pair_eq};
 ghost use Rattle.fill_meet.specs.Sets.{AtomSetsMeet, PlaceSetsMeet, SourceSetsMeet};
 
-use crate::tried::{MOST, Told, blanks};
+use crate::tried::{MOST_ANSWERS, Told, blanks, tell_places};
 use fill_arena::{AtomSet, PlaceSet, SourceSet};
 use fill_text::NoMemory;
 use std::alloc::Global;
@@ -14,41 +14,41 @@ use std::collections::HashMap;
 /// How many answers on what stands within another set are kept for each tie.
 const ANSWERS_A_TIE: usize = 2;
 
+/// The most pairs of sets of places whose common sets are kept. It is even, as `MOST_ANSWERS` is.
+const MOST_COMMON: usize = 65_536;
+
 /// For pairs of sets that were met, their common set, or none where they are apart.
 ///
-/// Whether each place of a set stands in another one is kept in slots. What gave way to another answer, or was forgotten where
-/// there was no room for more, is found again.
+/// What is known of two sets of places is kept in slots: their common set, and whether each place of the one stands in the
+/// other. What gave way to another answer, or was forgotten where there was no room for more, is found again.
 #[derive(Drop)]
 pub(crate) struct Memo {
     pub(crate) alloc: Global,
-    pub(crate) within: Vec<Option<Told>>,
-    pub(crate) places: HashMap<(PlaceSet, PlaceSet), Option<PlaceSet>>,
+    pub(crate) within: Vec<Option<Told<bool>>>,
+    pub(crate) places: Vec<Option<Told<Option<PlaceSet>>>>,
     pub(crate) sources: HashMap<(SourceSet, SourceSet), Option<SourceSet>>,
     pub(crate) atoms: HashMap<(AtomSet, AtomSet), Option<AtomSet>>,
 }
 
 impl Memo {
-    /// Tables that tell nothing yet, with room for the answers on so many ties.
+    /// Tables that tell nothing yet, with room for the answers on this count of ties.
     pub(crate) fn new(alloc: Global, ties: usize) -> Result<Memo, NoMemory>
         ensures { IfOk result (λ memo. (c : List Entry) → IsRight c memo) }
     {
         Ok(Memo {
             alloc,
-            within: blanks(alloc, ties.saturating_mul(ANSWERS_A_TIE).min(MOST))?,
-            places: HashMap::new(alloc),
+            within: blanks(alloc, ties.saturating_mul(ANSWERS_A_TIE).min(MOST_ANSWERS))?,
+            places: blanks(alloc, ties.min(MOST_COMMON))?,
             sources: HashMap::new(alloc),
             atoms: HashMap::new(alloc),
         })
     }
 
-    /// Keeps what was found for the pair of sets of places. Where there is no room for it, all such pairs are forgotten.
+    /// Keeps what was found for the pair of sets of places, in place of what stands in its slots.
     pub(crate) fn keep_places(&mut self, s: PlaceSet, t: PlaceSet, made: &Option<PlaceSet>)
         ensures { (c : List Entry) → IsRight c self.old → PlaceSetsMeet c s t made.now → IsRight c self.new }
     {
-        match put_places(&mut self.places, s, t, made) {
-            Ok(()) => {}
-            Err(NoMemory) => self.places = HashMap::new(self.alloc),
-        }
+        tell_places(self.places.as_mut_slice(), Told { s, t, told: *made });
     }
 
     /// Keeps what was found for the pair of sets of sources. Where there is no room for it, all such pairs are forgotten.
@@ -69,38 +69,6 @@ impl Memo {
             Ok(()) => {}
             Err(NoMemory) => self.atoms = HashMap::new(self.alloc),
         }
-    }
-}
-
-/// What was found for the pair.
-pub(crate) fn find_places(
-    table: &HashMap<(PlaceSet, PlaceSet), Option<PlaceSet>>,
-    s: PlaceSet,
-    t: PlaceSet,
-) -> Option<Option<PlaceSet>>
-    ensures { IfSome result (λ made. get pair_eq table.now (s, t) ≡ Some made) }
-{
-    match table.get(&(s, t)) {
-        Some(made) => Some(*made),
-        None => None,
-    }
-}
-
-/// Puts what was found for the pair, if the table does not have as many pairs as it may.
-fn put_places(
-    table: &mut HashMap<(PlaceSet, PlaceSet), Option<PlaceSet>>,
-    s: PlaceSet,
-    t: PlaceSet,
-    made: &Option<PlaceSet>,
-) -> Result<(), NoMemory>
-    ensures { OnOk result (Updates pair_eq table.old table.new (s, t) (Some made.now)) }
-{
-    if table.len() >= MOST {
-        return Err(NoMemory);
-    }
-    match table.insert((s, t), *made) {
-        Ok(_) => Ok(()),
-        Err(_) => Err(NoMemory),
     }
 }
 
@@ -127,7 +95,7 @@ fn put_sources(
 ) -> Result<(), NoMemory>
     ensures { OnOk result (Updates pair_eq table.old table.new (s, t) (Some made.now)) }
 {
-    if table.len() >= MOST {
+    if table.len() >= MOST_ANSWERS {
         return Err(NoMemory);
     }
     match table.insert((s, t), *made) {
@@ -159,7 +127,7 @@ fn put_atoms(
 ) -> Result<(), NoMemory>
     ensures { OnOk result (Updates pair_eq table.old table.new (s, t) (Some made.now)) }
 {
-    if table.len() >= MOST {
+    if table.len() >= MOST_ANSWERS {
         return Err(NoMemory);
     }
     match table.insert((s, t), *made) {

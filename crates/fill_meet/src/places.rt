@@ -10,7 +10,8 @@ ghost use Rattle.fill_arena.specs.WellMade.{ArePlaces};
 ghost use Rattle.fill_meet.specs.Memory.{IsRight};
 ghost use Rattle.fill_meet.specs.Sets.{IsWithin, PlaceSetsMeet};
 
-use crate::memo::{Memo, find_places};
+use crate::memo::Memo;
+use crate::tried::told_places;
 use crate::within::are_places_within;
 use fill_arena::{Arena, PlaceSet};
 use fill_text::{List, NoMemory};
@@ -36,7 +37,7 @@ pub(crate) fn meet_places(
         arena.keeps_made();
         return Ok(Some(s));
     }
-    if let Some(made) = find_places(&memo.places, s, t) {
+    if let Some(made) = told_places(memo.places.as_slice(), s, t) {
         return Ok(made);
     }
     let made = make_places(arena, memo, s, t)?;
@@ -44,10 +45,9 @@ pub(crate) fn meet_places(
     Ok(made)
 }
 
-/// What two different sets of places have in common, with no table for the pair.
+/// What two different sets of places have in common, found anew.
 ///
-/// Where the one set has only places of the other, it is what they have in common. An example more mostly leaves a set as
-/// it was.
+/// Where each place of the one set stands in the other, it is their common set. A further example mostly leaves a set as it was.
 fn make_places(
     arena: &mut Arena,
     memo: &mut Memo,

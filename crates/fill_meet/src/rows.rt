@@ -1,6 +1,6 @@
 //! The sets of a graph that may have an atom in common with a given one.
-ghost use Rattle.std.specs.Prelude.{◌≡◌, ◌≤◌, ◌<◌, ℕ, List, false, length, slice_get, IfOk, None, OnOk, Some};
-ghost use Rattle.fill_arena.specs.Contents.{EachIn, IsAtomSet};
+ghost use Rattle.std.specs.Prelude.{◌≡◌, ◌⊎◌, ◌≤◌, ◌<◌, ℕ, List, false, length, set, slice_get, IfOk, IfSome, None, OnOk, Some};
+ghost use Rattle.fill_arena.specs.Contents.{EachIn, In, IsAtomSet};
 ghost use Rattle.fill_arena.specs.WellMade.{IsAtomItem};
 ghost use Rattle.fill_arena.specs.declared.entry.Entry.{Entry};
 ghost use Rattle.fill_meet.specs.Index.{IsSomeIndex};
@@ -74,60 +74,91 @@ impl Search {
     }
 }
 
-/// For each set of the first graph its row, where that was found.
+/// The most rows that are kept.
+const MOST_ROWS: usize = 262_144;
+
+/// A set of the first graph, and its row.
+#[derive(Clone, Copy)]
+pub(crate) struct Known {
+    pub(crate) set: AtomSet,
+    pub(crate) row: Run,
+}
+
+/// Rows of sets of the first graph, each in the slot that its set's number tells. A row that gave way to another is found again.
 #[derive(Drop)]
 pub(crate) struct Rows {
-    pub(crate) known: Vec<Option<Run>>,
+    pub(crate) known: Vec<Option<Known>>,
     pub(crate) search: Search,
 }
 
 impl Rows {
-    /// No row is known yet of so many sets.
-    pub(crate) fn new(alloc: Global, index: &Index, count: usize) -> Result<Rows, NoMemory>
-        ensures rows { IfOk result (λ rows. (c : List Entry) (firsts : List ℕ) → AreRows c firsts index.now rows) }
-        ensures count { IfOk result (λ rows. length rows.known.items ≡ count) }
+    /// No row is known yet. There is a slot for each edge of the first graph, up to the most.
+    pub(crate) fn new(alloc: Global, index: &Index, edges: usize) -> Result<Rows, NoMemory>
+        ensures { IfOk result (λ rows. (c : List Entry) → AreRows c index.now rows) }
     {
         Ok(Rows {
-            known: no_runs(alloc, count)?,
+            known: no_rows(alloc, edges.min(MOST_ROWS))?,
             search: Search::new(alloc, index)?,
         })
     }
 
-    /// The row of the set of the number, found once.
+    /// The row of the set.
     pub(crate) fn row_of(
         &mut self,
         arena: &Arena,
         index: &Index,
-        firsts: &[AtomSet],
-        number: usize,
+        s: AtomSet,
     ) -> Result<Run, NoMemory>
         requires index { IsSomeIndex arena.now index.now }
-        requires sets { EachIn (IsAtomSet arena.now) firsts.now }
-        requires within { number < length firsts.now }
-        requires long { length self.old.known.items ≡ length firsts.now }
-        requires state { AreRows arena.now firsts.now index.now self.old }
-        ensures state { OnOk result (AreRows arena.now firsts.now index.now self.new) }
-        ensures long { OnOk result (length self.new.known.items ≡ length firsts.now) }
-        ensures row { IfOk result (λ run. (s : ℕ) → slice_get firsts.now number ≡ Some s → IsRow arena.now index.now.labels.sets.items self.new.search.found.rows.numbers.items s run) }
+        requires set { IsAtomSet arena.now s }
+        requires state { AreRows arena.now index.now self.old }
+        ensures state { OnOk result (AreRows arena.now index.now self.new) }
+        ensures row { IfOk result (IsRow arena.now index.now.labels.sets.items self.new.search.found.rows.numbers.items s) }
     {
-        if let Some(row) = self.known[number] {
+        if let Some(row) = told_row(self.known.as_slice(), s) {
             return Ok(row);
         }
-        let row = self.search.find_row(arena, index, firsts[number])?;
-        self.known[number] = Some(row);
+        let row = self.search.find_row(arena, index, s)?;
+        keep_row(self.known.as_mut_slice(), Known { set: s, row });
         Ok(row)
     }
 }
 
-/// So many places where no row is known.
+/// Slots without a row.
 #[tactic(auto, using(crate::proofs::Trials::each_same))]
-fn no_runs(alloc: Global, count: usize) -> Result<Vec<Option<Run>>, NoMemory>
-    ensures none { IfOk result (λ made. EachIn (λ r. r ≡ None) made.items) }
-    ensures count { IfOk result (λ made. length made.items ≡ count) }
+fn no_rows(alloc: Global, count: usize) -> Result<Vec<Option<Known>>, NoMemory>
+    ensures { IfOk result (λ made. EachIn (λ r. r ≡ None) made.items) }
 {
-    let none: Option<Run> = None;
+    let none: Option<Known> = None;
     let made = vec![in alloc; none; count]?;
     Ok(made)
+}
+
+/// The set's row, if its slot has that.
+fn told_row(known: &[Option<Known>], s: AtomSet) -> Option<Run>
+    ensures { IfSome result (λ row. In (Some (record { set = s; row = row })) known.now) }
+{
+    if known.len() == 0 {
+        return None;
+    }
+    let Some(told) = known[s.index() % known.len()] else {
+        return None;
+    };
+    if told.set != s {
+        return None;
+    }
+    Some(told.row)
+}
+
+/// Keeps a set's row in its slot, in place of what stands there.
+fn keep_row(known: &mut [Option<Known>], told: Known)
+    ensures { (known.new ≡ known.old) ⊎ ((at : ℕ) × (known.new ≡ set known.old at (Some told))) }
+{
+    if known.len() == 0 {
+        return;
+    }
+    let at = told.set.index() % known.len();
+    known[at] = Some(told);
 }
 
 /// Puts the sets that may have an atom in common with the item.

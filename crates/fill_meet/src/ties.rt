@@ -6,14 +6,12 @@ ghost use Rattle.fill_trim.specs.Trim.{AreEdges};
 ghost use Rattle.fill_meet.specs.Bits.{HasRoom, IsPlace};
 ghost use Rattle.fill_meet.specs.Groups.{AreGroups};
 ghost use Rattle.fill_meet.specs.Index.{IsIndex};
-ghost use Rattle.fill_meet.specs.Labels.{AreLabels};
 ghost use Rattle.fill_meet.specs.Product.{ArePairable};
 ghost use Rattle.fill_meet.specs.Rows.{AreRows};
 ghost use Rattle.fill_meet.specs.Ties.{AreMatesKept, AreOrdered, AreTies, IsInRow, IsInRowTo, IsPutTie, IsTried, NameSets, SweepState};
 
 use crate::bits::Bits;
 use crate::index::Index;
-use crate::labels::Labels;
 use crate::rows::Rows;
 use crate::runs::Run;
 use fill_arena::{Arena, AtomSet, Edge};
@@ -73,17 +71,16 @@ pub(crate) fn find_ties(
     ensures sets { IfOk result (λ net. NameSets arena.now net.sweep.ties) }
     ensures rows { IfOk result (λ net. AreMatesKept arena.now index.now net.rows) }
 {
-    let labels = Labels::new(alloc, graphs.xs)?;
     let mut reached = Bits::new(alloc, graphs.height, graphs.width)?;
     reached.put(0, 0);
     let sweep = Sweep {
         reached,
         ties: List::new(alloc),
     };
-    let rows = Rows::new(alloc, index, labels.sets.len())?;
+    let rows = Rows::new(alloc, index, graphs.xs.len())?;
     let mut net = Net { sweep, rows };
     for k in 0..graphs.xs.len() {
-        tie_edge(arena, index, graphs, &labels, k, &mut net)?;
+        tie_edge(arena, index, graphs, k, &mut net)?;
     }
     Ok(net)
 }
@@ -94,28 +91,23 @@ fn tie_edge(
     arena: &Arena,
     index: &Index,
     graphs: Graphs<'_>,
-    labels: &Labels,
     k: usize,
     net: &mut Net,
 ) -> Result<(), NoMemory>
     requires nodes { graphs.height * graphs.width < 2 ^ 64 }
     requires edges { ArePairable arena.now graphs.height graphs.width graphs.xs.now graphs.ys.now }
     requires index { IsIndex arena.now graphs.ys.now index.now }
-    requires labels { AreLabels graphs.xs.now labels.now }
-    requires sets { EachIn (IsAtomSet arena.now) labels.now.sets.items }
     requires within { k < length graphs.xs.now }
-    requires long { length net.old.rows.known.items ≡ length labels.now.sets.items }
-    requires rows { AreRows arena.now labels.now.sets.items index.now net.old.rows }
+    requires rows { AreRows arena.now index.now net.old.rows }
     requires state { SweepState arena.now graphs k (λ b. ⊥) net.old.sweep }
-    ensures long { OnOk result (length net.new.rows.known.items ≡ length labels.now.sets.items) }
-    ensures rows { OnOk result (AreRows arena.now labels.now.sets.items index.now net.new.rows) }
+    ensures rows { OnOk result (AreRows arena.now index.now net.new.rows) }
     ensures state { OnOk result (SweepState arena.now graphs.entry (k + 1) (λ b. ⊥) net.new.sweep) }
 {
-    if !net.sweep.reached.has_some(graphs.xs[k].from) {
+    let edge = graphs.xs[k];
+    if !net.sweep.reached.has_some(edge.from) {
         return Ok(());
     }
-    let firsts = labels.sets.as_slice();
-    let row = net.rows.row_of(arena, index, firsts, labels.of[k])?;
+    let row = net.rows.row_of(arena, index, edge.atoms)?;
     let numbers = net.rows.search.found.rows.numbers.as_slice();
     tie_row(index, graphs, k, numbers, row, &mut net.sweep)
 }
@@ -212,7 +204,7 @@ pub(crate) fn tie_reached(
     Ok(())
 }
 
-/// The number of a pair of nodes in 32 bits. Where it needs more, there is no memory for so many pairs.
+/// The number of a pair of nodes in 32 bits. A graph that needs more is out of memory.
 fn pair_number(pair: usize) -> Result<u32, NoMemory>
     ensures { IfOk result (λ number. number ≡ pair) }
 {

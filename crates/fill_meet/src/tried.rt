@@ -12,15 +12,15 @@ use std::alloc::Global;
 use std::collections::HashMap;
 
 /// The most answers that a table keeps. It is even, because the two slots of a pair are neighbours.
-pub(crate) const MOST: usize = 262_144;
+pub(crate) const MOST_ANSWERS: usize = 262_144;
 
-/// What was told of a pair of sets of places: whether they may have something in common, or, in a table of its own, whether
-/// each place of the first one stands in the second one.
+/// An answer on a pair of sets of places. One table tells whether the two may have a place in common, one whether each place of
+/// the first stands in the second, and one what their common set is.
 #[derive(Clone, Copy)]
-pub(crate) struct Told {
+pub(crate) struct Told<T> {
     pub(crate) s: PlaceSet,
     pub(crate) t: PlaceSet,
-    pub(crate) may: bool,
+    pub(crate) told: T,
 }
 
 /// For pairs of sets that were tried, whether they may have something in common.
@@ -29,18 +29,18 @@ pub(crate) struct Told {
 #[derive(Drop)]
 pub(crate) struct Tried {
     pub(crate) alloc: Global,
-    pub(crate) places: Vec<Option<Told>>,
+    pub(crate) places: Vec<Option<Told<bool>>>,
     pub(crate) sources: HashMap<(SourceSet, SourceSet), bool>,
 }
 
 impl Tried {
-    /// Tables that tell nothing yet, with room for answers on so many pairs of sets of places.
+    /// Tables that tell nothing yet, with room for answers on this count of pairs of sets of places.
     pub(crate) fn new(alloc: Global, pairs: usize) -> Result<Tried, NoMemory>
         ensures { IfOk result (λ tried. (c : List Entry) → AreTried c tried) }
     {
         Ok(Tried {
             alloc,
-            places: blanks(alloc, pairs.min(MOST))?,
+            places: blanks(alloc, pairs.min(MOST_ANSWERS))?,
             sources: HashMap::new(alloc),
         })
     }
@@ -56,19 +56,19 @@ impl Tried {
     }
 }
 
-/// So many places where nothing was told yet.
+/// Slots where nothing was told yet.
 #[tactic(auto, using(crate::proofs::Trials::each_same))]
-pub(crate) fn blanks(alloc: Global, count: usize) -> Result<Vec<Option<Told>>, NoMemory>
+pub(crate) fn blanks<T: Copy>(alloc: Global, count: usize) -> Result<Vec<Option<Told<T>>>, NoMemory>
     ensures { IfOk result (λ made. EachIn (λ r. r ≡ None) made.items) }
 {
-    let none: Option<Told> = None;
+    let none: Option<Told<T>> = None;
     let made = vec![in alloc; none; count]?;
     Ok(made)
 }
 
 /// What was last told at the place, if it was of this pair.
-pub(crate) fn recall(recent: &[Option<Told>], at: usize, s: PlaceSet, t: PlaceSet) -> Option<bool>
-    ensures { IfSome result (λ may. In (Some (record { s = s; t = t; may = may })) recent.now) }
+fn recall<T: Copy>(recent: &[Option<Told<T>>], at: usize, s: PlaceSet, t: PlaceSet) -> Option<T>
+    ensures { IfSome result (λ told. In (Some (record { s = s; t = t; told = told })) recent.now) }
 {
     if at >= recent.len() {
         return None;
@@ -82,11 +82,11 @@ pub(crate) fn recall(recent: &[Option<Told>], at: usize, s: PlaceSet, t: PlaceSe
     if told.t != t {
         return None;
     }
-    Some(told.may)
+    Some(told.told)
 }
 
 /// Keeps what was told at the place, if there is one.
-pub(crate) fn keep(recent: &mut [Option<Told>], at: usize, told: Told)
+fn keep<T: Copy>(recent: &mut [Option<Told<T>>], at: usize, told: Told<T>)
     ensures { (recent.new ≡ recent.old) ⊎ (recent.new ≡ set recent.old at (Some told)) }
 {
     if at < recent.len() {
@@ -103,19 +103,23 @@ fn slot_of(s: PlaceSet, t: PlaceSet, length: usize) -> usize {
 }
 
 /// What was told of the pair, if no other one took its slots.
-pub(crate) fn told_places(places: &[Option<Told>], s: PlaceSet, t: PlaceSet) -> Option<bool>
-    ensures { IfSome result (λ may. In (Some (record { s = s; t = t; may = may })) places.now) }
+pub(crate) fn told_places<T: Copy>(
+    places: &[Option<Told<T>>],
+    s: PlaceSet,
+    t: PlaceSet,
+) -> Option<T>
+    ensures { IfSome result (λ told. In (Some (record { s = s; t = t; told = told })) places.now) }
 {
     let first = slot_of(s, t, places.len());
-    if let Some(may) = recall(places, first, s, t) {
-        return Some(may);
+    if let Some(told) = recall(places, first, s, t) {
+        return Some(told);
     }
     recall(places, first ^ 1, s, t)
 }
 
 /// Keeps what was told of a pair: in the first of its slots if that is free, and else in the second one, in place of what
 /// stands there.
-pub(crate) fn tell_places(places: &mut [Option<Told>], told: Told)
+pub(crate) fn tell_places<T: Copy>(places: &mut [Option<Told<T>>], told: Told<T>)
     ensures { (places.new ≡ places.old) ⊎ ((at : ℕ) × (places.new ≡ set places.old at (Some told))) }
 {
     let first = slot_of(told.s, told.t, places.len());
@@ -127,7 +131,7 @@ pub(crate) fn tell_places(places: &mut [Option<Told>], told: Told)
 }
 
 /// Whether nothing was kept at the place.
-fn is_free(places: &[Option<Told>], at: usize) -> bool {
+fn is_free<T: Copy>(places: &[Option<Told<T>>], at: usize) -> bool {
     at < places.len() && places[at].is_none()
 }
 
@@ -154,7 +158,7 @@ fn tell_sources(
 ) -> Result<(), NoMemory>
     ensures { OnOk result (Updates pair_eq table.old table.new (s, t) (Some may)) }
 {
-    if table.len() >= MOST {
+    if table.len() >= MOST_ANSWERS {
         return Err(NoMemory);
     }
     match table.insert((s, t), may) {

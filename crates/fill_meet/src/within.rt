@@ -89,6 +89,6 @@ pub(crate) fn are_places_within(arena: &Arena, memo: &mut Memo, s: PlaceSet, t: 
         return within;
     }
     let within = is_within(arena, s, t);
-    tell_places(memo.within.as_mut_slice(), Told { s, t, may: within });
+    tell_places(memo.within.as_mut_slice(), Told { s, t, told: within });
     within
 }

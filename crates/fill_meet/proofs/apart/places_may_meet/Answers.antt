@@ -1,4 +1,4 @@
-use Rattle.std.proofs.Common.{◌≡◌, Some, slice_get, sym, ◌∙◌, subst}
+use Rattle.std.proofs.Common.{◌≡◌, Bool, Some, slice_get, sym, ◌∙◌, subst}
 use Rattle.std.proofs.lemmas.Bool.{false≢true}
 use Rattle.fill_arena.specs.Contents.{EachIn}
 use Rattle.fill_arena.specs.declared.entry.Entry.TheVariants.{Places}
@@ -9,7 +9,7 @@ use Rattle.fill_meet.proofs.apart.places_may_meet.Goals as goal
 
 pub returns-in-Some-clause-apart : goal.returns-in-Some-clause-apart
 returns-in-Some-clause-apart c =
-    let told : Told = record { s = c.args.s; t = c.args.t; may = c.in-Some.may } in
+    let told : Told Bool = record { s = c.args.s; t = c.args.t; told = c.in-Some.may } in
     let there = c.in-Some.ensures in
     c.requires.tried.places there.0 (Some told) (subst (λ l. slice_get l there.0 ≡ Some (Some told)) c.as_slice.ensures.value there.1)
 
@@ -21,7 +21,7 @@ share_place-may-requires-clause-second c = c.keeps_made.ensures c.args.t (Places
 
 pub returns-clause-tried : goal.returns-clause-tried
 returns-clause-tried c =
-    let told : Told = record { s = c.args.s; t = c.args.t; may = c.share_place-may.result } in
+    let told : Told Bool = record { s = c.args.s; t = c.args.t; told = c.share_place-may.result } in
     let tried = c.requires.tried in
     let apart : PlacesTried c.args.arena.now c.args.s c.args.t c.share_place-may.result =
     λ e. places_unshared c.args.arena.now c.args.s c.args.t _ _ c.places.ensures c.places-2.ensures (λ s. false≢true (sym e ∙ c.share_place-may.ensures.1 s)) in

@@ -1,6 +1,4 @@
 use Rattle.std.proofs.Common.{arith}
-use Rattle.fill_arena.specs.Contents.{IsAtomSet}
-use Rattle.fill_meet.proofs.LabelLaws.{labels_sets}
 use Rattle.fill_meet.proofs.Sweeps.{swept_ordered, swept_sets, swept_start, swept_ties}
 use Rattle.fill_meet.proofs.WalksOn.{both_some}
 use Rattle.fill_meet.proofs.Words.{place, room_stays}
@@ -17,16 +15,12 @@ loop-k-init c =
     let g = c.args.graphs in
     let edges = c.requires.edges in
     record {
-      long = (let a = c.in_ok-rows.ensures.count in let b = c.len.ensures in omega arith);
-      rows = c.in_ok-rows.ensures.rows c.args.arena.now c.in_ok-labels.labels.sets.items;
+      rows = c.in_ok-rows.ensures c.args.arena.now;
       state = record {
         room = room_stays g.height g.width 0 0 c.in_ok-reached.reached c.put.new.self c.put.ensures c.in_ok-reached.ensures.room;
-        swept = swept_start g.xs.now g.ys.now g.height g.width edges.first edges.second c.args.arena.now c.put.new.self c.new-3.result c.new-3.ensures c.put.ensures.here;
+        swept = swept_start g.xs.now g.ys.now g.height g.width edges.first edges.second c.args.arena.now c.put.new.self c.new-2.result c.new-2.ensures c.put.ensures.here;
       };
     }
-
-pub tie_edge-requires-clause-sets : goal.tie_edge-requires-clause-sets
-tie_edge-requires-clause-sets c = labels_sets (IsAtomSet c.args.arena.now) c.args.graphs.xs.now c.in_ok-labels.labels c.in_ok-labels.ensures c.requires.edges.left
 
 pub returns-clause-ties : goal.returns-clause-ties
 returns-clause-ties c =

@@ -1,4 +1,4 @@
-use Rattle.std.proofs.Common.{◌≡◌, Some, slice_get, sym, ◌∙◌, subst}
+use Rattle.std.proofs.Common.{◌≡◌, Bool, Some, slice_get, sym, ◌∙◌, subst}
 use Rattle.fill_arena.specs.Contents.{EachIn}
 use Rattle.fill_meet.specs.Memory.{WithinTold}
 use Rattle.fill_meet.specs.declared.tried.Told.{Told}
@@ -11,13 +11,13 @@ returns-then-eq-clause-within c = λ e. places_self c.args.arena.now c.keeps_mad
 
 pub returns-in-Some-clause-within : goal.returns-in-Some-clause-within
 returns-in-Some-clause-within c =
-    let told : Told = record { s = c.args.s; t = c.args.t; may = c.in-Some.within } in
+    let told : Told Bool = record { s = c.args.s; t = c.args.t; told = c.in-Some.within } in
     let there = c.in-Some.ensures in
     c.requires.memo.within there.0 (Some told) (subst (λ l. slice_get l there.0 ≡ Some (Some told)) c.as_slice.ensures.value there.1)
 
 pub returns-clause-memo : goal.returns-clause-memo
 returns-clause-memo c =
-    let told : Told = record { s = c.args.s; t = c.args.t; may = c.is_within-within.result } in
+    let told : Told Bool = record { s = c.args.s; t = c.args.t; told = c.is_within-within.result } in
     let right = c.requires.memo in
     let old = subst (EachIn (WithinTold c.args.arena.now)) (sym c.as_mut_slice.ensures.value) right.within in
     record {

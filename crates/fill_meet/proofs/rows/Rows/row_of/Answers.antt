@@ -1,27 +1,28 @@
-use Rattle.std.proofs.Common.{refl, subst}
-use Rattle.fill_meet.specs.Rows.{IsRow}
-use Rattle.fill_meet.proofs.Lists.{here, same_value}
-use Rattle.fill_meet.proofs.RowLaws.{rows_put}
+use Rattle.std.proofs.Common.{◌≡◌, Some, slice_get, sym, subst}
+use Rattle.fill_arena.specs.Contents.{EachIn}
+use Rattle.fill_meet.specs.Rows.{IsRowTold}
+use Rattle.fill_meet.specs.declared.rows.Known.{Known}
+use Rattle.fill_meet.proofs.RowLaws.{told_grown}
+use Rattle.fill_meet.proofs.Trials.{each_lent, kept_somewhere}
 use Rattle.fill_meet.proofs.rows.Rows.row_of.Goals as goal
+
+pub returns-in-Some-clause-row : goal.returns-in-Some-clause-row
+returns-in-Some-clause-row c =
+    let told : Known = record { set = c.args.s; row = c.in-Some.row } in
+    let there = c.in-Some.ensures in
+    c.requires.state.known there.0 (Some told) (subst (λ l. slice_get l there.0 ≡ Some (Some told)) c.as_slice.ensures.value there.1)
 
 pub returns-clause-state : goal.returns-clause-state
 returns-clause-state c =
-    let firsts = c.args.firsts.now in
-    let known = c.args.self.now.known.items in
-    let s = c.index-firsts-number.result in
-    let hs = here firsts c.args.number s c.requires.within c.index-firsts-number.is in
-    let old = c.args.self.now.search.found.rows.numbers.items in
+    let arena = c.args.arena.now in
+    let labels = c.args.index.now.labels.sets.items in
     let new = c.find_row.new.self.found.rows.numbers.items in
+    let told : Known = record { set = c.args.s; row = c.in_ok-row.row } in
     let found = c.in_ok-row.ensures in
+    let grown : EachIn (IsRowTold arena labels new) c.args.self.now.known.items = λ k r at. told_grown arena labels _ new found.grown r (c.requires.state.known k r at) in
+    let old = subst (EachIn (IsRowTold arena labels new)) (sym c.as_mut_slice.ensures.value) grown in
     record {
       search = found.state;
-      known = rows_put c.args.arena.now c.args.index.now.labels.sets.items firsts old new known c.args.number s c.in_ok-row.row hs found.grown found.row (λ k t run. c.requires.state.known k t run);
+      known = each_lent (IsRowTold arena labels new) _ _ c.keep_row.new.known _
+          (kept_somewhere (IsRowTold arena labels new) c.as_mut_slice.result.now c.keep_row.new.known (Some told) c.keep_row.ensures found.row old) grown;
     }
-
-pub returns-clause-row : goal.returns-clause-row
-returns-clause-row c = λ t ht.
-    let firsts = c.args.firsts.now in
-    let s = c.index-firsts-number.result in
-    let hs = here firsts c.args.number s c.requires.within c.index-firsts-number.is in
-    let new = c.find_row.new.self.found.rows.numbers.items in
-    subst (λ n. IsRow c.args.arena.now c.args.index.now.labels.sets.items new n c.in_ok-row.row) (same_value firsts c.args.number c.args.number s t refl hs ht) c.in_ok-row.ensures.row
