@@ -5,7 +5,7 @@ use Rattle.std.proofs.lemmas.List.Elements.{All-cons, All-head, All-nil, All-tai
 use Rattle.fill_split.proofs.Zips.{zip_append}
 
 module _ {X Y : Type 0} (R : X → Y → Type 0) where
-  -- what is so of each item of the one list is so of each of the other
+  -- a property of all items of the one list passes to all items of the other
   pub zip_all : (P : X → Type 0) (Q : Y → Type 0) → ((x : X) (y : Y) → R x y → P x → Q y) → (xs : List X) (ys : List Y) → AllZip R xs ys → All P xs → All Q ys
   zip_all P Q f [] [] z all = All-nil Q
   zip_all P Q f [] (y ∷ ys) z all = absurd z

@@ -122,7 +122,7 @@ first_stops records i x (Ok fields) halt.NoMemory old mid new h e a l = (i, subs
 first_stops records i x (Err e) halt.Fault old mid new h t a l = absurd l
 first_stops records i x (Err e) halt.NoMemory old mid new h t a l = (i, subst (λ (o : Option (List ℕ)). Appends old o (report_text (take i records))) (sym l) a)
 
--- the records of so many first rows were written
+-- the records of the first n rows were written
 abbrev pub RowsWritten : Ground → List Example → ℕ → Option (List ℕ) → Option (List ℕ) → Type 0
 RowsWritten g examples n old now = (records : List Fields) × AreRowRecords g examples n records × Appends old now (report_text records)
 

@@ -23,7 +23,7 @@ pub record IsWithin (c : Counts) (n : ℕ) : Type 0 where
   pub nothing : c.nothing ≤ n
   pub nothing_in_doubt : c.nothing_in_doubt ≤ n
 
--- these are the numbers of the states of so many first rows
+-- these are the numbers of the states of the first n rows
 abbrev pub CountRows : Ground → List Example → ℕ → Counts → Type 0
 CountRows g examples n c = (states : List RowState) × AreRowStates g examples n states × AreCounts c states
 

@@ -96,11 +96,11 @@ QueryWrites g examples (query.Answer row) w = RowWrites g.sheet (codes "answer")
 QueryWrites g examples (query.Object row) w = RowWrites g.sheet (codes "object") row (IsObjectRecord g examples row) w
 QueryWrites g examples (query.Best branch k) w = BestWrites g examples branch k w
 
--- the records of so many first rows
+-- the records of some first rows
 abbrev pub FillBegins : Ground → List Example → Written → Type 0
 FillBegins g examples w = (n : ℕ) × (records : List Fields) × (n ≤ length g.sheet.rows) × AreRowRecords g examples n records × (w ≡ told records)
 
--- where these examples are present, the question begins to write so: it writes first rows, or none or so many first ones of
+-- where these examples are present, this is the beginning of what the question writes: records of first rows, or none or the first ones of
 -- all its records
 abbrev pub QueryBegins : Ground → List Example → Query → Written → Type 0
 QueryBegins g examples query.Fill w = FillBegins g examples w

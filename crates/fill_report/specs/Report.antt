@@ -21,7 +21,7 @@ addition row (Some text) = entry.Edit (Add row text) ∷ []
 abbrev pub addition_at : SheetData → ℕ → List Entry
 addition_at sheet row = addition row (given_at sheet row)
 
--- the additions of the given texts of so many first rows, in order
+-- the additions of the given texts of the first n rows, in order
 abbrev pub additions : SheetData → ℕ → List Entry
 additions sheet n = flat_map (addition_at sheet) (range_with_len 1 n)
 

@@ -44,11 +44,11 @@ IsRowRecord g examples row fields = (a : Answer) × AnswerIs g examples row a ×
 abbrev pub IsRowState : Ground → List Example → ℕ → RowState → Type 0
 IsRowState g examples row s = (a : Answer) × AnswerIs g examples row a × (s ≡ row_state a)
 
--- the records of so many first rows, in order
+-- the records of the first n rows, in order
 abbrev pub AreRowRecords : Ground → List Example → ℕ → List Fields → Type 0
 AreRowRecords g examples n records = AllZip (IsRowRecord g examples) (range_with_len 1 n) records
 
--- the states of so many first rows, in order
+-- the states of the first n rows, in order
 abbrev pub AreRowStates : Ground → List Example → ℕ → List RowState → Type 0
 AreRowStates g examples n states = AllZip (IsRowState g examples) (range_with_len 1 n) states
 

@@ -21,7 +21,7 @@ followed w more = record { records = w.records ++ more.records; refused = w.refu
 abbrev pub first_of : ℕ → Written → Written
 first_of n w = record { records = take n w.records; refused = 0; term = w.term }
 
--- nothing is written of what is so, or so many first records of it
+-- nothing is written, or the first records, some or all, of a writing of this kind
 abbrev pub FirstOf : (Written → Type 0) → Written → Written → Type 0
 FirstOf Kind none w = (w ≡ none) ⊎ ((whole : Written) × (n : ℕ) × Kind whole × (w ≡ first_of n whole))
 

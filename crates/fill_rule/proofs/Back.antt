@@ -58,7 +58,7 @@ line_read : (line : List (List ℕ)) (rest : List ℕ) → IsLine line → next_
 unfolding record_text
 line_read line rest is = read-write line rest ∙ ap (λ (l : List (List ℕ)). Some (l, st.StartRecord, rest)) (same_back line is)
 
--- so many reads of the text of lines give them
+-- enough reads of the text of lines give the lines back
 lines_read : (lines : List (List (List ℕ))) (reads : ℕ) → All IsLine lines → length (flat_map record_text lines) < reads → records_from default_config reads st.StartRecord (flat_map record_text lines) ≡ lines
 unfolding records_from
 lines_read [] reads are lt = none_left reads
