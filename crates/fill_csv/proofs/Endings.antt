@@ -24,7 +24,7 @@ told_all (Some held) P f = f held
 refused_unread : (line name : List ℕ) → (let x : Opened (List ℕ) SheetRead = Refused line in x ≡ Unread name) → ⊥
 refused_unread line name e = cc
 
-passed_unread : (x : SheetRead) (name : List ℕ) → Passed x ≡ Unread name → ⊥
+passed_unread : (x : SheetRead) (name : List ℕ) → (let o : Opened (List ℕ) SheetRead = Passed x in o ≡ Unread name) → ⊥
 passed_unread x name e = cc
 
 passed_refused : (x : SheetRead) (line : List ℕ) → Passed x ≡ Refused line → ⊥
