@@ -26,11 +26,11 @@ AreTold c met = AreRight (IsTold c) met.table
 pub record AreReplaced {S : Type 0} (old new : List ℕ) (copies : HashMap ℕ ℕ S) : Type 0 where
   pub each : (k n : ℕ) → get nat_eq copies k ≡ Some n → (i : ℕ) × (slice_get old i ≡ Some k) × (slice_get new i ≡ Some n)
 
--- the first number's graph has the second one now
+-- the graph of the first number has the second one now: after a copy the one that the table gives, after a cut its own, if it came before the mark
 abbrev pub IsRenamed : Renaming → ℕ → ℕ → Type 0
 IsRenamed (Copied copies) k n = get nat_eq copies k ≡ Some n
 IsRenamed (Cut mark) k n = (n ≡ k) × (k < mark)
 
--- each graph that has a new number is a graph of the second arena under it, in which the same programs stand
+-- each graph of the first arena that has a number now is a graph of the second one under it, in which the same programs stand
 pub record AreRenamed (c d : List Entry) (r : Renaming) : Type 0 where
   pub each : (k n : ℕ) → IsGraph c k → IsRenamed r k n → IsGraph d n × ((p : Atoms) → ProgramStands d n p ↔ ProgramStands c k p)

@@ -50,11 +50,7 @@ fn find_weight(table: &HashMap<GraphId, u64>, graph: GraphId) -> Option<u64>
     }
 }
 
-fn put_weight(
-    table: &mut HashMap<GraphId, u64>,
-    graph: GraphId,
-    cost: u64,
-) -> Result<(), NoMemory>
+fn put_weight(table: &mut HashMap<GraphId, u64>, graph: GraphId, cost: u64) -> Result<(), NoMemory>
     ensures { OnOk result (Updates nat_eq table.old table.new graph (Some cost)) }
 {
     match table.insert(graph, cost) {
