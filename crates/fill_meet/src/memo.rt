@@ -14,6 +14,9 @@ use std::collections::HashMap;
 /// How many answers on what stands within another set are kept for each tie.
 const ANSWERS_A_TIE: usize = 2;
 
+/// The most answers on what stands within another set. It is even, as `MOST_ANSWERS` is.
+const MOST_WITHIN: usize = 131_072;
+
 /// The most pairs of sets of places whose common sets are kept. It is even, as `MOST_ANSWERS` is.
 const MOST_COMMON: usize = 65_536;
 
@@ -37,7 +40,7 @@ impl Memo {
     {
         Ok(Memo {
             alloc,
-            within: blanks(alloc, ties.saturating_mul(ANSWERS_A_TIE).min(MOST_ANSWERS))?,
+            within: blanks(alloc, ties.saturating_mul(ANSWERS_A_TIE).min(MOST_WITHIN))?,
             places: blanks(alloc, ties.min(MOST_COMMON))?,
             sources: HashMap::new(alloc),
             atoms: HashMap::new(alloc),

@@ -1,4 +1,4 @@
-use Rattle.std.proofs.Common.{◌≡◌, ◌*◌, ◌<◌, Some, slice_get, sym, subst}
+use Rattle.std.proofs.Common.{◌≡◌, ◌*◌, ◌<◌, sym, subst}
 use Rattle.fill_meet.proofs.Meets.{graph_is, are_pairable, some_nodes, walked_result}
 use Rattle.fill_meet.specs.Product.{IsProduct}
 use Rattle.fill_meet.specs.Ties.{AreOrdered}

@@ -1,4 +1,4 @@
-use Rattle.std.proofs.Common.{◌<◌, length, Some, refl, sym, ap, ◌∙◌, subst, arith}
+use Rattle.std.proofs.Common.{◌<◌, length, Some, refl, rules, sym, ap, ◌∙◌, subst, arith}
 use Rattle.std.proofs.lemmas.Bool.{false≢true}
 use Rattle.fill_arena.specs.Contents.{SomeIn, EachIn}
 use Rattle.fill_arena.specs.WellMade.{IsAtomItem}
@@ -6,6 +6,7 @@ use Rattle.fill_arena.specs.declared.entry.Entry.TheVariants.{Sources, Atoms}
 use Rattle.fill_arena.specs.declared.entry.SourceItem.TheVariants.{Col}
 use Rattle.fill_arena.specs.declared.entry.SelectItem.{SelectItem}
 use Rattle.fill_arena.proofs.Lists.{extends_same, extends_on}
+use Rattle.fill_meet.specs.Memory.{IsRight}
 use Rattle.fill_meet.specs.Sets.{AtomIn, SourceIn, NamesOlder, AtomSetsMeet, SourceSetsMeet, RowsMeet, IsFilled, NamesAtoms}
 use Rattle.fill_meet.proofs.Lists.{here, length_pushed, extends_length}
 use Rattle.fill_meet.proofs.Grows.{places_within, sources_within, atom_item_stays, source_item_stays, conditions_stay, names_older, met_stay}
@@ -159,6 +160,13 @@ meet_atoms-returns-clause-memo n c = c.keep_atoms.ensures c.make_atoms.new.arena
 
 pub meet_condition-returns-clause-met : goal.meet_condition-returns-clause-met
 meet_condition-returns-clause-met n c = condition_met _ _ _ _ c.in_ok-constant.ensures c.in_ok-atoms.ensures.met
+
+pub meet_conditions-meet_condition-requires : goal.meet_conditions-meet_condition-requires
+meet_conditions-meet_condition-requires n c =
+    let memo : IsRight c.loop-i.arena c.loop-i.memo = c.loop-i.invariant.memo in
+    let first = c.loop-i.invariant.first c.loop-i.i c.index-xs-i.result (here _ _ _ c.loop-i-test.true c.index-xs-i.is) in
+    let second = c.loop-i.invariant.second c.loop-i.i c.index-ys-i.result (here _ _ _ (subst (λ m. c.loop-i.i < m) c.requires.long c.loop-i-test.true) c.index-ys-i.is) in
+    (search rules, (memo, (first, (length c.loop-i.arena, second))))
 
 pub meet_conditions-loop-i-preserved : goal.meet_conditions-loop-i-preserved
 meet_conditions-loop-i-preserved n c =
