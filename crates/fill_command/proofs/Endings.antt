@@ -1,6 +1,6 @@
 -- How the run of a command ends, and what that says of its status.
 use Rattle.std.proofs.Common.{◌≡◌, ◌∙◌, ◌≤◌, ◌⊎◌, ℕ, List, [], inl, inr, Option, None, Some, Bool, false, true, Result, Ok, Err, Contains, ap, arith, refl, subst, sym}
-use Rattle.std.specs.Prelude.{◌↔◌, IfOk, IsErrOf, IsTrue, string_bytes}
+use Rattle.std.specs.Prelude.{◌↔◌, encode_utf8_all, IfOk, IsErrOf, IsTrue, string_bytes}
 use Rattle.fill_edge.specs.Outside.{Files, Rose}
 use Rattle.fill_open.specs.Command.{CommandData, made}
 use Rattle.fill_open.specs.Opened.{Held, Told, Opened, Opening, Passed, Refused, Unread, further}
@@ -107,7 +107,7 @@ reads_no_more rest (Refused why) none = refl
 reads_no_more rest (Passed x) none = none x
 
 made_reads : (n : ℕ) → (made_opens n).reads ≡ []
-made_reads n = reads_no_more _ (script_in made_name made_session) (λ script. reads_no_more _ (sheet_in script (made_sheet n)) (λ sheet. refl))
+made_reads n = reads_no_more _ (script_in made_name made_session) (λ script. reads_no_more _ (sheet_in script script.output (encode_utf8_all script.sheet) (made_sheet n)) (λ sheet. refl))
 
 none_contained : (names : List (List ℕ)) (name : List ℕ) → names ≡ [] → Contains names name → ⊥
 none_contained names name none c = let here = rw none at c in omega (arith, here.1)

@@ -1,5 +1,5 @@
 -- How the filling of a sheet ends.
-use Rattle.std.proofs.Common.{◌≡◌, ◌≢◌, ◌∙◌, ◌≤◌, ℕ, List, ◌⊎◌, inl, inr, Option, None, Some, false, true, arith, sym, subst}
+use Rattle.std.proofs.Common.{◌≡◌, ◌∙◌, ◌≤◌, ℕ, List, ◌⊎◌, inl, inr, Option, None, Some, false, true, arith, sym, subst}
 use Rattle.std.specs.Prelude.{string_bytes}
 use Rattle.std.specs.Io.KnownBytes.{Keeps}
 use Rattle.fill_edge.specs.Outside.{Files}
@@ -14,7 +14,7 @@ use Rattle.fill_csv.specs.Asking.{Heard}
 use Rattle.fill_csv.specs.Ends.{EndsFilled, FailsToSave, Opens, WritesFilled, WritesFilledPart, WritesFilledRows}
 use Rattle.fill_csv.specs.Lines.{output_line, unread_line}
 use Rattle.fill_csv.specs.Opening.{SheetRead, sheet_opens}
-use Rattle.fill_csv.specs.Said.{status_of, stop_line}
+use Rattle.fill_csv.specs.Said.{Tells}
 use Rattle.fill_csv.specs.Saved.{StoreAt}
 
 told_all : (files : Files) (P : Held → Type 0) → ((held : Held) → P held) → Told files P
@@ -104,12 +104,12 @@ module _ (asked : AskedData) (files : Files) (input : Heard) (before now : Count
   }
 
   -- the steps stopped
-  pub stopped_ends : (why : Stop (List ℕ)) → Stops (sheet_opens asked) files before now why → kept.files ≡ held.files → Keeps old new
-      → (r ≢ 6 → (r ≡ status_of why) × Said (stop_line why)) → (r ≡ 6 → Said memory_line) → (r ≡ status_of why) ⊎ (r ≡ 6) → Ending
-  stopped_ends why stops same keeps said out (inr six) = memory_ends six same (inl keeps) (out six)
-  stopped_ends (stop.Unread name) stops same keeps said out (inl three) = unread_ends three same keeps (string_bytes name) stops (said (λ e. absurd (omega arith))).1
-  stopped_ends (stop.Refused line) stops same keeps said out (inl five) = refused_ends five same keeps line stops (said (λ e. absurd (omega arith))).1
-  stopped_ends stop.NoMemory stops same keeps said out (inl six) = memory_ends six same (inl keeps) (out six)
+  pub stopped_ends : (why : Stop (List ℕ)) (Written : List ℕ → Type 0) → ((line : List ℕ) → Written line → Said line) → Stops (sheet_opens asked) files before now why → kept.files ≡ held.files → Keeps old new
+      → Tells why r Written → Ending
+  stopped_ends (stop.Unread name) Written says stops same keeps (inl told) = unread_ends told.0 same keeps (string_bytes name) stops (says _ told.1)
+  stopped_ends (stop.Unread name) Written says stops same keeps (inr told) = memory_ends told.0 same (inl keeps) (says _ told.1)
+  stopped_ends (stop.Refused line) Written says stops same keeps told = refused_ends told.0 same keeps line stops (says _ told.1)
+  stopped_ends stop.NoMemory Written says stops same keeps told = memory_ends told.0 same (inl keeps) (says _ told.1)
 
   -- all was written, and nothing is left to do
   pub done_ends : r ≡ 0 → WritesFilled false asked files input old new held.files kept.files → Ending

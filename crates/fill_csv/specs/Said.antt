@@ -7,17 +7,11 @@ use Rattle.fill_open.specs.declared.stop.Stop.TheVariants as stop
 use Rattle.fill_lookups.specs.Lines.{memory_line}
 use Rattle.fill_csv.specs.Lines.{unread_line, unsaved_line}
 
--- the status of a stop
-abbrev pub status_of : Stop (List ℕ) → ℕ
-status_of (stop.Unread name) = 3
-status_of (stop.Refused line) = 5
-status_of stop.NoMemory = 6
-
--- the line of a stop
-abbrev pub stop_line : Stop (List ℕ) → List ℕ
-stop_line (stop.Unread name) = unread_line (string_bytes name)
-stop_line (stop.Refused line) = line
-stop_line stop.NoMemory = memory_line
+-- the status that tells of a stop, and its line; there may be no memory for the line of a file that could not be read
+abbrev pub Tells : Stop (List ℕ) → ℕ → (List ℕ → Type 0) → Type 0
+Tells (stop.Unread name) status Said = ((status ≡ 3) × Said (unread_line (string_bytes name))) ⊎ ((status ≡ 6) × Said memory_line)
+Tells (stop.Refused line) status Said = (status ≡ 5) × Said line
+Tells stop.NoMemory status Said = (status ≡ 6) × Said memory_line
 
 -- the line was written, or a proper prefix of it where a write failed
 abbrev pub Says : Option (List ℕ) → Option (List ℕ) → ℕ → ℕ → List ℕ → Type 0

@@ -1,7 +1,5 @@
 //! Why there is no filled sheet, told on `err`.
-ghost use Rattle.std.specs.Prelude.{◌≡◌, ◌≢◌, ◌⊎◌, IfOk, string_bytes};
-ghost use Rattle.fill_csv.specs.Said.{Says, status_of, stop_line};
-ghost use Rattle.fill_lookups.specs.Lines.{memory_line};
+ghost use Rattle.fill_csv.specs.Said.{Says, Tells};
 
 use crate::lines::unread_line;
 use fill_edge::{Sink, write_all};
@@ -21,39 +19,27 @@ pub fn say<E: Sink>(err: &mut E, line: &[u8])
     let _ = write_all(err, line);
 }
 
-fn status_of(stop: &Stop<Line>) -> u8
-    ensures { result ≡ status_of stop.now }
-{
-    match stop {
-        Stop::Unread(_) => 3,
-        Stop::Refused(_) => 5,
-        Stop::NoMemory => 6,
-    }
-}
-
-/// The line of a stop; there may be no memory for it.
-fn stop_line(alloc: Global, stop: &Stop<Line>) -> Result<String, AllocError>
-    ensures { IfOk result (λ line. string_bytes line ≡ stop_line stop.now) }
-{
-    match stop {
-        Stop::Unread(name) => unread_line(alloc, name.as_str()),
-        Stop::Refused(line) => String::from_str(alloc, line.as_str()),
-        Stop::NoMemory => Err(AllocError),
-    }
-}
-
-/// Writes the line of a stop, and answers its status. Where there is no memory for the line, the stop is one of memory.
+/// Writes the line of a stop, and answers its status. Where there is no memory for the line of a file that could not be
+/// read, the stop is one of memory.
 pub(crate) fn tell<E: Sink>(alloc: Global, err: &mut E, stop: &Stop<Line>) -> u8
-    ensures said { result ≢ 6 → (result ≡ status_of stop.now) × Says (E.written err.old) (E.written err.new) (E.faults err.old) (E.faults err.new) (stop_line stop.now) }
-    ensures memory { result ≡ 6 → Says (E.written err.old) (E.written err.new) (E.faults err.old) (E.faults err.new) memory_line }
-    ensures status { (result ≡ status_of stop.now) ⊎ (result ≡ 6) }
+    ensures { Tells stop.now result (Says (E.written err.old) (E.written err.new) (E.faults err.old) (E.faults err.new)) }
 {
-    match stop_line(alloc, stop) {
-        Ok(line) => {
-            say(err, line.as_bytes());
-            status_of(stop)
+    match stop {
+        Stop::Unread(name) => match unread_line(alloc, name.as_str()) {
+            Ok(line) => {
+                say(err, line.as_bytes());
+                3
+            }
+            Err(AllocError) => {
+                say(err, MEMORY_LINE);
+                6
+            }
+        },
+        Stop::Refused(line) => {
+            say(err, line.as_str().as_bytes());
+            5
         }
-        Err(AllocError) => {
+        Stop::NoMemory => {
             say(err, MEMORY_LINE);
             6
         }

@@ -1,5 +1,5 @@
 //! The run of a rule that stands in a file.
-ghost use Rattle.std.specs.Prelude.{◌≡◌, ◌≢◌, IfErr, IfOk, true};
+ghost use Rattle.std.specs.Prelude.{◌≡◌, ◌≢◌, ℕ, IfErr, IfOk, List, true};
 ghost use Rattle.fill_edge.specs.Outside.{NoneFell};
 ghost use Rattle.fill_rule.specs.Rule.{IsRule, rule_data};
 ghost use Rattle.fill_filter.specs.Loaded.{loaded_data};
@@ -106,15 +106,16 @@ fn open_rule<C: Cabinet>(alloc: Global, cabinet: &mut C, name: &str) -> Result<R
     }
 }
 
-/// Writes the line that says why there is no rule, and answers the status. Where there is no memory for the line, that is
-/// said instead.
+/// Writes the line that says why there is no rule, and answers the status. Where there is no memory for a line that is
+/// made, that is said instead.
 fn tell_no_rule<E: Sink>(alloc: Global, name: &str, why: &NoRule, err: &mut E) -> u8
     ensures told { TellsNoRule name.now why.now result (Says (E.written err.old) (E.written err.new) (E.faults err.old) (E.faults err.new)) }
+    ensures lent { (line : List ℕ) → why.now ≡ NoRule.NoTables (Stop.Refused line) → result ≡ 5 }
     ensures some { result ≢ 0 }
 {
     match no_rule_line(alloc, name, why) {
         Ok(line) => {
-            say(err, line.as_bytes());
+            say(err, line.as_str().as_bytes());
             status_of(why)
         }
         Err(AllocError) => {

@@ -1,5 +1,6 @@
 //! The lines that a run of a rule leaves on `err`.
-ghost use Rattle.std.specs.Prelude.{◌≡◌, IfOk, string_bytes};
+ghost use Rattle.std.specs.Prelude.{◌≡◌, ℕ, IfOk, IsOk, List, string_bytes};
+ghost use Rattle.std.specs.Cow.{cow_str_bytes};
 ghost use Rattle.fill_filter.specs.RuleFile.{no_rule_line, unread_line};
 ghost use Rattle.fill_filter.specs.Said.{Says};
 
@@ -9,6 +10,7 @@ use fill_edge::{Sink, WriteFault, write_all};
 use fill_open::Stop;
 use fill_stream::Counts;
 use std::alloc::{AllocError, Global};
+use std::borrow::CowStr;
 
 /// The line that says that memory ran out.
 pub(crate) const MEMORY_LINE: &[u8] = b"fillcsv: out of memory\n";
@@ -71,18 +73,38 @@ fn unread_line(alloc: Global, name: &str) -> Result<String, AllocError>
     format!(in alloc; "fillcsv: {name}: cannot be read\n")
 }
 
-/// The line that says why there is no rule to run in the file of this name; there may be no memory for it.
-pub(crate) fn no_rule_line(alloc: Global, name: &str, why: &NoRule) -> Result<String, AllocError>
-    ensures { IfOk result (λ line. string_bytes line ≡ no_rule_line name.now why.now) }
+/// The line of a file that has too many bytes.
+fn long_line(alloc: Global, name: &str) -> Result<String, AllocError>
+    ensures { IfOk result (λ line. string_bytes line ≡ no_rule_line name.now NoRule.TooLong) }
+{
+    format!(in alloc; "fillcsv: {name}: more than 16777216 bytes\n")
+}
+
+/// The line of a file in which no rule has the line of this number.
+fn bad_line(alloc: Global, name: &str, number: usize) -> Result<String, AllocError>
+    ensures { IfOk result (λ line. string_bytes line ≡ no_rule_line name.now (NoRule.BadLine number)) }
+{
+    format!(in alloc; "fillcsv: {name}: line {number} is not understood\n")
+}
+
+/// The line that says why there is no rule to run in the file of this name. That of tables that are refused is there
+/// already; there may be no memory for another.
+pub(crate) fn no_rule_line<'a>(
+    alloc: Global,
+    name: &str,
+    why: &'a NoRule,
+) -> Result<CowStr<'a>, AllocError>
+    ensures line { IfOk result (λ line. cow_str_bytes line ≡ no_rule_line name.now why.now) }
+    ensures lent { (line : List ℕ) → why.now ≡ NoRule.NoTables (Stop.Refused line) → IsOk result }
 {
     match why {
-        NoRule::Unread => unread_line(alloc, name),
-        NoRule::TooLong => format!(in alloc; "fillcsv: {name}: more than 16777216 bytes\n"),
-        NoRule::BadLine { number } => {
-            format!(in alloc; "fillcsv: {name}: line {number} is not understood\n")
+        NoRule::Unread => Ok(CowStr::Owned(unread_line(alloc, name)?)),
+        NoRule::TooLong => Ok(CowStr::Owned(long_line(alloc, name)?)),
+        NoRule::BadLine { number } => Ok(CowStr::Owned(bad_line(alloc, name, *number)?)),
+        NoRule::NoTables(Stop::Unread(file)) => {
+            Ok(CowStr::Owned(unread_line(alloc, file.as_str())?))
         }
-        NoRule::NoTables(Stop::Unread(file)) => unread_line(alloc, file.as_str()),
-        NoRule::NoTables(Stop::Refused(line)) => String::from_str(alloc, line.as_str()),
+        NoRule::NoTables(Stop::Refused(line)) => Ok(CowStr::Borrowed(line.as_str())),
         NoRule::NoTables(Stop::NoMemory) => Err(AllocError),
         NoRule::NoMemory => Err(AllocError),
     }

@@ -9,10 +9,10 @@ use Rattle.fill_script.specs.declared.script.Script.{Script}
 use Rattle.fill_apply.specs.Saved.{SavedIs}
 use Rattle.fill_apply.specs.declared.error.ApplyError.{ApplyError}
 use Rattle.fill_apply.specs.declared.error.ApplyError.TheVariants as error
-use Rattle.fill_open.specs.Apply.{Applied, AppliedIs, ApplyStops, ApplyUnread, IsReading, Names, ProgramRefuses, Reading, applied_sheet_opens, apply_opens, program_in, with_program, with_report, with_script, with_sheet}
+use Rattle.fill_open.specs.Apply.{Applied, AppliedIs, ApplyStops, ApplyUnread, IsReading, Names, ProgramRefuses, Reading, apply_opens, program_in, with_program, with_report, with_script, with_sheet}
 use Rattle.fill_open.specs.Opened.{Held, Told, Opened, Unread, Refused, Passed, at_once, further}
 use Rattle.fill_open.specs.Refusal.{RefusalData}
-use Rattle.fill_open.specs.Steps.{file_opens, script_opens, tables_open}
+use Rattle.fill_open.specs.Steps.{file_opens, script_opens, sheet_opens, tables_open}
 use Rattle.fill_open.specs.Stops.{Counts, IsUnread, ReadFails, Stops}
 use Rattle.fill_open.specs.declared.stop.Stop.{Stop}
 use Rattle.fill_open.specs.declared.stop.Stop.TheVariants as stop
@@ -146,31 +146,31 @@ module _ (one : IsOne) (names : Names) (script : Script) (bytes : List ℕ) (s :
 
   -- what stops the sheet
   pub sheet_stops : (files : Files) (before mid now : Counts) (why : Stop RefusalData) → NoneFell before mid → Told files (λ held. (script_opens held names.session).outcome ≡ Passed script)
-      → Told files (λ held. (file_opens held names.program).outcome ≡ Passed bytes) → Stops (λ held. applied_sheet_opens held script names.sheet) files mid now why → ApplyStops names files before now why
+      → Told files (λ held. (file_opens held names.program).outcome ≡ Passed bytes) → Stops (λ held. sheet_opens held script None names.sheet) files mid now why → ApplyStops names files before now why
   sheet_stops files before mid now why fell p q st =
-      later_stops files before mid now why fell p q (stops_first (λ held. applied_sheet_opens held script names.sheet) (λ held. with_sheet held names script s) mid now files why st)
+      later_stops files before mid now why fell p q (stops_first (λ held. sheet_opens held script None names.sheet) (λ held. with_sheet held names script s) mid now files why st)
 
   module _ (sheet : SheetData) where
     -- what stops the tables
     pub tables_stop : (files : Files) (before first mid now : Counts) (why : Stop RefusalData) → NoneFell before first → NoneFell first mid → Told files (λ held. (script_opens held names.session).outcome ≡ Passed script)
-        → Told files (λ held. (file_opens held names.program).outcome ≡ Passed bytes) → Told files (λ held. (applied_sheet_opens held script names.sheet).outcome ≡ Passed sheet)
+        → Told files (λ held. (file_opens held names.program).outcome ≡ Passed bytes) → Told files (λ held. (sheet_opens held script None names.sheet).outcome ≡ Passed sheet)
         → Stops (λ held. tables_open held names.session [] script.tables) files mid now why → ApplyStops names files before now why
     tables_stop files before first mid now why fell fell_on p q t st =
         let rest = stops_first (λ held. tables_open held names.session [] script.tables) (λ held tables. at_once (Passed (record { switch = s; sheet = sheet; tables = tables }))) mid now files why st in
-        let on = told_one files (λ held. (applied_sheet_opens held script names.sheet).outcome ≡ Passed sheet) (λ held. Continues (with_program held names script s) (with_sheet held names script s sheet))
-        (λ held e. goes_on (with_sheet held names script s) (applied_sheet_opens held script names.sheet) sheet e) t in
+        let on = told_one files (λ held. (sheet_opens held script None names.sheet).outcome ≡ Passed sheet) (λ held. Continues (with_program held names script s) (with_sheet held names script s sheet))
+        (λ held e. goes_on (with_sheet held names script s) (sheet_opens held script None names.sheet) sheet e) t in
         later_stops files before first now why fell p q (stops_later (λ held. with_program held names script s) (λ held. with_sheet held names script s sheet) first mid now fell_on files why on rest)
 
     -- all steps passed
     pub all_passed : (files : Files) (tables : List TableData) → Told files (λ held. (script_opens held names.session).outcome ≡ Passed script)
-        → Told files (λ held. (file_opens held names.program).outcome ≡ Passed bytes) → Told files (λ held. (applied_sheet_opens held script names.sheet).outcome ≡ Passed sheet)
+        → Told files (λ held. (file_opens held names.program).outcome ≡ Passed bytes) → Told files (λ held. (sheet_opens held script None names.sheet).outcome ≡ Passed sheet)
         → Told files (λ held. (tables_open held names.session [] script.tables).outcome ≡ Passed tables)
         → Told files (λ held. AppliedIs names held (Passed (record { switch = s; sheet = sheet; tables = tables })))
     all_passed None tables p q t u = tt
     all_passed (Some held) tables p q t u = (
       Ok s,
       is_reading names script bytes (Ok s) saved held p q,
-      (to_program held p q).same ∙ (goes_on (with_sheet held names script s) (applied_sheet_opens held script names.sheet) sheet t).same
+      (to_program held p q).same ∙ (goes_on (with_sheet held names script s) (sheet_opens held script None names.sheet) sheet t).same
           ∙ (goes_on (λ (ts : List TableData). at_once (Passed (record { switch = s; sheet = sheet; tables = ts }))) (tables_open held names.session [] script.tables) tables u).same,
     )
 

@@ -1,5 +1,6 @@
 -- The steps of a replay, and those of its table lines.
 use Rattle.std.proofs.Common.{◌≡◌, ℕ, suc, ◌+◌, ◌<◌, ◌≤◌, List, [], ◌∷◌, length, drop, get_or, sym, ap, ◌∙◌, arith, subst}
+use Rattle.std.specs.Prelude.{encode_utf8_all}
 use Rattle.std.proofs.Math.Seq.{drop-cons}
 use Rattle.std.proofs.lemmas.List.{drop_all}
 use Rattle.fill_text.specs.Data.{SheetData, TableData}
@@ -49,17 +50,20 @@ module _ (files : Files) (name : List ℕ) (script : Script) (read : Told files 
   from_script_on : Told files (λ held. Continues (replay_opens held name) (from_script held name script))
   from_script_on = all_go_on files (λ held. script_opens held name) (λ held. from_script held name) script read
 
+  abbrev its_sheet : Held → Opening RefusalData SheetData
+  its_sheet held = sheet_opens held script script.output (encode_utf8_all script.sheet)
+
   -- what stops the sheet stops the replay
-  pub sheet_stops : (before mid now : Counts) → NoneFell before mid → (why : Stop RefusalData) → Stops (λ held. sheet_opens held script) files mid now why → Stops (λ held. replay_opens held name) files before now why
+  pub sheet_stops : (before mid now : Counts) → NoneFell before mid → (why : Stop RefusalData) → Stops its_sheet files mid now why → Stops (λ held. replay_opens held name) files before now why
   sheet_stops before mid now fell why s =
       stops_later (λ held. replay_opens held name) (λ held. from_script held name script) before mid now fell files why from_script_on
-      (stops_first (λ held. sheet_opens held script) (λ held. from_sheet held name script) mid now files why s)
+      (stops_first its_sheet (λ held. from_sheet held name script) mid now files why s)
 
-  module _ (sheet : SheetData) (sheet_read : Told files (λ held. (sheet_opens held script).outcome ≡ Passed sheet)) where
+  module _ (sheet : SheetData) (sheet_read : Told files (λ held. (its_sheet held).outcome ≡ Passed sheet)) where
     from_sheet_on : Told files (λ held. Continues (replay_opens held name) (from_sheet held name script sheet))
     from_sheet_on =
         told_both files _ _ _ (λ held h k. continues_both _ _ _ h k) from_script_on
-        (all_go_on files (λ held. sheet_opens held script) (λ held. from_sheet held name script) sheet sheet_read)
+        (all_go_on files its_sheet (λ held. from_sheet held name script) sheet sheet_read)
 
     -- what stops the tables stops the replay
     pub tables_stop : (before first mid now : Counts) → NoneFell before first → NoneFell first mid → (why : Stop RefusalData) → Stops (λ held. tables_open held name [] script.tables) files mid now why

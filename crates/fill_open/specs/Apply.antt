@@ -2,14 +2,13 @@
 use Rattle.std.specs.Prelude.{◌≡◌, ◌⊎◌, ℕ, List, [], None, Some, Result, Contains, string_bytes, ⊤}
 use Rattle.fill_text.specs.Data.{SheetData, TableData}
 use Rattle.fill_edge.specs.Outside.{Files, Rose}
-use Rattle.fill_sheet.specs.Sheet.{read_sheet}
 use Rattle.fill_tree.specs.Switch.{SwitchTree, switch_tree}
 use Rattle.fill_script.specs.declared.script.Script.{Script}
 use Rattle.fill_apply.specs.Saved.{SavedIs}
 use Rattle.fill_apply.specs.declared.error.ApplyError.{ApplyError}
 use Rattle.fill_open.specs.Opened.{Held, Told, Opened, Opening, Unread, Refused, Passed, at_once, and_then, checked}
 use Rattle.fill_open.specs.Refusal.{RefusalData, refusal}
-use Rattle.fill_open.specs.Steps.{file_opens, script_opens, tables_open}
+use Rattle.fill_open.specs.Steps.{file_opens, script_opens, sheet_opens, tables_open}
 use Rattle.fill_open.specs.Stops.{Counts}
 use Rattle.fill_open.specs.declared.apply.Application.{Application}
 use Rattle.fill_open.specs.declared.fault.Fault.TheVariants as fault
@@ -49,21 +48,14 @@ ProgramRefuses inputs program bytes (stop.Unread name) = ⊥
 ProgramRefuses inputs program bytes (stop.Refused why) = (r : Reading) × SavedIs inputs bytes r × (program_in program r ≡ Refused why)
 ProgramRefuses inputs program bytes stop.NoMemory = ⊤
 
--- the sheet in the bytes of the file of a name, by the header line and the inputs of a script, and without output
-abbrev pub applied_sheet_in : Script → List ℕ → List ℕ → Opened RefusalData SheetData
-applied_sheet_in script name bytes = checked (λ e. refusal name (fault.Sheet e)) (read_sheet script.header script.inputs None bytes)
-
-abbrev pub applied_sheet_opens : Held → Script → List ℕ → Opening RefusalData SheetData
-applied_sheet_opens held script name = and_then (file_opens held name) (λ bytes. at_once (applied_sheet_in script name bytes))
-
 -- a script, a conditional program and its sheet, and then the tables and keys of the script
 abbrev pub with_sheet : Held → Names → Script → SwitchTree → SheetData → Opening RefusalData Applied
 with_sheet held names script s sheet =
     and_then (tables_open held names.session [] script.tables) (λ tables. at_once (Passed (record { switch = s; sheet = sheet; tables = tables })))
 
--- a script and a conditional program, and then the sheet and the rest
+-- a script and a conditional program, and then the sheet, of which no output is read, and the rest
 abbrev pub with_program : Held → Names → Script → SwitchTree → Opening RefusalData Applied
-with_program held names script s = and_then (applied_sheet_opens held script names.sheet) (with_sheet held names script s)
+with_program held names script s = and_then (sheet_opens held script None names.sheet) (with_sheet held names script s)
 
 -- a script and the bytes of a report, and then what comes of them and the rest
 abbrev pub with_report : Held → Names → Script → Reading → Opening RefusalData Applied

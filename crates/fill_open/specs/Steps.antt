@@ -34,13 +34,13 @@ script_in session bytes = checked (λ e. refusal session (fault.Script e)) (read
 abbrev pub script_opens : Held → List ℕ → Opening RefusalData Script
 script_opens held session = and_then (file_opens held session) (λ bytes. at_once (script_in session bytes))
 
--- the sheet of a script in the bytes of its file
-abbrev pub sheet_in : Script → List ℕ → Opened RefusalData SheetData
-sheet_in script bytes = checked (λ e. refusal (encode_utf8_all script.sheet) (fault.Sheet e)) (read_sheet script.header script.inputs script.output bytes)
+-- the sheet in the bytes of the file of a name, by a script's header line and inputs, with an output column or none
+abbrev pub sheet_in : Script → Option ℕ → List ℕ → List ℕ → Opened RefusalData SheetData
+sheet_in script output name bytes = checked (λ e. refusal name (fault.Sheet e)) (read_sheet script.header script.inputs output bytes)
 
--- the sheet's file is read and checked
-abbrev pub sheet_opens : Held → Script → Opening RefusalData SheetData
-sheet_opens held script = and_then (file_opens held (encode_utf8_all script.sheet)) (λ bytes. at_once (sheet_in script bytes))
+-- the file of such a sheet is read and checked
+abbrev pub sheet_opens : Held → Script → Option ℕ → List ℕ → Opening RefusalData SheetData
+sheet_opens held script output name = and_then (file_opens held name) (λ bytes. at_once (sheet_in script output name bytes))
 
 -- the tables with the one of a file's bytes, which a line of the session names
 abbrev pub table_in : List ℕ → ℕ → List ℕ → List ℕ → List TableData → List ℕ → Opened RefusalData (List TableData)
@@ -64,7 +64,7 @@ from_sheet held name script sheet =
 
 -- a script, and then its sheet and the rest
 abbrev pub from_script : Held → List ℕ → Script → Opening RefusalData Ready
-from_script held name script = and_then (sheet_opens held script) (from_sheet held name script)
+from_script held name script = and_then (sheet_opens held script script.output (encode_utf8_all script.sheet)) (from_sheet held name script)
 
 -- a session file, its sheet, and then its tables and keys
 abbrev pub replay_opens : Held → List ℕ → Opening RefusalData Ready
@@ -78,5 +78,5 @@ made_name = codes "made"
 abbrev pub made_opens : ℕ → Opening RefusalData Ready
 made_opens n =
     and_then (at_once (script_in made_name made_session)) (λ script.
-    and_then (at_once (sheet_in script (made_sheet n))) (λ sheet.
+    and_then (at_once (sheet_in script script.output (encode_utf8_all script.sheet) (made_sheet n))) (λ sheet.
     at_once (Passed (record { script = script; sheet = sheet; tables = [] }))))

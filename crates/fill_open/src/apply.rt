@@ -1,22 +1,20 @@
 //! What is applied: a saved program, and the sheet on whose rows it is run.
 ghost use Rattle.std.specs.Prelude.{◌≡◌, All, Contains, IfErr, IfOk, Ok};
-ghost use Rattle.std.specs.List.Sorted.{IsPermutation};
 ghost use Rattle.fill_edge.specs.Outside.{NoneFell};
 ghost use Rattle.fill_apply.specs.Saved.{SavedIs, columns_read};
-ghost use Rattle.fill_script.specs.Script.{IsScript};
 ghost use Rattle.fill_tree.specs.Switch.{switch_tree};
-ghost use Rattle.fill_open.specs.Apply.{AppliedIs, ApplyStops, ProgramRefuses, application_data, applied_sheet_in, applied_sheet_opens, named};
+ghost use Rattle.fill_open.specs.Apply.{AppliedIs, ApplyStops, ProgramRefuses, application_data, named};
 ghost use Rattle.fill_open.specs.Opened.{Told, Passed};
-ghost use Rattle.fill_open.specs.Stops.{Refuses, Stops};
 
 use crate::file::open_file;
 use crate::script::open_script;
+use crate::sheet::open_sheet;
 use crate::tables::open_tables;
 use crate::{Fault, Stop};
 use fill_apply::{ApplyError, open_switch, saved_programs_are_one};
 use fill_edge::Cabinet;
 use fill_script::Script;
-use fill_sheet::{Sheet, SheetError};
+use fill_sheet::Sheet;
 use fill_tables::Tables;
 use fill_tree::Switch;
 use std::alloc::Global;
@@ -61,7 +59,7 @@ pub fn open_application<C: Cabinet>(
         Err(stop) => return Err(stop),
     };
     drop(bytes);
-    let sheet = match open_applied_sheet(alloc, cabinet, &script, sheet) {
+    let sheet = match open_sheet(alloc, cabinet, &script, None, sheet) {
         Ok(sheet) => sheet,
         Err(stop) => return Err(stop),
     };
@@ -86,40 +84,5 @@ fn program_in(alloc: Global, script: &Script, program: &str, bytes: &[u8]) -> Re
         Ok(switch) => Ok(switch),
         Err(ApplyError::NoMemory) => Err(Stop::NoMemory),
         Err(e) => Err(Stop::refused(alloc, program, Fault::Program(e))),
-    }
-}
-
-/// The sheet of a name, by the header line and the inputs of a script.
-fn open_applied_sheet<C: Cabinet>(
-    alloc: Global,
-    cabinet: &mut C,
-    script: &Script,
-    name: &str,
-) -> Result<Sheet, Stop>
-    requires { IsScript script.now }
-    ensures ready { IfOk result (λ sheet. Told (C.files cabinet.old) (λ held. (applied_sheet_opens held script.now name.now).outcome ≡ Passed sheet)) }
-    ensures inputs { IfOk result (λ sheet. IsPermutation script.now.inputs sheet.inputs) }
-    ensures stopped { IfErr result (Stops (λ held. applied_sheet_opens held script.now name.now) (C.files cabinet.old) (C.faults cabinet.old) (C.faults cabinet.new)) }
-    ensures files { C.files cabinet.new ≡ C.files cabinet.old }
-    ensures later { NoneFell (C.faults cabinet.old) (C.faults cabinet.new) }
-{
-    match open_file(alloc, cabinet, name) {
-        Ok(bytes) => applied_sheet_in(alloc, script, name, bytes.as_slice()),
-        Err(stop) => Err(stop),
-    }
-}
-
-/// The sheet in the bytes of the file of a name, by the header line and the inputs of a script.
-fn applied_sheet_in(alloc: Global, script: &Script, name: &str, bytes: &[u8]) -> Result<Sheet, Stop>
-    requires { IsScript script.now }
-    ensures ready { IfOk result (λ sheet. applied_sheet_in script.now name.now bytes.now ≡ Passed sheet) }
-    ensures inputs { IfOk result (λ sheet. IsPermutation script.now.inputs sheet.inputs) }
-    ensures stopped { IfErr result (Refuses (applied_sheet_in script.now name.now bytes.now)) }
-{
-    let inputs = script.inputs.as_slice();
-    match Sheet::read(alloc, bytes, script.header, inputs, None) {
-        Ok(sheet) => Ok(sheet),
-        Err(SheetError::NoMemory) => Err(Stop::NoMemory),
-        Err(e) => Err(Stop::refused(alloc, name, Fault::Sheet(e))),
     }
 }

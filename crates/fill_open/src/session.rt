@@ -40,7 +40,8 @@ pub fn open_replay<C: Cabinet>(alloc: Global, cabinet: &mut C, session: &str) ->
         Ok(script) => script,
         Err(stop) => return Err(stop),
     };
-    let sheet = match open_sheet(alloc, cabinet, &script) {
+    let name = script.sheet.as_str();
+    let sheet = match open_sheet(alloc, cabinet, &script, script.output, name) {
         Ok(sheet) => sheet,
         Err(stop) => return Err(stop),
     };
@@ -71,7 +72,9 @@ pub fn open_made(alloc: Global, n: u32) -> Result<Ready, Stop>
         Ok(script) => script,
         Err(stop) => return Err(stop),
     };
-    let sheet = match sheet_in(alloc, &script, files.sheet.as_slice()) {
+    let name = script.sheet.as_str();
+    let bytes = files.sheet.as_slice();
+    let sheet = match sheet_in(alloc, &script, script.output, name, bytes) {
         Ok(sheet) => sheet,
         Err(stop) => return Err(stop),
     };

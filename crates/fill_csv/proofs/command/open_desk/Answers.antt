@@ -9,9 +9,7 @@ use Rattle.fill_csv.proofs.command.open_desk.Goals as goal
 pub returns-in-Err-clause-fails : goal.returns-in-Err-clause-fails
 returns-in-Err-clause-fails g c = λ input old store.
     stopped_ends (data_of c.args.asked.now) (g.C.Cabinet.files c.args.cabinet.now) input _ _ _ _ store store _ c.tell.result
-    c.in-Err.stop c.in-Err.ensures.stopped refl (Keeps-refl old)
-    (λ other. let said = c.tell.ensures.said other in (said.0, says_at_once c.args.asked.now.ask _ _ _ _ _ said.1))
-    (λ six. says_at_once c.args.asked.now.ask _ _ _ _ _ (c.tell.ensures.memory six)) c.tell.ensures.status
+    c.in-Err.stop _ (λ line. says_at_once c.args.asked.now.ask _ _ _ _ line) c.in-Err.ensures.stopped refl (Keeps-refl old) c.tell.ensures
 
 pub returns-in-Ok-of-clause-opened : goal.returns-in-Ok-of-clause-opened
 returns-in-Ok-of-clause-opened g c = (read_data (data_of c.args.asked.now) c.in-Ok.read, c.in-Ok.ensures.ready, c.in-Ok-of.ensures.page, c.in-Ok-of.ensures.asks)
