@@ -9,7 +9,7 @@ use Rattle.fill_tree.specs.Switch.{CaseTree, case_tree}
 use Rattle.fill_tree.specs.declared.guard.Literal.{Literal}
 use Rattle.fill_tree.specs.declared.guard.Guard.{Guard}
 use Rattle.fill_tree.specs.declared.guard.Case.{Case}
-use Rattle.fill_eval.specs.Columns.{literal_columns, guard_columns, IsFirstOther}
+use Rattle.fill_apply.specs.Columns.{literal_columns, guard_columns, IsFirstOther}
 use Rattle.fill_apply.specs.Saved.{columns_read}
 
 -- the columns of a guard of two literals

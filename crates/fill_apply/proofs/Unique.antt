@@ -5,7 +5,7 @@ use Rattle.fill_tokens.specs.declared.token_set.TheConstants.TokenSet as set
 use Rattle.fill_tree.specs.Switch.{SwitchTree}
 use Rattle.fill_print.specs.Faults.{IsFault, IsTextOf}
 use Rattle.fill_print.proofs.Whole.{one_text}
-use Rattle.fill_eval.specs.Columns.{IsFirstOther}
+use Rattle.fill_apply.specs.Columns.{IsFirstOther}
 use Rattle.fill_apply.specs.Saved.{SavedIs, SpelledIs, TextIs, columns_read, shown_text}
 use Rattle.fill_apply.specs.declared.error.ApplyError.{ApplyError}
 use Rattle.fill_apply.specs.declared.error.ApplyError.TheVariants as error

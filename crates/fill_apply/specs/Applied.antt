@@ -16,6 +16,6 @@ applied_record row value = codes "applied" ∷ decimal row ∷ answer_field valu
 abbrev pub IsAppliedRecord : SheetData → List TableData → SwitchTree → ℕ → Fields → Type 0
 IsAppliedRecord sheet tables s row fields = (value : Option (List ℕ)) × IsValue (SwitchIs sheet tables row s) value × (fields ≡ applied_record row value)
 
--- the records of so many first rows, in order
+-- the records of the first n rows, in order
 abbrev pub AreAppliedRecords : SheetData → List TableData → SwitchTree → ℕ → List Fields → Type 0
 AreAppliedRecords sheet tables s n records = AllZip (IsAppliedRecord sheet tables s) (range_with_len 1 n) records

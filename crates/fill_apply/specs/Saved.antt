@@ -7,7 +7,7 @@ use Rattle.fill_tokens.specs.declared.token_set.TheConstants.TokenSet as set
 use Rattle.fill_tokens.specs.declared.token_set.TokenSet.{TokenSet}
 use Rattle.fill_tree.specs.Switch.{CaseTree, SwitchTree}
 use Rattle.fill_print.specs.Faults.{IsFault, IsTextOf}
-use Rattle.fill_eval.specs.Columns.{IsFirstOther, guard_columns}
+use Rattle.fill_apply.specs.Columns.{IsFirstOther, guard_columns}
 use Rattle.fill_apply.specs.declared.error.ApplyError.{ApplyError}
 use Rattle.fill_apply.specs.declared.error.ApplyError.TheVariants as error
 

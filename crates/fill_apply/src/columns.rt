@@ -1,6 +1,6 @@
 //! The columns that guards read.
 ghost use Rattle.std.specs.Prelude.{◌↔◌, Contains, IsTrue, map};
-ghost use Rattle.fill_eval.specs.Columns.{IsFirstOther, guard_columns};
+ghost use Rattle.fill_apply.specs.Columns.{IsFirstOther, guard_columns};
 ghost use Rattle.fill_tree.specs.Switch.{case_tree};
 ghost use Rattle.fill_apply.specs.Saved.{columns_read};
 

@@ -99,10 +99,6 @@ module _ (c d : List Entry) (R : ℕ → ℕ → Type 0) (right : (s n : ℕ) �
             let o = path_becomes back fs es flipped path from to w in
             let few = h.short from to o.0 o.1 in
             subst (λ l. l ≤ 100) o.2 few;
-        ordered = λ j k e f at there same.
-            let x = zip_back (EdgeBecomes R) es fs z j e at in
-            let y = zip_back (EdgeBecomes R) es fs z k f there in
-            h.ordered j k x.0 y.0 x.1 y.1 (x.2.1 ∙ same ∙ sym y.2.0);
       }
 
   -- what becomes of an entry is well made, at the end of the other arena

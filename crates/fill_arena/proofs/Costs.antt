@@ -3,9 +3,7 @@
 use Rattle.std.proofs.Common.{◌≡◌, ℕ, zero, suc, ◌+◌, ◌-◌, ◌*◌, ◌<◌, ◌≤◌, ◌^◌, ◌==◌, get_or, List, [], ◌∷◌, length, Bool, true, false, cond, Some, slice_get, pos, negsuc, ℤ, refl, ap, subst, arith, mul-le-mul_right}
 use Rattle.std.specs.Int.{w32}
 use Rattle.std.specs.Prelude.{FitsSigned}
-use Rattle.std.proofs.lemmas.List.Elements.{All-get_or}
 use Rattle.std.proofs.lemmas.List.Sums.{sum_by-le}
-use Rattle.std.proofs.lemmas.Option.{slice_get_within, get_or_from_slice_get}
 use Rattle.fill_text.specs.Classes.{is_separator}
 use Rattle.fill_tokens.specs.Kind.{kind_of}
 use Rattle.fill_tokens.specs.Prices.{ArePrices, count_cost, fixed_cost, kind_cost, place_cost, run_cost, seq_cost, token_cost}
@@ -15,7 +13,6 @@ use Rattle.fill_tokens.specs.declared.kind.RunClass.{RunClass}
 use Rattle.fill_tokens.specs.declared.kind.RunClass.TheVariants as class
 use Rattle.fill_tokens.specs.declared.prices.Prices.{Prices}
 use Rattle.fill_tokens.specs.declared.token.Token.{Token}
-use Rattle.fill_tokens.specs.PlaceGrammar.{IsPlace}
 use Rattle.fill_tokens.specs.declared.place.Place.{Place}
 use Rattle.fill_tokens.specs.declared.place.Place.TheVariants.{CPos, Pos}
 use Rattle.fill_tree.specs.Cost.{char_cost, text_cost, source_cost, atom_cost, condition_cost, conditions_cost, program_cost}
@@ -23,7 +20,7 @@ use Rattle.fill_tree.specs.Grammar.{source_depth, atom_depth, greatest_depth, nu
 use Rattle.fill_tree.specs.Tree.{SourceTree, AtomTree, Atoms, col, select, constant, whole, sub, end, more}
 use Rattle.fill_arena.specs.Contents.{EachIn}
 use Rattle.fill_arena.specs.Stands.{AtomFits, AtomStands, ConditionFits, ConditionsFit, PlaceStands, ProgramStands, SomeSource, SourceFits, SourceStands, Walks}
-use Rattle.fill_arena.specs.WellMade.{IsWellMade, IsConditionItem, IsSourceItem, IsAtomItem, Path}
+use Rattle.fill_arena.specs.WellMade.{IsSized, IsWellMade, IsConditionItem, IsSourceItem, IsAtomItem, Path}
 use Rattle.fill_arena.specs.declared.entry.AtomItem.{AtomItem}
 use Rattle.fill_arena.specs.declared.entry.AtomItem.TheVariants as atom
 use Rattle.fill_arena.specs.declared.entry.ConditionItem.{ConditionItem}
@@ -70,12 +67,12 @@ module _ (prices : Prices) (small : ArePrices prices) where
       let own = small.from_right in
       omega arith
 
-  pub place_few : (p : Place) → IsPlace p → place_cost prices p ≤ 140735341330425
+  pub place_few : (p : Place) → IsSized p → place_cost prices p ≤ 140735341330425
   place_few (CPos k) h = let few = fixed_few k in omega arith
   place_few (Pos r s k) h =
       let count = count_few k h.0 in
-      let left = seq_few r h.2.short_left in
-      let right = seq_few s h.2.short_right in
+      let left = seq_few r h.1 in
+      let right = seq_few s h.2 in
       let own = small.cut in
       omega arith
 
@@ -99,12 +96,7 @@ least_most (suc d) = omega arith
 
 module _ (prices : Prices) (small : ArePrices prices) (c : List Entry) (made : IsWellMade c) where
   pub place_in : (s : ℕ) (p : Place) → PlaceStands c s p → place_cost prices p ≤ 140735341330425
-  place_in s p h =
-      let all = (made s (kind.Places h.0) h.1).grammar in
-      let there = h.2 in
-      let within = slice_get_within h.0 there.0 p there.1 in
-      let is = All-get_or IsPlace h.0 there.0 p within all in
-      place_few prices small p (subst IsPlace (get_or_from_slice_get h.0 there.0 p p there.1) is)
+  place_in s p h = place_few prices small p ((made s (kind.Places h.0) h.1).sized h.2.0 p h.2.1)
 
   -- a source of a set, where the items' sources cost little
   source_in : (x : SourceTree) (most : ℕ) → ((n : ℕ) (i : SourceItem) → IsSourceItem c n i → SourceFits x c i → source_cost prices x ≤ most) → (s : ℕ) → SomeSource c s (SourceFits x c) → source_cost prices x ≤ most

@@ -88,7 +88,6 @@ module _ (c d : List Entry) (n : ℕ) (agree : (s : ℕ) → s < n → slice_get
     from_first = h.from_first;
     to_last = h.to_last;
     short = h.short;
-    ordered = h.ordered;
   }
 
 -- one more entry

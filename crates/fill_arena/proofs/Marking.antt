@@ -25,19 +25,19 @@ pub not_marked : (ms : List Bool) (n : ℕ) → get_or ms n false ≡ false → 
 not_marked ms n off h = false≢true (sym off ∙ get_or_from_slice_get ms n true false h)
 
 -- one mark more
-one_kept : (ms : List Bool) (n k : ℕ) → IsMarked ms k → IsMarked (marked ms n) k
+pub one_kept : (ms : List Bool) (n k : ℕ) → IsMarked ms k → IsMarked (marked ms n) k
 one_kept [] n k h = h
 one_kept (m ∷ ms) zero zero h = refl
 one_kept (m ∷ ms) zero (suc k) h = h
 one_kept (m ∷ ms) (suc n) zero h = h
 one_kept (m ∷ ms) (suc n) (suc k) h = one_kept ms n k h
 
-one_here : (ms : List Bool) (n : ℕ) → n < length ms → IsMarked (marked ms n) n
+pub one_here : (ms : List Bool) (n : ℕ) → n < length ms → IsMarked (marked ms n) n
 one_here [] n h = absurd (omega arith)
 one_here (m ∷ ms) zero h = refl
 one_here (m ∷ ms) (suc n) h = one_here ms n (omega arith)
 
-one_only : (ms : List Bool) (n k : ℕ) → IsMarked (marked ms n) k → IsMarked ms k ⊎ (k ≡ n)
+pub one_only : (ms : List Bool) (n k : ℕ) → IsMarked (marked ms n) k → IsMarked ms k ⊎ (k ≡ n)
 one_only [] n k h = inl h
 one_only (m ∷ ms) zero zero h = inr refl
 one_only (m ∷ ms) zero (suc k) h = inl h

@@ -73,10 +73,6 @@ sample_graph c a sets live =
         | suc k ↦ λ less. let one : k ≡ 0 = omega arith in ([], ap suc one)
       ] lt;
       short = λ from to path h. let few = short (a ∷ sets) from to path h in omega arith;
-      ordered = λ j k e f at there same.
-          let first = ends (a ∷ sets) j e at in
-          let second = ends (a ∷ sets) k f there in
-          absurd (omega (arith, first.1, second.0, same));
     }
 
 -- the one set of a graph with one edge

@@ -2,11 +2,15 @@
 use Rattle.std.proofs.Common.{◌≡◌, ℕ, ◌+◌, ◌<◌, ◌≤◌, List, length, get_or, Some, slice_get, inl, inr, refl, subst, arith}
 use Rattle.std.proofs.lemmas.Bool.{cases_lt}
 use Rattle.std.proofs.lemmas.Option.{slice_get_read, slice_get_within}
-use Rattle.fill_arena.specs.Contents.{SomeIn}
+use Rattle.fill_arena.specs.Contents.{EachIn, SomeIn}
 
 -- no item before a place has the property
 pub record NoneBelow {A : Type 0} (P : A → Type 0) (xs : List A) (i : ℕ) : Type 0 where
   pub all : (k : ℕ) (x : A) → k < i → slice_get xs k ≡ Some x → ¬ (P x)
+
+-- each item before a place has it
+pub record AllBelow {A : Type 0} (P : A → Type 0) (xs : List A) (i : ℕ) : Type 0 where
+  pub all : (k : ℕ) (x : A) → k < i → slice_get xs k ≡ Some x → P x
 
 pub here : {A : Type 0} (xs : List A) (i : ℕ) (x : A) → i < length xs → x ≡ get_or xs i x → slice_get xs i ≡ Some x
 here xs i x lt is = slice_get_read xs (length xs) i x refl lt is
@@ -33,3 +37,18 @@ scan_end P xs i past none h =
 
 pub scan_found : {A : Type 0} (P : A → Type 0) (xs : List A) (i : ℕ) (x : A) → slice_get xs i ≡ Some x → P x → SomeIn P xs
 scan_found P xs i x at has = (x, (i, at), has)
+
+pub all_more : {A : Type 0} (P : A → Type 0) (xs : List A) (i : ℕ) (x : A) → slice_get xs i ≡ Some x → AllBelow P xs i → P x → AllBelow P xs (i + 1)
+all_more {A} P xs i x at each has = record {
+  all = λ k y lt e. elim (cases_lt k i) [
+    | inl less ↦ each.all k y less e
+    | inr past ↦
+        let same : k ≡ i = omega arith in
+        let there : slice_get xs i ≡ Some y = subst (λ j. slice_get xs j ≡ Some y) same e in
+        let one : x ≡ y = cc in
+        subst P one has
+  ];
+}
+
+pub all_end : {A : Type 0} (P : A → Type 0) (xs : List A) (i : ℕ) → length xs ≤ i → AllBelow P xs i → EachIn P xs
+all_end P xs i past each k x at = let within = slice_get_within xs k x at in each.all k x (omega arith) at

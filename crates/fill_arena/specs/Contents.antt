@@ -1,6 +1,7 @@
 -- The numbers of an arena, and how arenas grow.
-use Rattle.std.specs.Prelude.{◌≡◌, ◌≢◌, ◌⊎◌, ℕ, List, [], ◌∷◌, ◌++◌, length, Some, slice_get}
+use Rattle.std.specs.Prelude.{◌≡◌, ◌≢◌, ◌⊎◌, ℕ, ◌<◌, List, [], ◌∷◌, ◌++◌, length, Some, slice_get}
 use Rattle.fill_tokens.specs.declared.place.Place.{Place}
+use Rattle.fill_arena.specs.Order.{IsOrderOf}
 use Rattle.fill_arena.specs.declared.entry.Entry.{Entry}
 use Rattle.fill_arena.specs.declared.entry.Entry.TheVariants.{Places, Sources, Atoms, Graph}
 use Rattle.fill_arena.specs.declared.entry.SourceItem.{SourceItem}
@@ -14,6 +15,10 @@ In x xs = (k : ℕ) × (slice_get xs k ≡ Some x)
 -- some item of the list has the property
 abbrev pub SomeIn : {A : Type 0} → (A → Type 0) → List A → Type 0
 SomeIn {A} P xs = (x : A) × In x xs × P x
+
+-- one of the first items has the property
+abbrev pub SomeBelow : {A : Type 0} → ℕ → List A → (A → Type 0) → Type 0
+SomeBelow {A} i xs P = (k : ℕ) × (x : A) × (k < i) × (slice_get xs k ≡ Some x) × P x
 
 -- each item of the list has it
 abbrev pub EachIn : {A : Type 0} → (A → Type 0) → List A → Type 0
@@ -38,6 +43,10 @@ HasNodes c g nodes = (edges : List Edge) × (slice_get c g ≡ Some (Graph nodes
 
 abbrev pub HasEdges : List Entry → ℕ → List Edge → Type 0
 HasEdges c g edges = (nodes : ℕ) × (slice_get c g ≡ Some (Graph nodes edges))
+
+-- these are the edges of the graph in a topological order
+abbrev pub HasSortedEdges : List Entry → ℕ → List Edge → Type 0
+HasSortedEdges c g sorted = (edges : List Edge) × HasEdges c g edges × IsOrderOf edges sorted
 
 -- each number of the first arena stands in the second one for the same
 abbrev pub Extends : List Entry → List Entry → Type 0

@@ -1,6 +1,8 @@
 -- How an arena keeps its entries: items, and slices of a pool of places.
 use Rattle.std.specs.Prelude.{◌≡◌, ℕ, ◌+◌, List, [], ◌∷◌, slice_index_or}
 use Rattle.fill_tokens.specs.declared.place.Place.{Place}
+use Rattle.fill_arena.specs.Contents.{EachIn}
+use Rattle.fill_arena.specs.Order.{LeadsOn}
 use Rattle.fill_arena.specs.declared.entry.Entry.{Entry}
 use Rattle.fill_arena.specs.declared.entry.Entry.TheVariants as kind
 use Rattle.fill_arena.specs.declared.entries.Content.{Content}
@@ -30,6 +32,13 @@ IsItems (Sources xs) = Unit {0}
 IsItems (Atom x) = Unit {0}
 IsItems (Atoms xs) = Unit {0}
 IsItems (Graph n xs) = Unit {0}
+
+-- the edges of a graph lead on within its nodes
+abbrev pub EdgesLeadOn : Entry → Type 0
+EdgesLeadOn (kind.Places xs) = Unit {0}
+EdgesLeadOn (kind.Sources xs) = Unit {0}
+EdgesLeadOn (kind.Atoms xs) = Unit {0}
+EdgesLeadOn (kind.Graph nodes edges) = EachIn (LeadsOn nodes) edges
 
 -- the sets of places among the entries are the slices of the pool from one number up to another, in order, and each
 -- knows how many came before it

@@ -1,8 +1,10 @@
+pub mod Best
 pub mod Contents
 pub mod Copied
 pub mod Entries
 pub mod Hash
 pub mod Index
 pub mod Named
+pub mod Order
 pub mod Stands
 pub mod WellMade

@@ -1,8 +1,10 @@
 -- Which places, sources, conditions, atoms and programs stand in the sets and graphs of an arena.
-use Rattle.std.specs.Prelude.{◌≡◌, ℕ, ◌-◌, List, [], ◌∷◌, Some, slice_get}
+use Rattle.std.specs.Prelude.{◌≡◌, ℕ, ◌-◌, ◌<◌, ◌^◌, List, [], ◌∷◌, Some, slice_get}
 use Rattle.fill_tokens.specs.declared.place.Place.{Place}
 use Rattle.fill_tree.specs.Tree.{SourceTree, AtomTree, Atoms, col, select, constant, whole, sub, end, more}
-use Rattle.fill_tree.specs.Grammar.{HasPart}
+use Rattle.fill_tokens.specs.declared.prices.Prices.{Prices}
+use Rattle.fill_tree.specs.Cost.{program_cost}
+use Rattle.fill_tree.specs.Grammar.{HasPart, IsPart}
 use Rattle.fill_arena.specs.Contents.{In, SomeIn}
 use Rattle.fill_arena.specs.declared.entry.Entry.{Entry}
 use Rattle.fill_arena.specs.declared.entry.Entry.TheVariants as kind
@@ -69,10 +71,27 @@ SourceStands c s x = SomeSource c s (SourceFits x c)
 abbrev pub AtomStands : List Entry → ℕ → AtomTree → Type 0
 AtomStands c s a = SomeAtom c s (AtomFits a c)
 
+-- atoms that are no constants, and those that are
+abbrev pub PartFits : List Entry → AtomItem → AtomTree → Type 0
+PartFits c item a = IsPart a × AtomFits a c item
+
+abbrev pub PartStands : List Entry → ℕ → AtomTree → Type 0
+PartStands c s a = IsPart a × AtomStands c s a
+
+abbrev pub ConstantFits : List Entry → AtomItem → AtomTree → Type 0
+ConstantFits c item a = (¬ IsPart a) × AtomFits a c item
+
+abbrev pub ConstantStands : List Entry → ℕ → AtomTree → Type 0
+ConstantStands c s a = (¬ IsPart a) × AtomStands c s a
+
 -- a walk over the edges, from a node to the last one, has the atoms in order in its edges' sets
 abbrev pub Walks : Atoms → List Entry → List Edge → ℕ → ℕ → Type 0
 Walks end c edges last at = at ≡ last
 Walks (more a rest) c edges last at = SomeIn (λ e. (e.from ≡ at) × AtomStands c e.atoms a × Walks rest c edges last e.to) edges
+
+-- what the atoms on a walk over the edges to the last node cost is one of the machine's numbers
+abbrev pub WalksAreCheap : Prices → List Entry → List Edge → ℕ → Type 0
+WalksAreCheap prices c edges last = (p : Atoms) (at : ℕ) → Walks p c edges last at → program_cost prices p < 2 ^ 64
 
 -- a program stands in a graph where it is on a walk from node 0 to the last node
 abbrev pub ProgramStands : List Entry → ℕ → Atoms → Type 0

@@ -1,13 +1,15 @@
 -- What is true of each set and graph of an arena.
-use Rattle.std.specs.Prelude.{◌≡◌, ℕ, ◌-◌, ◌<◌, ◌≤◌, List, [], ◌∷◌, length, Some, IfSome, All, slice_get}
+use Rattle.std.specs.Prelude.{◌≡◌, ◌≢◌, ℕ, ◌-◌, ◌<◌, ◌≤◌, List, [], ◌∷◌, length, Some, IfSome, FitsSigned, slice_get}
+use Rattle.std.specs.Int.{w32}
 use Rattle.std.specs.List.{AllPairs}
 use Rattle.std.specs.declared.cmp.Ordering.TheVariants.{Less}
 use Rattle.fill_tokens.specs.Place.{place_cmp}
-use Rattle.fill_tokens.specs.PlaceGrammar.{IsPlace}
 use Rattle.fill_tokens.specs.declared.place.Place.{Place}
+use Rattle.fill_tokens.specs.declared.place.Place.TheVariants.{CPos, Pos}
 use Rattle.fill_tree.specs.Tree.{SourceTree}
 use Rattle.fill_tree.specs.Grammar.{source_depth}
 use Rattle.fill_arena.specs.Contents.{In, EachIn, IsPlaceSet, IsSourceSet, IsAtomSet}
+use Rattle.fill_arena.specs.Order.{IsTopological}
 use Rattle.fill_arena.specs.Stands.{SourceFits}
 use Rattle.fill_arena.specs.declared.entry.Entry.{Entry}
 use Rattle.fill_arena.specs.declared.entry.Entry.TheVariants.{Places, Sources, Atoms, Graph}
@@ -29,11 +31,21 @@ OlderSources c n s = IsSourceSet c s × (s < n)
 abbrev pub OlderAtoms : List Entry → ℕ → ℕ → Type 0
 OlderAtoms c n s = IsAtomSet c s × (s < n)
 
--- places of the grammar, at least one, in order
+-- at least one place, in order, each once
+pub record AreInOrder (places : List Place) : Type 0 where
+  pub some : 0 < length places
+  pub rising : AllPairs (λ p q. place_cmp p q ≡ Less) places
+
+-- what the types of a place's parts can hold: a number of 32 bits with a sign, and sequences of at most three tokens
+abbrev pub IsSized : Place → Type 0
+IsSized (CPos k) = FitsSigned w32 k
+IsSized (Pos r s c) = FitsSigned w32 c × (length r ≤ 3) × (length s ≤ 3)
+
+-- such places, at least one, in order, each once
 pub record ArePlaces (places : List Place) : Type 0 where
   pub some : 0 < length places
   pub rising : AllPairs (λ p q. place_cmp p q ≡ Less) places
-  pub grammar : All IsPlace places
+  pub sized : EachIn IsSized places
 
 abbrev pub IsConditionItem : List Entry → ℕ → ConditionItem → Type 0
 IsConditionItem c n i = IfSome i.atoms (OlderAtoms c n)
@@ -76,15 +88,23 @@ pub record IsEdge (c : List Entry) (n nodes : ℕ) (e : Edge) : Type 0 where
   pub within : e.to < nodes
   pub atoms : OlderAtoms c n e.atoms
 
--- at least one node, and each on a walk from node 0 to the last one; no walk has more than 100 edges; the edges into a
--- node stand before those out of it
+-- the edge leads to a node after its own, and none of the rest leads back to its own
+pub record IsFirstEdge (e : Edge) (rest : List Edge) : Type 0 where
+  pub onward : e.from < e.to
+  pub never_back : (f : Edge) → In f rest → f.to ≢ e.from
+
+-- at least one node, and each on a walk from node 0 to the last one; no walk has more than 100 edges
 pub record IsGraphOf (c : List Entry) (n nodes : ℕ) (edges : List Edge) : Type 0 where
   pub some : 0 < nodes
   pub each : EachIn (IsEdge c n nodes) edges
   pub from_first : (m : ℕ) → m < nodes → (path : List Edge) × Path edges 0 path m
   pub to_last : (m : ℕ) → m < nodes → (path : List Edge) × Path edges m path (nodes - 1)
   pub short : (from to : ℕ) (path : List Edge) → Path edges from path to → length path ≤ 100
-  pub ordered : (j k : ℕ) (e f : Edge) → slice_get edges j ≡ Some e → slice_get edges k ≡ Some f → e.to ≡ f.from → j < k
+
+-- such a graph, and its edges are in a topological order
+pub record IsSortedGraph (c : List Entry) (n nodes : ℕ) (edges : List Edge) : Type 0 where
+  pub graph : IsGraphOf c n nodes edges
+  pub topological : IsTopological edges
 
 -- the entry of a number
 abbrev pub IsEntry : List Entry → ℕ → Entry → Type 0

@@ -1,14 +1,15 @@
 //! The arena.
 ghost use Rattle.std.specs.Prelude.{◌≡◌, ◌+◌, ◌<◌, ◌≤◌, List, [], ◌∷◌, ◌++◌, Some, slice_get, length, take, IfOk, OnOk, OnErr};
-ghost use Rattle.fill_arena.specs.Contents.{Extends, HasEdges, HasNodes, Interns, IsAtomSet, IsGraph, IsPlaceSet, IsSourceSet};
-ghost use Rattle.fill_arena.specs.Entries.{entry_of};
+ghost use Rattle.fill_arena.specs.Contents.{Extends, HasEdges, HasNodes, HasSortedEdges, Interns, IsAtomSet, IsGraph, IsPlaceSet, IsSourceSet};
+ghost use Rattle.fill_arena.specs.Entries.{EdgesLeadOn, entry_of};
 ghost use Rattle.fill_arena.specs.Index.{IsFree};
-ghost use Rattle.fill_arena.specs.WellMade.{AreAtoms, ArePlaces, AreSources, IsEntry, IsGraphOf, IsWellMade};
+ghost use Rattle.fill_arena.specs.WellMade.{AreAtoms, AreInOrder, AreSources, IsEntry, IsGraphOf, IsWellMade};
 
 use crate::entries::{Content, Entries};
 use crate::entry::{AtomItem, Edge, Entry, SourceItem};
 use crate::index::{Found, Index, Slot};
 use crate::numbers::{AtomSet, GraphId, Mark, PlaceSet, SourceSet};
+use crate::sized::keep_sizes;
 use fill_edge::{Ledger, Steps};
 use fill_text::{List, NoMemory};
 use fill_tokens::Place;
@@ -49,12 +50,13 @@ impl Arena {
 
     /// The number of a set of these places.
     pub fn intern_places(&mut self, places: &[Place]) -> Result<PlaceSet, NoMemory>
-        requires { ArePlaces places.now }
+        requires { AreInOrder places.now }
         ensures ok { IfOk result (λ s. slice_get self.new s ≡ Some (Entry.Places places.now)) }
         ensures interned { IfOk result (Interns self.old self.new (Entry.Places places.now)) }
         ensures kept { Extends self.old self.new }
         ensures err { OnErr result (self.new ≡ self.old) }
     {
+        keep_sizes(places);
         let mut copied = List::new(self.entries.alloc());
         copied.append(places)?;
         Ok(PlaceSet::at(self.intern(Entry::Places(copied))?))
@@ -82,7 +84,7 @@ impl Arena {
         Ok(AtomSet::at(self.intern(Entry::Atoms(items))?))
     }
 
-    /// The number of a graph of nodes from 0 on and of these edges. It takes one step, whatever it answers.
+    /// The number of a graph of nodes from 0 on and of these edges, in any order. It takes one step, whatever it answers.
     pub fn intern_graph<L: Ledger>(
         &mut self,
         nodes: usize,
@@ -164,13 +166,24 @@ impl Arena {
         }
     }
 
-    /// The edges of a graph.
+    /// The edges of a graph as they were given.
     pub fn edges(&self, g: GraphId) -> &[Edge]
         requires { IsGraph self.now g }
         ensures { HasEdges self.now g result.now }
     {
         match self.entries.get(g.index()) {
-            Content::Graph(_, edges) => edges,
+            Content::Graph(_, edges) => edges.as_slice(),
+            _ => unreachable!(),
+        }
+    }
+
+    /// The edges of a graph in a topological order: those into a node stand before those out of it.
+    pub fn sorted_edges(&self, g: GraphId) -> &[Edge]
+        requires { IsGraph self.now g }
+        ensures { HasSortedEdges self.now g result.now }
+    {
+        match self.entries.get(g.index()) {
+            Content::Graph(_, edges) => edges.sorted(),
             _ => unreachable!(),
         }
     }
@@ -215,7 +228,8 @@ fn push(
     entry: Entry,
     slot: Slot,
 ) -> Result<usize, NoMemory>
-    requires { IsFree entries.old index.old entry slot }
+    requires free { IsFree entries.old index.old entry slot }
+    requires onward { EdgesLeadOn entry }
     ensures number { IfOk result (λ n. n ≡ length entries.old) }
     ensures entries { OnOk result (entries.new ≡ entries.old ++ entry ∷ []) }
     ensures slots { OnOk result (index.new ≡ index.old ++ slot ∷ []) }

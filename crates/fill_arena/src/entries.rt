@@ -2,9 +2,10 @@
 ghost use Rattle.std.specs.Prelude.{◌≡◌, ℕ, ◌<◌, ◌≤◌, [], ◌∷◌, ◌++◌, length, take, slice_get, Some, OnOk, OnErr, MatchResult};
 ghost use Rattle.std.specs.Option.{unwrap_or};
 ghost use Rattle.fill_arena.specs.declared.entry.Entry.{Entry as Listed};
-ghost use Rattle.fill_arena.specs.Entries.{AreInPool, IsItems, entry_at, entry_of};
+ghost use Rattle.fill_arena.specs.Entries.{AreInPool, EdgesLeadOn, IsItems, entry_at, entry_of};
 
-use crate::entry::{AtomItem, Edge, Entry, SourceItem};
+use crate::entry::{AtomItem, Entry, SourceItem};
+use crate::order::Edges;
 use fill_pool::{Pool, PoolMark, Span};
 use fill_text::{List, NoMemory};
 use fill_tokens::Place;
@@ -18,7 +19,7 @@ pub(crate) enum Content<'a> {
     Places(&'a [Place]),
     Sources(&'a [SourceItem]),
     Atoms(&'a [AtomItem]),
-    Graph(usize, &'a [Edge]),
+    Graph(usize, &'a Edges),
 }
 
 /// What is kept under one number. A set of places is kept as its slice of the pool, and with it what the pool had
@@ -29,7 +30,7 @@ enum Kept {
     Sources(List<SourceItem>),
     Atom(AtomItem),
     Atoms(List<AtomItem>),
-    Graph(usize, List<Edge>),
+    Graph(usize, Edges),
 }
 
 /// Sets and graphs in the order of their numbers. The sets of places are the slices of one pool.
@@ -84,12 +85,13 @@ impl Entries {
             Kept::Sources(items) => Content::Sources(items.as_slice()),
             Kept::Atom(item) => Content::Atoms(slice::from_ref(item)),
             Kept::Atoms(items) => Content::Atoms(items.as_slice()),
-            Kept::Graph(nodes, edges) => Content::Graph(*nodes, edges.as_slice()),
+            Kept::Graph(nodes, edges) => Content::Graph(*nodes, edges),
         }
     }
 
     /// Puts an entry at the end.
     pub(crate) fn push(&mut self, entry: Entry) -> Result<(), NoMemory>
+        requires { EdgesLeadOn entry }
         ensures ok { OnOk result (self.new ≡ self.old ++ entry ∷ []) }
         ensures err { OnErr result (self.new ≡ self.old) }
     {
@@ -97,7 +99,10 @@ impl Entries {
             Entry::Places(places) => self.push_places(places.as_slice()),
             Entry::Sources(items) => self.push_items(Kept::Sources(items)),
             Entry::Atoms(items) => self.push_atoms(items),
-            Entry::Graph(nodes, edges) => self.push_items(Kept::Graph(nodes, edges)),
+            Entry::Graph(nodes, edges) => {
+                let edges = Edges::new(self.alloc(), nodes, edges)?;
+                self.push_items(Kept::Graph(nodes, edges))
+            }
         }
     }
 

@@ -17,8 +17,10 @@ mod index;
 pub mod laws;
 mod marks;
 mod numbers;
+mod order;
 mod renumber;
 mod same;
+mod sized;
 
 pub use arena::Arena;
 pub use entry::{AtomItem, ConditionItem, Edge, Entry, SelectItem, SourceItem};

@@ -84,7 +84,7 @@ fn mark_entry(content: Content<'_>, marks: &mut [bool])
         Content::Places(_) => {}
         Content::Sources(items) => mark_sources(items, marks),
         Content::Atoms(items) => mark_atoms(items, marks),
-        Content::Graph(_, edges) => mark_edges(edges, marks),
+        Content::Graph(_, edges) => mark_edges(edges.as_slice(), marks),
     }
 }
 

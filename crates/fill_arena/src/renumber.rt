@@ -30,7 +30,7 @@ pub(crate) fn renumber_entry(
         }
         Content::Atoms(items) => Ok(Entry::Atoms(renumber_atoms(alloc, table, items)?)),
         Content::Graph(nodes, edges) => {
-            let made = renumber_edges(alloc, table, edges)?;
+            let made = renumber_edges(alloc, table, edges.as_slice())?;
             Ok(Entry::Graph(nodes, made))
         }
     }

@@ -20,7 +20,7 @@ pub(crate) fn same_entry(a: Content<'_>, b: &Entry) -> bool
             if m != *n {
                 return false;
             }
-            same_edges(xs, ys.as_slice())
+            same_edges(xs.as_slice(), ys.as_slice())
         }
         _ => false,
     }

@@ -9,12 +9,11 @@ use Rattle.fill_tree.specs.Order.{atom_cmp, atoms_cmp}
 use Rattle.fill_tree.specs.Tree.{AtomTree, Atoms, constant, whole, sub, end, more}
 use Rattle.fill_tree.proofs.TreeOrder.{atom_total, atoms_total, exact_atoms, exact_atom_lists}
 use Rattle.fill_arena.specs.Contents.{EachIn}
-use Rattle.fill_arena.specs.Stands.{AtomFits, AtomStands, ConditionFits, ConditionsFit}
+use Rattle.fill_arena.specs.Stands.{AtomFits, AtomStands, ConditionFits, ConditionsFit, PartStands}
 use Rattle.fill_arena.specs.WellMade.{IsWellMade, IsConditionItem}
 use Rattle.fill_arena.specs.declared.entry.ConditionItem.{ConditionItem}
 use Rattle.fill_arena.specs.declared.entry.Entry.{Entry}
 use Rattle.fill_arena.proofs.Costs.{row_present}
-use Rattle.fill_rank.specs.Sets.{PartStands}
 use Rattle.fill_best.specs.Cheapest.{Priced, AreCheapest}
 use Rattle.fill_best.specs.Costs.{by_cost, linked}
 use Rattle.fill_best.specs.First.{AreFirst, IsMade}

@@ -13,7 +13,7 @@ use Rattle.fill_tree.specs.Order.{source_cmp, atom_cmp, atoms_cmp}
 use Rattle.fill_tree.specs.Tree.{SourceTree, AtomTree, Atoms, col, select, constant, whole, sub}
 use Rattle.fill_tree.proofs.TreeOrder.{source_total, exact_sources, atom_total, exact_atoms, atoms_total}
 use Rattle.fill_arena.specs.Contents.{In, SomeIn}
-use Rattle.fill_arena.specs.Stands.{AtomStands, ConditionsFit, PlaceStands, SourceFits, SourceStands}
+use Rattle.fill_arena.specs.Stands.{AtomStands, ConditionsFit, PlaceStands, SourceFits, SourceStands, ConstantFits, PartFits, PartStands}
 use Rattle.fill_arena.specs.WellMade.{IsWellMade, IsAtomItem, IsSelectItem}
 use Rattle.fill_arena.specs.declared.entry.AtomItem.{AtomItem}
 use Rattle.fill_arena.specs.declared.entry.AtomItem.TheVariants.{Const, Whole, Sub}
@@ -22,8 +22,7 @@ use Rattle.fill_arena.specs.declared.entry.Entry.TheVariants.{Places, Atoms as k
 use Rattle.fill_arena.specs.declared.entry.SelectItem.{SelectItem}
 use Rattle.fill_arena.specs.declared.entry.SourceItem.TheVariants.{Col, Select}
 use Rattle.fill_arena.proofs.Costs.{atom_item_present, place_in, source_item_present}
-use Rattle.fill_rank.specs.Sets.{ConstantFits, PartFits, PartStands}
-use Rattle.fill_rank.proofs.Stand.{atom_items, items_atom}
+use Rattle.fill_arena.proofs.Stand.{atom_items, items_atom}
 use Rattle.fill_best.specs.Cheapest.{Priced, AreCheapest}
 use Rattle.fill_best.specs.Costs.{by_cost, linked}
 use Rattle.fill_best.specs.First.{AreFirst, IsMade}

@@ -6,8 +6,8 @@ use Rattle.std.specs.declared.cmp.Ordering.{Ordering}
 use Rattle.std.specs.Ordering.{ordering_then}
 use Rattle.std.proofs.lemmas.Map.Lookups.{CmpEqualImpliesEq}
 use Rattle.fill_arena.specs.Contents.{SomeIn}
-use Rattle.fill_rank.specs.Sets.{SomeBelow}
-use Rattle.fill_rank.proofs.Scan.{none_below, below_split, below_left, below_here, some_below, some_in}
+use Rattle.fill_arena.specs.Contents.{SomeBelow}
+use Rattle.fill_arena.proofs.Below.{none_below, below_split, below_left, below_here, some_below, some_in}
 use Rattle.fill_best.specs.Cheapest.{Priced, AreCheapest, TakesIn}
 use Rattle.fill_best.specs.Costs.{by_cost, linked}
 use Rattle.fill_best.specs.First.{Rises, AreFirst, IsMade}

@@ -1,5 +1,5 @@
 -- The first rests of programs, one edge after the other from the back.
-use Rattle.std.proofs.Common.{◌≡◌, ◌≢◌, ◌⊎◌, ℕ, zero, suc, ◌+◌, ◌-◌, ◌<◌, ◌≤◌, ◌^◌, List, [], ◌∷◌, ◌++◌, length, map, Some, slice_get, Vec, Global, inl, inr, refl, ap, sym, subst, ◌∙◌, arith}
+use Rattle.std.proofs.Common.{◌≡◌, ◌≢◌, ◌⊎◌, ◌↔◌, ℕ, ◌+◌, ◌-◌, ◌<◌, ◌≤◌, ◌^◌, List, [], ◌∷◌, ◌++◌, length, map, Some, slice_get, Vec, Global, inl, inr, refl, ap, sym, subst, ◌∙◌, arith}
 use Rattle.std.specs.Prelude.{Contains}
 use Rattle.std.specs.Ordering.{nat_cmp, ordering_then}
 use Rattle.std.proofs.lemmas.Bool.{cases_eq}
@@ -8,13 +8,12 @@ use Rattle.fill_tree.specs.Cost.{atom_cost, program_cost}
 use Rattle.fill_tree.specs.Order.{atom_cmp, atoms_cmp, program_cmp}
 use Rattle.fill_tree.specs.Tree.{AtomTree, Atoms, end, more}
 use Rattle.fill_tree.proofs.TreeOrder.{atom_total, atoms_total, exact_atom_lists}
-use Rattle.fill_arena.specs.Contents.{In}
-use Rattle.fill_arena.specs.Stands.{AtomStands, ProgramStands, Walks}
+use Rattle.fill_arena.specs.Stands.{AtomStands, ProgramStands, Walks, WalksAreCheap}
 use Rattle.fill_arena.specs.declared.entry.Edge.{Edge}
 use Rattle.fill_arena.specs.declared.entry.Entry.{Entry}
-use Rattle.fill_arena.specs.declared.entry.Entry.TheVariants.{Graph}
+use Rattle.fill_arena.proofs.Edges.{in_rest, no_walk, onward, walks_back, walks_more}
 use Rattle.fill_arena.proofs.Lists.{get_pushed}
-use Rattle.fill_rank.specs.Sets.{IsFirstEdge, WalksAreCheap}
+use Rattle.fill_arena.specs.WellMade.{IsFirstEdge}
 use Rattle.fill_best.specs.Cheapest.{Priced, AreCheapest}
 use Rattle.fill_best.specs.Costs.{by_cost, linked}
 use Rattle.fill_best.specs.First.{AreFirst, IsMade}
@@ -27,20 +26,12 @@ abbrev pub free : Atoms → Costed Atoms
 free p = record { cost = 0; item = p }
 
 module _ (prices : Prices) (c : List Entry) (e : Edge) (rest : List Edge) (last : ℕ) where
-  in_rest : (k : ℕ) (f : Edge) → slice_get (e ∷ rest) k ≡ Some f → (e ≡ f) ⊎ In f rest
-  in_rest zero f h = inl cc
-  in_rest (suc k) f h = inr (k, h)
-
-  walks_more : (p : Atoms) (at : ℕ) → Walks p c rest last at → Walks p c (e ∷ rest) last at
-  walks_more end at h = h
-  walks_more (more a q) at h = (h.0, (suc h.1.0, h.1.1), (h.2.0, h.2.1, walks_more q h.0.to h.2.2))
-
   -- what the edge leads to: one of its atoms and then a walk from where it ends
   abbrev Along : Atoms → Type 0
   Along = IsMade more (AtomStands c e.atoms) (λ q. Walks q c rest last e.to)
 
   walk_along : (p : Atoms) → Along p → Walks p c (e ∷ rest) last e.from
-  walk_along p h = subst (λ q. Walks q c (e ∷ rest) last e.from) h.4 (e, (0, refl), (refl, h.2, walks_more h.1 e.to h.3))
+  walk_along p h = subst (λ q. Walks q c (e ∷ rest) last e.from) h.4 (e, (0, refl), (refl, h.2, walks_more c e rest last h.1 e.to h.3))
 
   adds : (a : AtomTree) (q : Atoms) → AtomStands c e.atoms a → Walks q c rest last e.to → program_cost prices (more a q) ≡ prices.atom + atom_cost prices a + program_cost prices q
   adds a q h w = omega arith
@@ -53,24 +44,14 @@ module _ (prices : Prices) (c : List Entry) (e : Edge) (rest : List Edge) (last 
         (λ p h. cheap p e.from (walk_along p h))
 
     module _ (first : IsFirstEdge e rest) where
-      walks_back : (p : Atoms) (at : ℕ) → at ≢ e.from → Walks p c (e ∷ rest) last at → Walks p c rest last at
-      walks_back end at apart h = h
-      walks_back (more a q) at apart h = elim (in_rest h.1.0 h.0 h.1.1) [
-        | inl same ↦ absurd (apart (sym (subst (λ f. f.from ≡ at) (sym same) h.2.0)))
-        | inr there ↦ (h.0, there, (h.2.0, h.2.1, walks_back q h.0.to (first.never_back h.0 there) h.2.2))
-      ]
-
-      onward : e.to ≢ e.from
-      onward same = let lt = first.onward in absurd (omega arith)
-
       walk_splits : (p : Atoms) → Walks p c (e ∷ rest) last e.from → Walks p c rest last e.from ⊎ Along p
       walk_splits end h = inl h
-      walk_splits (more a q) h = elim (in_rest h.1.0 h.0 h.1.1) [
+      walk_splits (more a q) h = elim (in_rest c e rest last h.1.0 h.0 h.1.1) [
         | inl same ↦
             let stands = subst (λ f. AtomStands c f.atoms a) (sym same) h.2.1 in
             let walk = subst (λ f. Walks q c (e ∷ rest) last f.to) (sym same) h.2.2 in
-            inr (a, q, stands, walks_back q e.to onward walk, refl)
-        | inr there ↦ inl (h.0, there, (h.2.0, h.2.1, walks_back q h.0.to (first.never_back h.0 there) h.2.2))
+            inr (a, q, stands, walks_back c e rest last first q e.to (onward c e rest last first) walk, refl)
+        | inr there ↦ inl (h.0, there, (h.2.0, h.2.1, walks_back c e rest last first q h.0.to (first.never_back h.0 there) h.2.2))
       ]
 
       edge_first : (old new : List (Costed Atoms)) → AreCheapest (program_cost prices) atoms_cmp (λ p. Walks p c rest last e.from) k old →
@@ -81,7 +62,7 @@ module _ (prices : Prices) (c : List Entry) (e : Edge) (rest : List Edge) (last 
           first_of_made atom_cmp atoms_cmp atoms_cmp (atom_total, atoms_total, atoms_total) exact_atom_lists more (λ a b p q. refl) prices.atom (atom_cost prices) (program_cost prices) (program_cost prices)
           (AtomStands c e.atoms) (λ q. Walks q c rest last e.to) Along (λ a q h w. (a, q, h, w, refl)) (λ p h. h) adds k xs ys firsts seconds (Contains old) new made in
           takes_after (program_cost prices) atoms_cmp atoms_total exact_atom_lists k (λ p. Walks p c rest last e.from) Along (λ p. Walks p c (e ∷ rest) last e.from) old new
-          (λ p h. walks_more p e.from h) walk_along walk_splits before along
+          (λ p h. walks_more c e rest last p e.from h) walk_along walk_splits before along
 
       pub edge_step : (old new : List (Vec (Costed Atoms) Global)) (before made : Vec (Costed Atoms) Global) → AreFirstRests prices c rest last k old → slice_get old e.from ≡ Some before →
           AreFirst (by_cost atoms_cmp) (λ z. Contains before.items z ⊎ IsMade (linked more prices.atom) (Contains xs) (Contains ys) z) k made.items →
@@ -96,14 +77,11 @@ module _ (prices : Prices) (c : List Entry) (e : Edge) (rest : List Edge) (last 
               (subst (λ (v : Vec (Costed Atoms) Global). AreCheapest (program_cost prices) atoms_cmp (λ p. Walks p c (e ∷ rest) last e.from) k v.items) one result)
           | inr apart ↦
               cheapest_same (program_cost prices) atoms_cmp atoms_total exact_atom_lists k (λ p. Walks p c rest last n) (λ p. Walks p c (e ∷ rest) last n) o.items
-              (λ p h. walks_more p n h) (λ p h. walks_back p n apart h) (are.each n o (sym (others n apart) ∙ there))
+              (λ p h. walks_more c e rest last p n h) (λ p h. walks_back c e rest last first p n apart h) (are.each n o (sym (others n apart) ∙ there))
         ];
       }
 
 -- without edges
-no_walk : (c : List Entry) (a : AtomTree) (q : Atoms) (last at : ℕ) → ¬ (Walks (more a q) c [] last at)
-no_walk c a q last at h = let there = h.1.1 in cc
-
 pub rests_start : (prices : Prices) (c : List Entry) (k : ℕ) (xs : List (Vec (Costed Atoms) Global)) (x : Vec (Costed Atoms) Global) → 1 ≤ k →
     ((n : ℕ) (o : Vec (Costed Atoms) Global) → slice_get xs n ≡ Some o → o.items ≡ []) → x.items ≡ free end ∷ [] → AreFirstRests prices c [] (length xs) k (xs ++ x ∷ [])
 rests_start prices c k xs x some none is = record {
@@ -128,15 +106,10 @@ rests_start prices c k xs x some none is = record {
 same_order : (prices : Prices) (x y : Costed Atoms) → x.cost ≡ program_cost prices x.item → y.cost ≡ program_cost prices y.item → by_cost atoms_cmp x y ≡ program_cmp prices x.item y.item
 same_order prices x y p q = ap (λ n. ordering_then (nat_cmp n y.cost) (atoms_cmp x.item y.item)) p ∙ ap (λ n. ordering_then (nat_cmp (program_cost prices x.item) n) (atoms_cmp x.item y.item)) q
 
-pub first_stand : (prices : Prices) (c : List Entry) (g nodes k : ℕ) (edges : List Edge) (xs : List (Costed Atoms)) → slice_get c g ≡ Some (Graph nodes edges) →
+pub first_stand : (prices : Prices) (c : List Entry) (g nodes k : ℕ) (edges : List Edge) (xs : List (Costed Atoms)) → ((p : Atoms) → ProgramStands c g p ↔ Walks p c edges (nodes - 1) 0) →
     AreCheapest (program_cost prices) atoms_cmp (λ p. Walks p c edges (nodes - 1) 0) k xs → AreFirst (program_cmp prices) (ProgramStands c g) k (map (λ x. x.item) xs)
-first_stand prices c g nodes k edges xs is first =
+first_stand prices c g nodes k edges xs same first =
     first_seen (by_cost atoms_cmp) (program_cmp prices) (λ x. x.item) (Priced (program_cost prices) (λ p. Walks p c edges (nodes - 1) 0)) (ProgramStands c g)
-    (λ x p. (nodes, edges, is, p.1))
-    (λ p h.
-    let there = h.2 in
-    let n : h.0 ≡ nodes = cc in
-    let es : h.1 ≡ edges = cc in
-    let walk = subst (λ m. Walks p c edges (m - 1) 0) n (subst (λ l. Walks p c l (h.0 - 1) 0) es h.3) in
-    (record { cost = program_cost prices p; item = p }, (refl, walk), refl))
+    (λ x p. (same x.item).1 p.1)
+    (λ p h. (record { cost = program_cost prices p; item = p }, (refl, (same p).0 h), refl))
     (λ x y p q less. sym (same_order prices x y p.0 q.0) ∙ less) k xs first

@@ -1,7 +1,7 @@
 pub mod Cheapest
 pub mod Costs
 pub mod First
-pub mod Known
+pub mod Memo
 pub mod Parts
 pub mod Rests
 pub mod Rows

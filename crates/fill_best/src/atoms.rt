@@ -4,18 +4,17 @@ ghost use Rattle.fill_tree.specs.Cost.{atom_cost};
 ghost use Rattle.fill_tree.specs.Order.{atom_cmp};
 ghost use Rattle.fill_tree.specs.Tree.{constant};
 ghost use Rattle.fill_arena.specs.Contents.{EachIn, IsAtomSet, SomeIn};
-ghost use Rattle.fill_arena.specs.Stands.{AtomStands};
+ghost use Rattle.fill_arena.specs.Stands.{AtomStands, ConstantFits};
 ghost use Rattle.fill_arena.specs.WellMade.{IsAtomItem};
 ghost use Rattle.fill_arena.specs.declared.entry.Entry.{Entry};
-ghost use Rattle.fill_rank.specs.Sets.{ConstantFits};
 ghost use Rattle.fill_best.specs.Cheapest.{AreCheapest, TakesIn};
 ghost use Rattle.fill_best.specs.Costs.{by_cost};
 ghost use Rattle.fill_best.specs.First.{Rises};
-ghost use Rattle.fill_best.specs.Known.{AreKnown};
+ghost use Rattle.fill_best.specs.Memo.{IsMemoOf};
 
 use crate::costed::Costed;
 use crate::first::put;
-use crate::known::{Found, Known};
+use crate::memo::{Found, Memo};
 use crate::plain::PlainAtom;
 use crate::sets::scan_parts;
 use fill_arena::{Arena, AtomItem, AtomSet};
@@ -87,23 +86,23 @@ pub(crate) fn atoms_of(
     prices: &Prices,
     arena: &Arena,
     limit: usize,
-    known: &mut Known,
+    memo: &mut Memo,
     s: AtomSet,
 ) -> Result<Found<PlainAtom>, NoMemory>
     requires set { IsAtomSet arena.now s }
     requires some { 1 ≤ limit }
-    requires known { AreKnown prices.now arena.now limit known.old }
-    ensures known { OnOk result (AreKnown prices.now arena.now limit known.new) }
+    requires memo { IsMemoOf prices.now arena.now limit memo.old }
+    ensures memo { OnOk result (IsMemoOf prices.now arena.now limit memo.new) }
     ensures first { IfOk result (λ found. AreCheapest (atom_cost prices.now) atom_cmp (AtomStands arena.now s) limit found.value.items) }
 {
-    if let Some(found) = known.atoms(s) {
+    if let Some(found) = memo.atoms(s) {
         return Ok(found.clone()?);
     }
     arena.keeps_made();
     prices.keep_small();
-    let mut kept = scan_parts(alloc, prices, arena, limit, known, s)?;
+    let mut kept = scan_parts(alloc, prices, arena, limit, memo, s)?;
     put_constants(prices, limit, arena.atoms(s), &mut kept)?;
     let found = Rc::new(alloc, kept)?;
-    known.keep_atoms(s, found.clone()?)?;
+    memo.keep_atoms(s, found.clone()?)?;
     Ok(found)
 }

@@ -4,18 +4,18 @@ ghost use Rattle.fill_tokens.specs.declared.prices.Prices.{Prices as Table};
 ghost use Rattle.fill_tree.specs.Meaning.{program_tree};
 ghost use Rattle.fill_tree.specs.Order.{program_cmp};
 ghost use Rattle.fill_arena.specs.Contents.{IsAtomSet, IsGraph};
-ghost use Rattle.fill_arena.specs.Stands.{ProgramStands};
+ghost use Rattle.fill_arena.specs.Stands.{ProgramStands, WalksAreCheap};
 ghost use Rattle.fill_arena.specs.declared.entry.Edge.{Edge as Listed};
 ghost use Rattle.fill_arena.specs.declared.entry.Entry.{Entry};
-ghost use Rattle.fill_rank.specs.Sets.{IsFirstEdge, WalksAreCheap};
+ghost use Rattle.fill_arena.specs.WellMade.{IsFirstEdge};
 ghost use Rattle.fill_best.specs.First.{AreFirst};
-ghost use Rattle.fill_best.specs.Known.{AreKnown};
+ghost use Rattle.fill_best.specs.Memo.{IsMemoOf};
 ghost use Rattle.fill_best.specs.Rests.{AreFirstRests};
 
 use crate::atoms::atoms_of;
 use crate::costed::Costed;
 use crate::first::put_products;
-use crate::known::Known;
+use crate::memo::Memo;
 use crate::plain::PlainAtoms;
 use fill_arena::{Arena, Edge, GraphId};
 use fill_text::{List, NoMemory};
@@ -25,8 +25,7 @@ use std::mem;
 
 /// The first `k` programs that stand in a graph, by the prices and the order of programs; all of them where they are fewer.
 ///
-/// The edges into a node stand before those out of it. So going over the edges from the back, all that lead on from
-/// where an edge ends are done, and a table of each node's first rests of programs is enough.
+/// It goes over the edges in a topological order, from the back. So all that lead on from where an edge ends are done, and a table of each node's first rests of programs is enough.
 pub fn best(
     alloc: Global,
     prices: &Prices,
@@ -42,9 +41,9 @@ pub fn best(
     arena.keeps_made();
     prices.keep_small();
     let limit = k as usize;
-    let edges = arena.edges(g);
+    let edges = arena.sorted_edges(g);
     let mut rests = no_edges(alloc, arena.nodes(g))?;
-    let mut known = Known::new(alloc);
+    let mut memo = Memo::new(alloc);
     let mut left = edges.len();
     while left > 0 {
         left -= 1;
@@ -53,7 +52,7 @@ pub fn best(
             prices,
             arena,
             limit,
-            &mut known,
+            &mut memo,
             &mut rests,
             edges[left],
         )?;
@@ -86,7 +85,7 @@ fn take_edge(
     prices: &Prices,
     arena: &Arena,
     limit: usize,
-    known: &mut Known,
+    memo: &mut Memo,
     rests: &mut Vec<Vec<Costed<PlainAtoms>>>,
     edge: Edge,
 ) -> Result<(), NoMemory>
@@ -94,14 +93,14 @@ fn take_edge(
     requires some { 1 ≤ limit }
     requires onward { edge.from < edge.to }
     requires within { edge.to < length rests.old.items }
-    requires known { AreKnown prices.now arena.now limit known.old }
+    requires memo { IsMemoOf prices.now arena.now limit memo.old }
     requires cheap { (others : Items Listed) × (last : ℕ) × AreFirstRests prices.now arena.now others last limit rests.old.items × WalksAreCheap prices.now arena.now (edge ∷ others) last }
-    ensures known { OnOk result (AreKnown prices.now arena.now limit known.new) }
+    ensures memo { OnOk result (IsMemoOf prices.now arena.now limit memo.new) }
     ensures length { length rests.new.items ≡ length rests.old.items }
     ensures first { OnOk result ((others : Items Listed) (last : ℕ) → IsFirstEdge edge others →
         AreFirstRests prices.now arena.now others last limit rests.old.items → AreFirstRests prices.now arena.now (edge ∷ others) last limit rests.new.items) }
 {
-    let atoms = atoms_of(alloc, prices, arena, limit, known, edge.atoms)?;
+    let atoms = atoms_of(alloc, prices, arena, limit, memo, edge.atoms)?;
     let mut kept = mem::replace(&mut rests[edge.from], Vec::new(alloc));
     put_products(
         alloc,

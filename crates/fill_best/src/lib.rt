@@ -9,7 +9,7 @@ mod atoms;
 mod costed;
 mod first;
 mod graph;
-mod known;
+mod memo;
 mod parts;
 mod places;
 mod plain;

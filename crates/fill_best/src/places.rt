@@ -7,13 +7,13 @@ ghost use Rattle.fill_arena.specs.Contents.{In, IsPlaceSet};
 ghost use Rattle.fill_arena.specs.Stands.{PlaceStands};
 ghost use Rattle.fill_arena.specs.declared.entry.Entry.{Entry};
 ghost use Rattle.fill_best.specs.Cheapest.{AreCheapest};
-ghost use Rattle.fill_best.specs.Known.{AreKnown};
+ghost use Rattle.fill_best.specs.Memo.{IsMemoOf};
 ghost use Rattle.fill_best.specs.Parts.{BoundsStand, bounds_cmp, bounds_cost};
 ghost use Rattle.fill_best.specs.declared.costed.Costed.{Costed as Cost};
 
 use crate::costed::Costed;
 use crate::first::{put, put_products};
-use crate::known::{Found, Known};
+use crate::memo::{Found, Memo};
 use crate::parts::Bounds;
 use fill_arena::{Arena, PlaceSet};
 use fill_text::NoMemory;
@@ -47,19 +47,19 @@ pub(crate) fn places_of(
     prices: &Prices,
     arena: &Arena,
     limit: usize,
-    known: &mut Known,
+    memo: &mut Memo,
     s: PlaceSet,
 ) -> Result<Found<Place>, NoMemory>
     requires set { IsPlaceSet arena.now s }
-    requires known { AreKnown prices.now arena.now limit known.old }
-    ensures known { OnOk result (AreKnown prices.now arena.now limit known.new) }
+    requires memo { IsMemoOf prices.now arena.now limit memo.old }
+    ensures memo { OnOk result (IsMemoOf prices.now arena.now limit memo.new) }
     ensures first { IfOk result (λ found. AreCheapest (place_cost prices.now) place_cmp (PlaceStands arena.now s) limit found.value.items) }
 {
-    if let Some(found) = known.places(s) {
+    if let Some(found) = memo.places(s) {
         return Ok(found.clone()?);
     }
     let found = Rc::new(alloc, first_places(alloc, prices, limit, arena.places(s))?)?;
-    known.keep_places(s, found.clone()?)?;
+    memo.keep_places(s, found.clone()?)?;
     Ok(found)
 }
 

@@ -6,7 +6,7 @@ ghost use Rattle.fill_tree.specs.Tree.{col, constant, more};
 
 use crate::costed::{Made, Ordered};
 use crate::parts::{Bounds, Target, WholeText};
-use fill_text::{List, NoMemory, Text};
+use fill_text::{NoMemory, Text};
 use fill_tree::{Atom, Prices, Program, Select, Source};
 use std::alloc::Global;
 use std::cmp::Ordering;
@@ -99,9 +99,8 @@ impl PlainAtoms {
     pub fn none(alloc: Global) -> PlainAtoms
         ensures { result ≡ end }
     {
-        let atoms = List::new(alloc);
         PlainAtoms {
-            program: Program { atoms },
+            program: Program::empty(alloc),
         }
     }
 
@@ -212,18 +211,6 @@ impl Made<Target, PlainAtoms> for PlainSource {
     ghost by_parts = { lookup_by_parts };
 }
 
-/// The atom and then the other atoms.
-fn followed_by(alloc: Global, atom: &Atom, rest: &Program) -> Result<Program, NoMemory>
-    ensures { IfOk result (λ made. program_tree made ≡ more (atom_tree atom.now) (program_tree rest.now)) }
-{
-    let mut atoms = List::new(alloc);
-    atoms.push(atom.copy(alloc)?)?;
-    for next in rest.atoms.as_slice() {
-        atoms.push(next.copy(alloc)?)?;
-    }
-    Ok(Program { atoms })
-}
-
 impl Made<PlainAtom, PlainAtoms> for PlainAtoms {
     ghost use Rattle.std.specs.Prelude.{refl};
     ghost use Rattle.fill_tree.specs.Tree.{more};
@@ -232,7 +219,7 @@ impl Made<PlainAtom, PlainAtoms> for PlainAtoms {
 
     fn make(alloc: Global, first: &PlainAtom, second: &PlainAtoms) -> Result<PlainAtoms, NoMemory> {
         Ok(PlainAtoms {
-            program: followed_by(alloc, &first.atom, &second.program)?,
+            program: second.program.with_first(alloc, &first.atom)?,
         })
     }
 

@@ -6,19 +6,18 @@ ghost use Rattle.std.specs.Prelude.{◌≤◌, ◌∷◌, length, List as Items,
 ghost use Rattle.fill_tree.specs.Cost.{atom_cost, source_cost};
 ghost use Rattle.fill_tree.specs.Order.{atom_cmp, source_cmp};
 ghost use Rattle.fill_arena.specs.Contents.{EachIn, IsAtomSet, IsSourceSet};
-ghost use Rattle.fill_arena.specs.Stands.{SourceFits, SourceStands};
+ghost use Rattle.fill_arena.specs.Stands.{SourceFits, SourceStands, PartFits, PartStands};
 ghost use Rattle.fill_arena.specs.WellMade.{IsAtomItem, IsConditionItem, IsSelectItem, IsSourceItem};
 ghost use Rattle.fill_arena.specs.declared.entry.ConditionItem.{ConditionItem as Listed};
-ghost use Rattle.fill_rank.specs.Sets.{PartFits, PartStands};
 ghost use Rattle.fill_best.specs.Cheapest.{AreCheapest, TakesIn};
 ghost use Rattle.fill_best.specs.Costs.{by_cost};
 ghost use Rattle.fill_best.specs.First.{Rises};
-ghost use Rattle.fill_best.specs.Known.{AreKnown};
+ghost use Rattle.fill_best.specs.Memo.{IsMemoOf};
 ghost use Rattle.fill_best.specs.Rows.{AreFirstParts, AreFirstRows};
 
 use crate::costed::Costed;
 use crate::first::{put, put_products};
-use crate::known::{Found, Known};
+use crate::memo::{Found, Memo};
 use crate::parts::{Target, WholeText};
 use crate::places::{bounds_of, places_of};
 use crate::plain::{PlainAtom, PlainSource};
@@ -36,20 +35,20 @@ fn sources_of(
     prices: &Prices,
     arena: &Arena,
     limit: usize,
-    known: &mut Known,
+    memo: &mut Memo,
     s: SourceSet,
 ) -> Result<Found<PlainSource>, NoMemory>
     requires set { IsSourceSet arena.now s }
     requires some { 1 ≤ limit }
-    requires known { AreKnown prices.now arena.now limit known.old }
-    ensures known { OnOk result (AreKnown prices.now arena.now limit known.new) }
+    requires memo { IsMemoOf prices.now arena.now limit memo.old }
+    ensures memo { OnOk result (IsMemoOf prices.now arena.now limit memo.new) }
     ensures first { IfOk result (λ found. AreCheapest (source_cost prices.now) source_cmp (SourceStands arena.now s) limit found.value.items) }
 {
-    if let Some(found) = known.sources(s) {
+    if let Some(found) = memo.sources(s) {
         return Ok(found.clone()?);
     }
-    let found = Rc::new(alloc, scan_sources(alloc, prices, arena, limit, known, s)?)?;
-    known.keep_sources(s, found.clone()?)?;
+    let found = Rc::new(alloc, scan_sources(alloc, prices, arena, limit, memo, s)?)?;
+    memo.keep_sources(s, found.clone()?)?;
     Ok(found)
 }
 
@@ -59,13 +58,13 @@ fn scan_sources(
     prices: &Prices,
     arena: &Arena,
     limit: usize,
-    known: &mut Known,
+    memo: &mut Memo,
     s: SourceSet,
 ) -> Result<Vec<Costed<PlainSource>>, NoMemory>
     requires set { IsSourceSet arena.now s }
     requires some { 1 ≤ limit }
-    requires known { AreKnown prices.now arena.now limit known.old }
-    ensures known { OnOk result (AreKnown prices.now arena.now limit known.new) }
+    requires memo { IsMemoOf prices.now arena.now limit memo.old }
+    ensures memo { OnOk result (IsMemoOf prices.now arena.now limit memo.new) }
     ensures first { IfOk result (λ kept. AreCheapest (source_cost prices.now) source_cmp (SourceStands arena.now s) limit kept.items) }
 {
     arena.keeps_made();
@@ -73,7 +72,7 @@ fn scan_sources(
     let items = arena.sources(s);
     let mut kept = Vec::new(alloc);
     for item in items {
-        put_source(alloc, prices, arena, limit, known, s, item, &mut kept)?;
+        put_source(alloc, prices, arena, limit, memo, s, item, &mut kept)?;
     }
     Ok(kept)
 }
@@ -85,7 +84,7 @@ fn put_source(
     prices: &Prices,
     arena: &Arena,
     limit: usize,
-    known: &mut Known,
+    memo: &mut Memo,
     set: SourceSet,
     item: &SourceItem,
     kept: &mut Vec<Costed<PlainSource>>,
@@ -94,8 +93,8 @@ fn put_source(
     requires some { 1 ≤ limit }
     requires rising { Rises (by_cost source_cmp) kept.old.items }
     requires few { length kept.old.items ≤ limit }
-    requires known { AreKnown prices.now arena.now limit known.old }
-    ensures known { OnOk result (AreKnown prices.now arena.now limit known.new) }
+    requires memo { IsMemoOf prices.now arena.now limit memo.old }
+    ensures memo { OnOk result (IsMemoOf prices.now arena.now limit memo.new) }
     ensures first { OnOk result (TakesIn (source_cost prices.now) source_cmp (λ x. SourceFits x arena.now item.now) limit kept.old.items kept.new.items) }
 {
     match item {
@@ -108,7 +107,7 @@ fn put_source(
             Ok(())
         }
         SourceItem::Select(listed) => put_lookups(
-            alloc, prices, arena, limit, known, set, listed, kept,
+            alloc, prices, arena, limit, memo, set, listed, kept,
         ),
     }
 }
@@ -120,7 +119,7 @@ fn put_lookups(
     prices: &Prices,
     arena: &Arena,
     limit: usize,
-    known: &mut Known,
+    memo: &mut Memo,
     set: SourceSet,
     item: &SelectItem,
     kept: &mut Vec<Costed<PlainSource>>,
@@ -129,8 +128,8 @@ fn put_lookups(
     requires some { 1 ≤ limit }
     requires rising { Rises (by_cost source_cmp) kept.old.items }
     requires few { length kept.old.items ≤ limit }
-    requires known { AreKnown prices.now arena.now limit known.old }
-    ensures known { OnOk result (AreKnown prices.now arena.now limit known.new) }
+    requires memo { IsMemoOf prices.now arena.now limit memo.old }
+    ensures memo { OnOk result (IsMemoOf prices.now arena.now limit memo.new) }
     ensures first { OnOk result (TakesIn (source_cost prices.now) source_cmp (λ x. SourceFits x arena.now (SourceItem.Select item.now)) limit kept.old.items kept.new.items) }
 {
     let rows = rows_of(
@@ -138,7 +137,7 @@ fn put_lookups(
         prices,
         arena,
         limit,
-        known,
+        memo,
         set,
         item.conditions.as_slice(),
     )?;
@@ -170,22 +169,22 @@ fn rows_of(
     prices: &Prices,
     arena: &Arena,
     limit: usize,
-    known: &mut Known,
+    memo: &mut Memo,
     set: SourceSet,
     items: &[ConditionItem],
 ) -> Result<Rows, NoMemory>
     requires items { EachIn (IsConditionItem arena.now set) items.now }
     requires short { length items.now ≤ 3 }
     requires some { 1 ≤ limit }
-    requires known { AreKnown prices.now arena.now limit known.old }
-    ensures known { OnOk result (AreKnown prices.now arena.now limit known.new) }
+    requires memo { IsMemoOf prices.now arena.now limit memo.old }
+    ensures memo { OnOk result (IsMemoOf prices.now arena.now limit memo.new) }
     ensures first { IfOk result (λ rows. AreFirstRows prices.now arena.now items.now limit rows) }
 {
     let mut rows = no_conditions(alloc, limit)?;
     let mut left = items.len();
     while left > 0 {
         left -= 1;
-        rows = longer_rows(alloc, prices, arena, limit, known, set, &items[left], rows)?;
+        rows = longer_rows(alloc, prices, arena, limit, memo, set, &items[left], rows)?;
     }
     Ok(rows)
 }
@@ -196,7 +195,7 @@ fn longer_rows(
     prices: &Prices,
     arena: &Arena,
     limit: usize,
-    known: &mut Known,
+    memo: &mut Memo,
     set: SourceSet,
     item: &ConditionItem,
     rows: Rows,
@@ -204,12 +203,12 @@ fn longer_rows(
     requires item { IsConditionItem arena.now set item.now }
     requires rows { (is : Items Listed) × EachIn (IsConditionItem arena.now set) (item.now ∷ is) × (length (item.now ∷ is) ≤ 3) × AreFirstRows prices.now arena.now is limit rows }
     requires some { 1 ≤ limit }
-    requires known { AreKnown prices.now arena.now limit known.old }
-    ensures known { OnOk result (AreKnown prices.now arena.now limit known.new) }
+    requires memo { IsMemoOf prices.now arena.now limit memo.old }
+    ensures memo { OnOk result (IsMemoOf prices.now arena.now limit memo.new) }
     ensures first { IfOk result (λ made. (is : Items Listed) → AreFirstRows prices.now arena.now is limit rows → AreFirstRows prices.now arena.now (item.now ∷ is) limit made) }
 {
     let constants = constants_of(alloc, prices, item)?;
-    let parts = conditions_of(alloc, prices, arena, limit, known, set, item)?;
+    let parts = conditions_of(alloc, prices, arena, limit, memo, set, item)?;
     arena.keeps_made();
     prices.keep_small();
     let fixed = constants.as_slice();
@@ -243,18 +242,18 @@ fn conditions_of(
     prices: &Prices,
     arena: &Arena,
     limit: usize,
-    known: &mut Known,
+    memo: &mut Memo,
     set: SourceSet,
     item: &ConditionItem,
 ) -> Result<Found<PlainAtom>, NoMemory>
     requires item { IsConditionItem arena.now set item.now }
     requires some { 1 ≤ limit }
-    requires known { AreKnown prices.now arena.now limit known.old }
-    ensures known { OnOk result (AreKnown prices.now arena.now limit known.new) }
+    requires memo { IsMemoOf prices.now arena.now limit memo.old }
+    ensures memo { OnOk result (IsMemoOf prices.now arena.now limit memo.new) }
     ensures first { IfOk result (λ found. AreFirstParts prices.now arena.now item.now limit found.value.items) }
 {
     match item.atoms {
-        Some(s) => parts_of(alloc, prices, arena, limit, known, s),
+        Some(s) => parts_of(alloc, prices, arena, limit, memo, s),
         None => Ok(Rc::new(alloc, Vec::new(alloc))?),
     }
 }
@@ -266,20 +265,20 @@ fn parts_of(
     prices: &Prices,
     arena: &Arena,
     limit: usize,
-    known: &mut Known,
+    memo: &mut Memo,
     s: AtomSet,
 ) -> Result<Found<PlainAtom>, NoMemory>
     requires set { IsAtomSet arena.now s }
     requires some { 1 ≤ limit }
-    requires known { AreKnown prices.now arena.now limit known.old }
-    ensures known { OnOk result (AreKnown prices.now arena.now limit known.new) }
+    requires memo { IsMemoOf prices.now arena.now limit memo.old }
+    ensures memo { OnOk result (IsMemoOf prices.now arena.now limit memo.new) }
     ensures first { IfOk result (λ found. AreCheapest (atom_cost prices.now) atom_cmp (PartStands arena.now s) limit found.value.items) }
 {
-    if let Some(found) = known.parts(s) {
+    if let Some(found) = memo.parts(s) {
         return Ok(found.clone()?);
     }
-    let found = Rc::new(alloc, scan_parts(alloc, prices, arena, limit, known, s)?)?;
-    known.keep_parts(s, found.clone()?)?;
+    let found = Rc::new(alloc, scan_parts(alloc, prices, arena, limit, memo, s)?)?;
+    memo.keep_parts(s, found.clone()?)?;
     Ok(found)
 }
 
@@ -289,13 +288,13 @@ pub(crate) fn scan_parts(
     prices: &Prices,
     arena: &Arena,
     limit: usize,
-    known: &mut Known,
+    memo: &mut Memo,
     s: AtomSet,
 ) -> Result<Vec<Costed<PlainAtom>>, NoMemory>
     requires set { IsAtomSet arena.now s }
     requires some { 1 ≤ limit }
-    requires known { AreKnown prices.now arena.now limit known.old }
-    ensures known { OnOk result (AreKnown prices.now arena.now limit known.new) }
+    requires memo { IsMemoOf prices.now arena.now limit memo.old }
+    ensures memo { OnOk result (IsMemoOf prices.now arena.now limit memo.new) }
     ensures first { IfOk result (λ kept. AreCheapest (atom_cost prices.now) atom_cmp (PartStands arena.now s) limit kept.items) }
 {
     arena.keeps_made();
@@ -303,7 +302,7 @@ pub(crate) fn scan_parts(
     let items = arena.atoms(s);
     let mut kept = Vec::new(alloc);
     for item in items {
-        put_parts(alloc, prices, arena, limit, known, s, item, &mut kept)?;
+        put_parts(alloc, prices, arena, limit, memo, s, item, &mut kept)?;
     }
     Ok(kept)
 }
@@ -315,7 +314,7 @@ fn put_parts(
     prices: &Prices,
     arena: &Arena,
     limit: usize,
-    known: &mut Known,
+    memo: &mut Memo,
     set: AtomSet,
     item: &AtomItem,
     kept: &mut Vec<Costed<PlainAtom>>,
@@ -324,8 +323,8 @@ fn put_parts(
     requires some { 1 ≤ limit }
     requires rising { Rises (by_cost atom_cmp) kept.old.items }
     requires few { length kept.old.items ≤ limit }
-    requires known { AreKnown prices.now arena.now limit known.old }
-    ensures known { OnOk result (AreKnown prices.now arena.now limit known.new) }
+    requires memo { IsMemoOf prices.now arena.now limit memo.old }
+    ensures memo { OnOk result (IsMemoOf prices.now arena.now limit memo.new) }
     ensures first { OnOk result (TakesIn (atom_cost prices.now) atom_cmp (PartFits arena.now item.now) limit kept.old.items kept.new.items) }
 {
     arena.keeps_made();
@@ -333,7 +332,7 @@ fn put_parts(
     match item {
         AtomItem::Const(_) => Ok(()),
         AtomItem::Whole(sources) => {
-            let found = sources_of(alloc, prices, arena, limit, known, *sources)?;
+            let found = sources_of(alloc, prices, arena, limit, memo, *sources)?;
             let whole = [Costed {
                 cost: 0,
                 item: WholeText,
@@ -348,9 +347,9 @@ fn put_parts(
             )
         }
         AtomItem::Sub(sources, lefts, rights) => {
-            let found = sources_of(alloc, prices, arena, limit, known, *sources)?;
-            let left = places_of(alloc, prices, arena, limit, known, *lefts)?;
-            let right = places_of(alloc, prices, arena, limit, known, *rights)?;
+            let found = sources_of(alloc, prices, arena, limit, memo, *sources)?;
+            let left = places_of(alloc, prices, arena, limit, memo, *lefts)?;
+            let right = places_of(alloc, prices, arena, limit, memo, *rights)?;
             let bounds = bounds_of(alloc, prices, limit, left.as_slice(), right.as_slice())?;
             put_products(
                 alloc,

@@ -82,7 +82,6 @@ module _ (on : OnRow) (out : List ℕ) (c : List Entry) (edges : List Edge) (s :
           short = λ from to path walk.
               (let old = trimmed.short from to path walk in
               subst (λ n. n ≤ 100) old.4 (few_edges few old.2 old.0 old.1 old.3));
-          ordered = trimmed.are.ordered;
         }
 
     are_walks : AreWalks on out c t

@@ -15,14 +15,16 @@ use Rattle.fill_arena.specs.Stands.{AtomFits}
 use Rattle.fill_arena.specs.WellMade.{IsAtomItem}
 use Rattle.fill_arena.specs.declared.entry.AtomItem.{AtomItem}
 use Rattle.fill_arena.specs.declared.entry.Entry.{Entry}
-use Rattle.fill_arena.proofs.Lists.{extends_on}
+use Rattle.fill_arena.proofs.Lists.{extends_on, extends_same}
 use Rattle.fill_sources.specs.Gives.{Gives}
 use Rattle.fill_sources.specs.declared.row.OnRow.{OnRow}
-use Rattle.fill_build.specs.Hits.{BeginAlike, AreHits}
-use Rattle.fill_build.specs.Pieces.{AddsAtoms, AreConstants, AreItemsOf, IsPiece, IsReadable, IsWithin, PieceAtom, ReadsBetween, ReadsHit, ReadsWhole, piece_rest, piece_text}
+use Rattle.fill_sources.specs.Readers.{AddsAtoms, IsReadable, ReadsBetween, ReadsSpot, ReadsWhole}
+use Rattle.fill_build.specs.Hits.{BeginAlike, AreHits, spot_of}
+use Rattle.fill_build.specs.Pieces.{AreConstants, AreItemsOf, IsPiece, IsWithin, PieceAtom, piece_rest, piece_text}
 use Rattle.fill_build.specs.declared.hits.Hit.{Hit}
 use Rattle.fill_build.specs.declared.piece.Piece.{Piece}
-use Rattle.fill_build.proofs.Lists.{here, piece_range, same_value}
+use Rattle.fill_build.proofs.Items.{item_stays}
+use Rattle.fill_build.proofs.Lists.{extends_length, here, piece_range, same_value}
 use Rattle.fill_build.proofs.Together.{together_there}
 
 -- a piece is as short as its text
@@ -40,7 +42,7 @@ IsConstant p a = (p.constant ≡ true) × (a ≡ constant (piece_text p))
 
 -- one of the first n hits is read
 abbrev pub ReadsSome : OnRow → List (List ℕ) → Piece → List Hit → ℕ → AtomTree → Type 0
-ReadsSome on texts p hits n a = (k : ℕ) × (h : Hit) × (k < n) × (slice_get hits k ≡ Some h) × ReadsHit on texts h p.width a
+ReadsSome on texts p hits n a = (k : ℕ) × (h : Hit) × (k < n) × (slice_get hits k ≡ Some h) × ReadsSpot on texts (spot_of h) p.width a
 
 -- items that stand for the constant and for what reads the first n hits
 pub record ItemsSoFar (on : OnRow) (texts : List (List ℕ)) (p : Piece) (hits : List Hit) (n : ℕ) (c : List Entry) (items : List AtomItem) : Type 0 where
@@ -58,11 +60,14 @@ module _ (on : OnRow) (texts : List (List ℕ)) (p : Piece) (hits : List Hit) wh
       }
 
   pub items_more : (b c : List Entry) → Extends b c → (n : ℕ) (h : Hit) → slice_get hits n ≡ Some h → (old new : List AtomItem) →
-      ItemsSoFar on texts p hits n b old → AddsAtoms b c old new (ReadsHit on texts h p.width) → ItemsSoFar on texts p hits (n + 1) c new
+      ItemsSoFar on texts p hits n b old → AddsAtoms c old new (ReadsSpot on texts (spot_of h) p.width) → ItemsSoFar on texts p hits (n + 1) c new
   items_more b c o n h at old new s put =
       record {
         scalars = s.scalars;
-        each = put.each s.each;
+        each = λ k x there. elim (put.each x (k, there)) [
+          | inl was ↦ item_stays b c o (length b) (length c) (extends_length b c o) x (s.each was.0 x was.1)
+          | inr is ↦ is c (extends_same c)
+        ];
         exact = λ d k a. (
           λ f. elim ((put.adds d k a).0 f) [
             | inl was ↦ elim ((s.exact d (extends_on b c d o k) a).0 was) [ inl one ↦ inl one | inr r ↦ let lt = r.2 in inr (r.0, r.1, omega arith, r.3, r.4) ]
@@ -75,7 +80,7 @@ module _ (on : OnRow) (texts : List (List ℕ)) (p : Piece) (hits : List Hit) wh
               | inr le ↦
                   let up = r.2 in
                   let same : r.0 ≡ n = omega arith in
-                  (put.adds d k a).1 (inr (subst (λ (z : Hit). ReadsHit on texts z p.width a) (same_value hits r.0 n r.1 h same r.3 at) r.4))
+                  (put.adds d k a).1 (inr (subst (λ (z : Hit). ReadsSpot on texts (spot_of z) p.width a) (same_value hits r.0 n r.1 h same r.3 at) r.4))
             ]
           ],
         );
@@ -103,7 +108,7 @@ module _ (on : OnRow) (texts : List (List ℕ)) (p : Piece) (hits : List Hit) wh
 
     -- what a hit that is listed says of its text
     module _ (k : ℕ) (h : Hit) (at : slice_get hits k ≡ Some h) where
-      pub readable : IsReadable texts h p.width
+      pub readable : IsReadable texts (spot_of h) p.width
       readable =
           let f = (right.exact h).0 (k, at) in
           let one = (f.0.2 p.width).1 f.1 in
@@ -127,14 +132,14 @@ module _ (on : OnRow) (texts : List (List ℕ)) (p : Piece) (hits : List Hit) wh
           let front : take p.width (drop 0 t) ≡ piece_text p = subst (λ n. take p.width (drop n t) ≡ piece_text p) start one.2 in
           sym (take_all p.width t (omega arith)) ∙ front
 
-      whole_gives : (a : AtomTree) → ReadsWhole on texts h p.width a → PieceAtom on (piece_text p) a
+      whole_gives : (a : AtomTree) → ReadsWhole on texts (spot_of h) p.width a → PieceAtom on (piece_text p) a
       whole_gives (constant u) r = absurd r
       whole_gives (whole x) r =
           let given = subst (λ v. Gives on v x) (whole_text r.0 r.1 r.3) r.2 in
           ((given.source, given.shallow), (given.value, filled))
       whole_gives (sub x l q) r = absurd r
 
-      between_gives : (a : AtomTree) → ReadsBetween on texts h p.width a → PieceAtom on (piece_text p) a
+      between_gives : (a : AtomTree) → ReadsBetween on texts (spot_of h) p.width a → PieceAtom on (piece_text p) a
       between_gives (constant u) r = absurd r
       between_gives (whole x) r = absurd r
       between_gives (sub x l q) r =
@@ -143,7 +148,7 @@ module _ (on : OnRow) (texts : List (List ℕ)) (p : Piece) (hits : List Hit) wh
           let piece : piece_text p ≡ slice_range r.0 h.at (h.at + p.width) = sym (alike r.0 r.1).2 ∙ sym (piece_range r.0 h.at p.width) in
           ((given.source, given.shallow, r.3.0, r.4.0), (r.0, h.at, h.at + p.width, given.value, r.3.1, r.4.1, omega arith, piece))
 
-      pub hit_gives : (a : AtomTree) → ReadsHit on texts h p.width a → PieceAtom on (piece_text p) a
+      pub hit_gives : (a : AtomTree) → ReadsSpot on texts (spot_of h) p.width a → PieceAtom on (piece_text p) a
       hit_gives a r = elim r [ inl w ↦ whole_gives a w | inr b ↦ between_gives a b ]
 
     constant_gives : All IsScalar (piece_text p) → (a : AtomTree) → IsConstant p a → PieceAtom on (piece_text p) a

@@ -2,7 +2,11 @@
 use Rattle.std.specs.Prelude.{◌≡◌, ◌↔◌, ◌⊎◌, ℕ, ◌<◌, ◌≤◌, nat_le, List, length, take, drop, Some, slice_get}
 use Rattle.std.specs.List.{filter}
 use Rattle.fill_arena.specs.Contents.{In}
+use Rattle.fill_sources.specs.declared.spots.Spot.{Spot}
 use Rattle.fill_build.specs.declared.hits.Hit.{Hit}
+
+abbrev pub spot_of : Hit → Spot
+spot_of h = record { text = h.text; at = h.at }
 
 -- both lists begin with the same n items
 abbrev pub BeginAlike : List ℕ → List ℕ → ℕ → Type 0

@@ -1,9 +1,7 @@
 -- The pieces of an example's text, and the atoms that give them.
-use Rattle.std.specs.Prelude.{◌≡◌, ◌↔◌, ◌⊎◌, ℕ, ◌+◌, ◌≤◌, true, List, length, take, drop, All, Some, slice_get}
+use Rattle.std.specs.Prelude.{◌≡◌, ◌↔◌, ℕ, ◌+◌, ◌≤◌, true, List, length, take, drop, All}
 use Rattle.std.specs.Char.{IsScalar}
-use Rattle.fill_tokens.specs.Value.{HasValue}
-use Rattle.fill_tokens.specs.TokenSet.{IsPlaceOf}
-use Rattle.fill_tree.specs.Tree.{AtomTree, constant, whole, sub}
+use Rattle.fill_tree.specs.Tree.{AtomTree, constant}
 use Rattle.fill_tree.specs.Grammar.{Allows, IsAtom}
 use Rattle.fill_tree.specs.Value.{AtomIs}
 use Rattle.fill_tree.specs.declared.user.Constants.{Constants}
@@ -12,9 +10,7 @@ use Rattle.fill_arena.specs.Stands.{AtomFits}
 use Rattle.fill_arena.specs.WellMade.{IsAtomItem}
 use Rattle.fill_arena.specs.declared.entry.AtomItem.{AtomItem}
 use Rattle.fill_arena.specs.declared.entry.Entry.{Entry}
-use Rattle.fill_sources.specs.Gives.{Gives}
 use Rattle.fill_sources.specs.declared.row.OnRow.{OnRow}
-use Rattle.fill_build.specs.declared.hits.Hit.{Hit}
 use Rattle.fill_build.specs.declared.piece.Piece.{Piece}
 
 -- the first n characters may stand in a constant together, and no more
@@ -53,28 +49,3 @@ pub record AreConstants (p : Piece) (items : List AtomItem) : Type 0 where
   pub scalars : All IsScalar (piece_text p)
   pub each : (c : List Entry) → EachIn (IsAtomItem c (length c)) items
   pub exact : (d : List Entry) (a : AtomTree) → SomeIn (AtomFits a d) items ↔ ((p.constant ≡ true) × (a ≡ constant (piece_text p)))
-
--- n characters of the hit's text follow from its place on
-abbrev pub IsReadable : List (List ℕ) → Hit → ℕ → Type 0
-IsReadable texts h width = (t : List ℕ) × (slice_get texts h.text ≡ Some t) × (h.at + width ≤ length t)
-
--- the whole text of a source, of which the hit is all
-abbrev pub ReadsWhole : OnRow → List (List ℕ) → Hit → ℕ → AtomTree → Type 0
-ReadsWhole on texts h width (constant u) = ⊥
-ReadsWhole on texts h width (whole x) = (t : List ℕ) × (slice_get texts h.text ≡ Some t) × Gives on t x × (width ≡ length t)
-ReadsWhole on texts h width (sub x p q) = ⊥
-
--- the piece of a source's text between a place at the hit and one n characters after it
-abbrev pub ReadsBetween : OnRow → List (List ℕ) → Hit → ℕ → AtomTree → Type 0
-ReadsBetween on texts h width (constant u) = ⊥
-ReadsBetween on texts h width (whole x) = ⊥
-ReadsBetween on texts h width (sub x p q) = (t : List ℕ) × (slice_get texts h.text ≡ Some t) × Gives on t x
-    × (IsPlaceOf on.settings.profile.tokens p × HasValue p t h.at) × (IsPlaceOf on.settings.profile.tokens q × HasValue q t (h.at + width))
-
-abbrev pub ReadsHit : OnRow → List (List ℕ) → Hit → ℕ → AtomTree → Type 0
-ReadsHit on texts h width a = ReadsWhole on texts h width a ⊎ ReadsBetween on texts h width a
-
--- items were put to others, as the arena grew, that stand for exactly the atoms of the property
-pub record AddsAtoms (b c : List Entry) (old new : List AtomItem) (Q : AtomTree → Type 0) : Type 0 where
-  pub each : EachIn (IsAtomItem b (length b)) old → EachIn (IsAtomItem c (length c)) new
-  pub adds : (d : List Entry) → Extends c d → (a : AtomTree) → SomeIn (AtomFits a d) new ↔ (SomeIn (AtomFits a d) old ⊎ Q a)

@@ -1,9 +1,9 @@
 //! The atoms that give a piece of the example's text.
-ghost use Rattle.std.specs.Prelude.{◌≡◌, ◌+◌, ◌<◌, List, Some, IfOk, OnOk};
+ghost use Rattle.std.specs.Prelude.{◌≡◌, IfOk, OnOk};
 ghost use Rattle.fill_arena.specs.Contents.{Extends};
 ghost use Rattle.fill_sources.specs.Gives.{IsOnRow};
 ghost use Rattle.fill_sources.specs.Sets.{AreKnown, texts_of};
-ghost use Rattle.fill_build.specs.Pieces.{AddsAtoms, AreConstants, AreItemsOf, IsReadable, ReadsBetween, ReadsHit, ReadsWhole, IsPiece, IsWithin, piece_rest, piece_text};
+ghost use Rattle.fill_build.specs.Pieces.{AreConstants, AreItemsOf, IsPiece, IsWithin, piece_rest, piece_text};
 ghost use Rattle.fill_build.specs.Hits.{AreHits};
 
 use crate::hits::Hit;
@@ -33,7 +33,8 @@ pub(crate) fn piece_atoms<'a>(
 {
     let mut items = piece_constants(alloc, piece, hits.len())?;
     for i in 0..hits.len() {
-        put_readers(alloc, on, known, arena, hits[i], piece.width, &mut items)?;
+        let spot = hits[i].spot();
+        known.put_readers(alloc, on, arena, spot, piece.width, &mut items)?;
     }
     Ok(items)
 }
@@ -63,86 +64,4 @@ fn room_for(constant: bool, hits: usize) -> usize {
     } else {
         hits
     }
-}
-
-/// Puts what reads the characters of the known text where it was hit.
-fn put_readers<'a>(
-    alloc: Global,
-    on: &OnRow<'a>,
-    known: &mut Known<'a>,
-    arena: &mut Arena,
-    hit: Hit,
-    width: usize,
-    items: &mut List<AtomItem>,
-) -> Result<(), NoMemory>
-    requires on { IsOnRow on.now }
-    requires known { AreKnown on.now arena.old known.old }
-    requires within { IsReadable (texts_of known.old) hit width }
-    ensures adds { OnOk result (AddsAtoms arena.old arena.new items.old items.new (ReadsHit on.now (texts_of known.old) hit width)) }
-    ensures known { OnOk result (AreKnown on.now arena.new known.new) }
-    ensures texts { texts_of known.new ≡ texts_of known.old }
-    ensures kept { Extends arena.old arena.new }
-{
-    put_whole(alloc, on, known, arena, hit, width, items)?;
-    put_between(alloc, on, known, arena, hit, width, items)
-}
-
-/// Puts the sources' whole texts, where the characters are a whole text.
-fn put_whole<'a>(
-    alloc: Global,
-    on: &OnRow<'a>,
-    known: &mut Known<'a>,
-    arena: &mut Arena,
-    hit: Hit,
-    width: usize,
-    items: &mut List<AtomItem>,
-) -> Result<(), NoMemory>
-    requires on { IsOnRow on.now }
-    requires known { AreKnown on.now arena.old known.old }
-    requires within { IsReadable (texts_of known.old) hit width }
-    ensures adds { OnOk result (AddsAtoms arena.old arena.new items.old items.new (ReadsWhole on.now (texts_of known.old) hit width)) }
-    ensures known { OnOk result (AreKnown on.now arena.new known.new) }
-    ensures texts { texts_of known.new ≡ texts_of known.old }
-    ensures kept { Extends arena.old arena.new }
-{
-    if known.text(hit.text).len() != width {
-        return Ok(());
-    }
-    let sources = known.sources(alloc, on, arena, hit.text)?;
-    arena.keeps_made();
-    items.push(AtomItem::Whole(sources))
-}
-
-/// Puts the pieces of the sources' texts between the places at the two ends, where both ends have some.
-fn put_between<'a>(
-    alloc: Global,
-    on: &OnRow<'a>,
-    known: &mut Known<'a>,
-    arena: &mut Arena,
-    hit: Hit,
-    width: usize,
-    items: &mut List<AtomItem>,
-) -> Result<(), NoMemory>
-    requires on { IsOnRow on.now }
-    requires known { AreKnown on.now arena.old known.old }
-    requires within { IsReadable (texts_of known.old) hit width }
-    ensures adds { OnOk result (AddsAtoms arena.old arena.new items.old items.new (ReadsBetween on.now (texts_of known.old) hit width)) }
-    ensures known { OnOk result (AreKnown on.now arena.new known.new) }
-    ensures texts { texts_of known.new ≡ texts_of known.old }
-    ensures kept { Extends arena.old arena.new }
-{
-    // The end fits a number, since a text's length does.
-    let _long = known.text(hit.text).len();
-    let end = hit.at + width;
-    let Some(left) = known.places(alloc, on, arena, hit.text, hit.at)? else {
-        return Ok(());
-    };
-    arena.keeps_made();
-    let Some(right) = known.places(alloc, on, arena, hit.text, end)? else {
-        return Ok(());
-    };
-    arena.keeps_made();
-    let sources = known.sources(alloc, on, arena, hit.text)?;
-    arena.keeps_made();
-    items.push(AtomItem::Sub(sources, left, right))
 }

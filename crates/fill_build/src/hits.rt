@@ -1,9 +1,9 @@
 //! Where known texts go together with the example's text.
 ghost use Rattle.std.specs.Prelude.{◌≡◌, ◌<◌, length, IfOk, OnOk};
 ghost use Rattle.fill_sources.specs.Sets.{texts_of};
-ghost use Rattle.fill_build.specs.Hits.{AreHits, GoTogether, HitsText, wide};
+ghost use Rattle.fill_build.specs.Hits.{AreHits, GoTogether, HitsText, spot_of, wide};
 
-use fill_sources::Known;
+use fill_sources::{Known, Spot};
 use fill_text::NoMemory;
 use std::alloc::Global;
 
@@ -14,6 +14,18 @@ pub(crate) struct Hit {
     pub(crate) text: usize,
     pub(crate) at: usize,
     pub(crate) run: usize,
+}
+
+impl Hit {
+    /// Where the hit is.
+    pub(crate) fn spot(self) -> Spot
+        ensures { result ≡ spot_of self }
+    {
+        Spot {
+            text: self.text,
+            at: self.at,
+        }
+    }
 }
 
 /// The places of all known texts that begin as the rest of the example's text does.

@@ -70,7 +70,7 @@ no_command (Some command) a b ending.Unwritten h is = absurd (omega (arith, is))
 no_command (Some command) a b (ending.Refused line) h is = absurd (omega (arith, is))
 no_command (Some command) a b ending.NoMemory h is = absurd (omega (arith, is))
 
--- an unread file, and want of memory, may come whatever the steps end with
+-- an unread file, and no memory left, may come whatever the steps end with
 three_given : {R A : Type 0} (o : Opened R A) → MayGive o 3
 three_given (Unread name) = inl refl
 three_given (Refused why) = inr (inr refl)

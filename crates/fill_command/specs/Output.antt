@@ -27,11 +27,11 @@ key_record key = codes "key" ∷ map decimal key
 abbrev pub keys_text : List (List ℕ) → List ℕ
 keys_text all = report_text (map key_record all)
 
--- the records of so many first rows of an application were written, in order
+-- the records of the first n rows of an application were written, in order
 abbrev pub WritesRows : Applied → ℕ → Option (List ℕ) → Option (List ℕ) → Type 0
 WritesRows a n old new = (records : List Fields) × AreAppliedRecords a.sheet a.tables a.switch n records × Appends old new (report_text records)
 
--- a proper prefix of the records of so many first rows was written
+-- a proper prefix of the records of the first n rows was written
 abbrev pub WritesPartOfRows : Applied → ℕ → Option (List ℕ) → Option (List ℕ) → Type 0
 WritesPartOfRows a n old new = (records : List Fields) × AreAppliedRecords a.sheet a.tables a.switch n records × AppendsPart old new (report_text records)
 
@@ -39,7 +39,7 @@ WritesPartOfRows a n old new = (records : List Fields) × AreAppliedRecords a.sh
 abbrev pub only : List Fields → Written
 only records = record { records = records; refused = 0; term = 0 }
 
--- an application writes the records of so many first rows
+-- an application writes the records of its first n rows
 abbrev pub AreRows : Applied → ℕ → Written → Type 0
 AreRows a n w = (records : List Fields) × AreAppliedRecords a.sheet a.tables a.switch n records × (w ≡ only records)
 

@@ -2,12 +2,12 @@
 use Rattle.std.proofs.Common.{◌≡◌, ◌↔◌, ℕ, ◌-◌, List, ◌++◌, length, take, Bool, true, false, Option, None, Some, Result, Ok, Err, IfOk, OnOk, IsTrue, MatchBool, MatchOption, slice_get, ◌∙◌, sym, subst, arith}
 use Rattle.std.proofs.lemmas.Bool.{false≢true}
 use Rattle.std.proofs.lemmas.List.{take_all, take-append-le}
-use Rattle.fill_arena.specs.Contents.{HasEdges, HasNodes, SomeIn}
+use Rattle.fill_arena.specs.Contents.{SomeIn}
+use Rattle.fill_arena.specs.Stands.{ProgramStands, Walks}
 use Rattle.fill_arena.specs.declared.entry.Edge.{Edge}
-use Rattle.fill_arena.specs.declared.entry.Entry.{Entry}
-use Rattle.fill_arena.specs.declared.entry.Entry.TheVariants.{Graph}
+use Rattle.fill_tree.specs.Tree.{Atoms}
 use Rattle.fill_doubt.specs.Gives.{Differ}
-use Rattle.fill_doubt.specs.Known.{AreEdgesOn, EdgeAnswers, IsOnRow}
+use Rattle.fill_doubt.specs.Memo.{AreEdgesOn, EdgeAnswers, IsOnRow}
 use Rattle.fill_doubt.specs.Walks.{Reads, Differs}
 use Rattle.fill_doubt.specs.declared.row.OnRow.{OnRow}
 use Rattle.fill_doubt.proofs.Programs.{differ_differs, edges_fine}
@@ -53,19 +53,12 @@ match_option (Some x) h f g = g x h
 pub written : {A : Type 0} (new rest : List A) (n : ℕ) → n ≡ length new → take n (new ++ rest) ≡ new
 written new rest n e = take-append-le n new rest (omega arith) ∙ take_all n new (omega arith)
 
-pub graph_there : (c : List Entry) (g nodes : ℕ) (edges : List Edge) → HasNodes c g nodes → HasEdges c g edges → slice_get c g ≡ Some (Graph nodes edges)
-graph_there c g nodes edges n e =
-    let first = n.1 in
-    let second = e.1 in
-    let same : nodes ≡ e.0 = cc in
-    subst (λ m. slice_get c g ≡ Some (Graph m edges)) (sym same) second
-
 pub fine_on : (on : OnRow) → IsOnRow on → (nodes : ℕ) (edges : List Edge) → AreEdgesOn on nodes edges → AreFine (EdgeAnswers on) nodes edges
 fine_on on ok nodes edges are = edges_fine on.arena.now on.sheet.now on.tables.now ok.distinguish on.row are.0 nodes edges ok.made are.1
 
-module _ (on : OnRow) (ok : IsOnRow on) (g nodes : ℕ) (edges : List Edge) (there : slice_get on.arena.now g ≡ Some (Graph nodes edges)) where
+module _ (on : OnRow) (ok : IsOnRow on) (g nodes : ℕ) (edges : List Edge) (stands : (p : Atoms) → ProgramStands on.arena.now g p ↔ Walks p on.arena.now edges (nodes - 1) 0) where
   same : Differs (EdgeAnswers on) edges (nodes - 1) ↔ Differ on.arena.now on.sheet.now on.tables.now on.row g
-  same = differ_differs on.arena.now on.sheet.now on.tables.now ok.distinguish on.row g nodes edges there
+  same = differ_differs on.arena.now on.sheet.now on.tables.now ok.distinguish on.row g nodes edges stands
 
   pub by_differs : (b : Bool) → (IsTrue b ↔ Differs (EdgeAnswers on) edges (nodes - 1)) → IsTrue b ↔ Differ on.arena.now on.sheet.now on.tables.now on.row g
   by_differs b h = ((λ t. same.0 (h.0 t)), (λ d. h.1 (same.1 d)))

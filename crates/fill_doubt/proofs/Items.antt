@@ -25,7 +25,7 @@ use Rattle.fill_eval.proofs.Values.{none_is, has, only, never, alike}
 use Rattle.fill_eval.proofs.Pieces.{filled_of, filled_of_none, between_of, between_of_none}
 use Rattle.fill_doubt.specs.Answers.{AreBetween, between, AreJoined, PiecesHave}
 use Rattle.fill_doubt.specs.Gives.{PlaceGives, SubGives, WholeOf, AreWholes, ArePiecesOf}
-use Rattle.fill_doubt.specs.Known.{IsOnRow, SourceAnswers, AtomAnswers, PartAnswers, SourceItemAnswers, PartItemAnswers, ConstantItemAnswers, ConditionPartAnswers, IsChoiceOf, ChoiceAnswers, IsRowOf, RowAnswers}
+use Rattle.fill_doubt.specs.Memo.{IsOnRow, SourceAnswers, AtomAnswers, PartAnswers, SourceItemAnswers, PartItemAnswers, ConstantItemAnswers, ConditionPartAnswers, IsChoiceOf, ChoiceAnswers, IsRowOf, RowAnswers}
 use Rattle.fill_doubt.specs.Rows.{CellsHave, Choice, RowText, RowsHave, ChosenBy, ChoicesHave, in_front, RowFinds, AreFound}
 use Rattle.fill_doubt.specs.declared.conditions.Cells.{Cells}
 use Rattle.fill_doubt.specs.declared.answers.Pieces.{Pieces}

@@ -5,9 +5,9 @@ use Rattle.std.proofs.lemmas.Option.{slice_get_within}
 use Rattle.fill_arena.specs.declared.entry.Entry.{Entry}
 use Rattle.fill_arena.proofs.Lists.{get_left}
 use Rattle.fill_arena.proofs.Scan.{here}
-use Rattle.fill_doubt.specs.Known.{IsTextAt}
+use Rattle.fill_doubt.specs.Memo.{IsTextAt}
 use Rattle.fill_doubt.specs.Shapes.{HasText, IsReadAt, ShapesStand}
-use Rattle.fill_doubt.specs.declared.known.Known.{Known}
+use Rattle.fill_doubt.specs.declared.memo.Memo.{Memo}
 use Rattle.fill_doubt.specs.declared.read.Read.{Read}
 use Rattle.fill_doubt.specs.declared.shaped.Shaped.{Shaped}
 use Rattle.fill_doubt.specs.declared.shapes.Shapes.{Shapes}
@@ -42,9 +42,9 @@ lent_read shapes w n x at is =
     let one : x ≡ at.0 = cc in
     (there, ap (λ (y : Read). y.text) one ∙ at.2)
 
-pub lent_text : (known : Known) (t : List ℕ) (n : ℕ) (x : Shaped) → IsTextAt known t n → x ≡ get_or known.texts.items n x → (slice_get known.texts.items n ≡ Some x) × (x.text.now ≡ t)
-lent_text known t n x at is =
-    let there = here known.texts.items n x (slice_get_within known.texts.items n at.0 at.1) is in
+pub lent_text : (memo : Memo) (t : List ℕ) (n : ℕ) (x : Shaped) → IsTextAt memo t n → x ≡ get_or memo.texts.items n x → (slice_get memo.texts.items n ≡ Some x) × (x.text.now ≡ t)
+lent_text memo t n x at is =
+    let there = here memo.texts.items n x (slice_get_within memo.texts.items n at.0 at.1) is in
     let first = at.1 in
     let one : x ≡ at.0 = cc in
     (there, ap (λ (y : Shaped). y.text.now) one ∙ at.2)

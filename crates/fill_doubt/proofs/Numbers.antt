@@ -5,10 +5,10 @@ use Rattle.std.specs.Prelude.{IfSome}
 use Rattle.fill_arena.specs.Contents.{SomeIn}
 use Rattle.fill_arena.proofs.Lists.{get_left}
 use Rattle.fill_doubt.specs.Answers.{Gains, TextsHave}
-use Rattle.fill_doubt.specs.Known.{IsLast}
+use Rattle.fill_doubt.specs.Memo.{IsLast}
 use Rattle.fill_doubt.specs.Numbered.{AreNumbered, HasNumber, IsNumber, KeepsNumbers, NumberedHave}
 use Rattle.fill_doubt.specs.declared.answers.Texts.{Texts}
-use Rattle.fill_doubt.specs.declared.known.Last.{Last}
+use Rattle.fill_doubt.specs.declared.memo.Last.{Last}
 use Rattle.fill_doubt.specs.declared.numbered.Numbered.{Numbered}
 use Rattle.fill_doubt.specs.declared.numbered.NumberedTexts.{NumberedTexts}
 use Rattle.fill_doubt.specs.declared.row.OnRow.{OnRow}

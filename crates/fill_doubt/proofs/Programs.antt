@@ -4,11 +4,10 @@ use Rattle.fill_text.specs.Data.{SheetData, TableData}
 use Rattle.fill_tables.specs.Keys.{KeysDistinguish}
 use Rattle.fill_tree.specs.Tree.{Atoms, end, more}
 use Rattle.fill_tree.specs.Value.{IsValue, AtomIs, ProgramIs}
-use Rattle.fill_arena.specs.Stands.{Walks}
-use Rattle.fill_arena.specs.WellMade.{IsWellMade, IsGraphOf}
+use Rattle.fill_arena.specs.Stands.{ProgramStands, Walks}
+use Rattle.fill_arena.specs.WellMade.{IsWellMade, IsSortedGraph}
 use Rattle.fill_arena.specs.declared.entry.Edge.{Edge}
 use Rattle.fill_arena.specs.declared.entry.Entry.{Entry}
-use Rattle.fill_arena.specs.declared.entry.Entry.TheVariants.{Graph}
 use Rattle.fill_eval.proofs.Values.{some_is}
 use Rattle.fill_doubt.specs.Gives.{AtomGives, ProgramGives, Differ}
 use Rattle.fill_doubt.specs.Walks.{joined, Spells, Reads, Differs}
@@ -43,18 +42,13 @@ module _ (c : List Entry) (sheet : SheetData) (tables : List TableData) (disting
           (e ∷ rest.2.0, (h.1, h.2.0, (first.0, rest.0, (a, h.2.1, first.1), rest.2.1, refl))),
         )
 
-  module _ (g nodes : ℕ) (edges : List Edge) (there : slice_get c g ≡ Some (Graph nodes edges)) where
+  module _ (g nodes : ℕ) (edges : List Edge) (same : (p : Atoms) → ProgramStands c g p ↔ Walks p c edges (nodes - 1) 0) where
     pub reads_gives : (o : Option (List ℕ)) → Reads Edges edges 0 (nodes - 1) o → ProgramGives c sheet tables row g o
-    reads_gives o r = let p = spelled edges (nodes - 1) r.0 0 o r.1 in (p.0, (nodes, edges, there, p.1), p.2)
+    reads_gives o r = let p = spelled edges (nodes - 1) r.0 0 o r.1 in (p.0, (same p.0).1 p.1, p.2)
 
     pub gives_reads : (o : Option (List ℕ)) → ProgramGives c sheet tables row g o → Reads Edges edges 0 (nodes - 1) o
     gives_reads o h =
-        let own = h.1.2 in
-        let same : Graph h.1.0 h.1.1 ≡ Graph nodes edges = cc in
-        let n : h.1.0 ≡ nodes = cc in
-        let es : h.1.1 ≡ edges = cc in
-        let walks : Walks h.0 c edges (nodes - 1) 0 = subst (λ (l : List Edge). Walks h.0 c l (nodes - 1) 0) es (subst (λ m. Walks h.0 c h.1.1 (m - 1) 0) n h.1.3) in
-        let w = walked edges (nodes - 1) h.0 0 walks in
+        let w = walked edges (nodes - 1) h.0 0 ((same h.0).0 h.1) in
         subst (λ q. Reads Edges edges 0 (nodes - 1) q) (answer_one (ProgramIs sheet tables row h.0) w.0 o w.1 h.2) w.2
 
     pub differ_differs : Differs Edges edges (nodes - 1) ↔ Differ c sheet tables row g
@@ -64,16 +58,16 @@ module _ (c : List Entry) (sheet : SheetData) (tables : List TableData) (disting
     )
 
   -- a graph's edges are fine
-  pub edges_fine : (n nodes : ℕ) (edges : List Edge) → IsWellMade c → IsGraphOf c n nodes edges → AreFine Edges nodes edges
+  pub edges_fine : (n nodes : ℕ) (edges : List Edge) → IsWellMade c → IsSortedGraph c n nodes edges → AreFine Edges nodes edges
   edges_fine n nodes edges made is = record {
-    some = is.some;
-    onward = λ k e h. (is.each k e h).onward;
-    within = λ k e h. (is.each k e h).within;
+    some = is.graph.some;
+    onward = λ k e h. (is.graph.each k e h).onward;
+    within = λ k e h. (is.graph.each k e h).within;
     answers = λ k e h.
-        let a = atom_stands c made e.atoms (is.each k e h).atoms.0 in
+        let a = atom_stands c made e.atoms (is.graph.each k e h).atoms.0 in
         let o = atom_answer sheet tables distinguish row a.0 in
         (o.0, (a.0, a.1, o.1));
-    from_first = is.from_first;
-    to_last = is.to_last;
-    ordered = is.ordered;
+    from_first = is.graph.from_first;
+    to_last = is.graph.to_last;
+    ordered = is.topological;
   }

@@ -2,6 +2,7 @@
 use Rattle.std.proofs.Common.{◌≡◌, ◌≢◌, ℕ, ◌-◌, ◌<◌, List, [], ◌∷◌, Option, Some, None, slice_get, refl, sym, ap, ◌∙◌, subst, arith, append_assoc}
 use Rattle.std.proofs.lemmas.List.{append-nil}
 use Rattle.fill_arena.specs.Contents.{In, SomeIn}
+use Rattle.fill_arena.specs.Order.{IsTopological}
 use Rattle.fill_arena.specs.WellMade.{Path}
 use Rattle.fill_arena.specs.declared.entry.Edge.{Edge}
 use Rattle.fill_doubt.specs.Walks.{joined, Spells, Reads, Differs}
@@ -14,7 +15,7 @@ pub record AreFine (G : Edge → Option (List ℕ) → Type 0) (nodes : ℕ) (ed
   pub answers : (k : ℕ) (e : Edge) → slice_get edges k ≡ Some e → (v : Option (List ℕ)) × G e v
   pub from_first : (m : ℕ) → m < nodes → (path : List Edge) × Path edges 0 path m
   pub to_last : (m : ℕ) → m < nodes → (path : List Edge) × Path edges m path (nodes - 1)
-  pub ordered : (j k : ℕ) (e f : Edge) → slice_get edges j ≡ Some e → slice_get edges k ≡ Some f → e.to ≡ f.from → j < k
+  pub ordered : IsTopological edges
 
 pub joined_none : (u : Option (List ℕ)) → joined u None ≡ None
 joined_none None = refl

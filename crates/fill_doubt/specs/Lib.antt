@@ -2,7 +2,7 @@ pub mod Answers
 pub mod Cuts
 pub mod Gives
 pub mod Hops
-pub mod Known
+pub mod Memo
 pub mod Numbered
 pub mod Placed
 pub mod Read

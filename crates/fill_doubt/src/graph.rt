@@ -2,10 +2,10 @@
 ghost use Rattle.std.specs.Prelude.{◌↔◌, ◌≤◌, length, IsTrue, IfOk, OnOk};
 ghost use Rattle.fill_arena.specs.Contents.{IsGraph};
 ghost use Rattle.fill_doubt.specs.Gives.{Differ};
-ghost use Rattle.fill_doubt.specs.Known.{AreKnown, IsOnRow};
+ghost use Rattle.fill_doubt.specs.Memo.{IsMemoOf, IsOnRow};
 ghost use Rattle.fill_doubt.specs.Shapes.{ShapesStand};
 
-use crate::known::Known;
+use crate::memo::Memo;
 use crate::pass::{differs, one_answer};
 use crate::row::OnRow;
 use crate::shapes::Shapes;
@@ -68,23 +68,23 @@ pub fn doubt_with(
         tables,
     };
     shapes.make_room(alloc);
-    let mut known = Known::new(alloc, mem::replace(shapes, Shapes::new(alloc)));
-    let flag = differ_on(&on, &mut known, g)?;
-    *shapes = known.shapes;
+    let mut memo = Memo::new(alloc, mem::replace(shapes, Shapes::new(alloc)));
+    let flag = differ_on(&on, &mut memo, g)?;
+    *shapes = memo.shapes;
     Ok(flag)
 }
 
-fn differ_on<'a>(on: &OnRow<'a>, known: &mut Known<'a>, g: GraphId) -> Result<bool, NoMemory>
+fn differ_on<'a>(on: &OnRow<'a>, memo: &mut Memo<'a>, g: GraphId) -> Result<bool, NoMemory>
     requires row { IsOnRow on.now }
     requires graph { IsGraph on.now.arena.now g }
-    requires known { AreKnown on.now known.old }
-    ensures known { OnOk result (AreKnown on.now known.new) }
+    requires memo { IsMemoOf on.now memo.old }
+    ensures memo { OnOk result (IsMemoOf on.now memo.new) }
     ensures flag { IfOk result (λ b. IsTrue b ↔ Differ on.now.arena.now on.now.sheet.now on.now.tables.now on.now.row g) }
 {
     let nodes = on.arena.nodes(g);
-    let edges = on.arena.edges(g);
-    match one_answer(on, known, nodes, edges)? {
-        Some(text) => differs(on, known, nodes, edges, text.as_slice()),
-        None => has_value(on, known, nodes, edges),
+    let edges = on.arena.sorted_edges(g);
+    match one_answer(on, memo, nodes, edges)? {
+        Some(text) => differs(on, memo, nodes, edges, text.as_slice()),
+        None => has_value(on, memo, nodes, edges),
     }
 }

@@ -10,7 +10,7 @@ ghost use Rattle.fill_eval.specs.declared.piece.Piece.{Piece as Listed};
 ghost use Rattle.fill_doubt.specs.Values.{AreRising};
 ghost use Rattle.fill_doubt.specs.Gives.{AtomGives};
 
-use crate::known::Known;
+use crate::memo::Memo;
 use crate::row::OnRow;
 use crate::sets::atoms_of;
 use crate::shapes::Shapes;
@@ -55,8 +55,8 @@ pub fn values(
         sheet,
         tables,
     };
-    let mut known = Known::new(alloc, Shapes::new(alloc));
-    let found = atoms_of(&on, &mut known, s)?;
+    let mut memo = Memo::new(alloc, Shapes::new(alloc));
+    let found = atoms_of(&on, &mut memo, s)?;
     let texts = sorted(alloc, found.pieces.as_slice())?;
     Ok(ValueSet {
         texts,

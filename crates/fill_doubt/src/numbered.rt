@@ -1,12 +1,12 @@
 //! The texts of a set of sources, each with its number among the row's texts.
 ghost use Rattle.std.specs.Prelude.{◌≡◌, ◌↔◌, ℕ, List as Items, Option, Some, IfOk, OnOk};
 ghost use Rattle.fill_doubt.specs.Answers.{Gains, TextsHave};
-ghost use Rattle.fill_doubt.specs.Known.{AreKnown};
+ghost use Rattle.fill_doubt.specs.Memo.{IsMemoOf};
 ghost use Rattle.fill_doubt.specs.Numbered.{AreNumbered, NumberedHave};
 ghost use Rattle.fill_doubt.specs.declared.row.OnRow.{OnRow};
 
 use crate::answers::Texts;
-use crate::known::Known;
+use crate::memo::Memo;
 use fill_text::{NoMemory, Text};
 use std::alloc::Global;
 
@@ -38,19 +38,19 @@ impl<'a> NumberedTexts<'a> {
 /// The answers, each text with its number.
 pub(crate) fn number_all<'a>(
     alloc: Global,
-    known: &mut Known<'a>,
+    memo: &mut Memo<'a>,
     found: &Texts<'a>,
 ) -> Result<NumberedTexts<'a>, NoMemory>
-    ensures known { OnOk result ((on : OnRow) → AreKnown on known.old → AreKnown on known.new) }
+    ensures memo { OnOk result ((on : OnRow) → IsMemoOf on memo.old → IsMemoOf on memo.new) }
     ensures same { IfOk result (λ made. (o : Option (Items ℕ)) → NumberedHave made o ↔ TextsHave found.now o) }
-    ensures numbered { IfOk result (AreNumbered known.new.texts.items) }
+    ensures numbered { IfOk result (AreNumbered memo.new.texts.items) }
 {
     let mut made = NumberedTexts {
         texts: Vec::new(alloc),
         none: found.none,
     };
     for i in 0..found.texts.len() {
-        put_numbered(alloc, known, found.texts[i], &mut made)?;
+        put_numbered(alloc, memo, found.texts[i], &mut made)?;
     }
     Ok(made)
 }
@@ -58,15 +58,15 @@ pub(crate) fn number_all<'a>(
 /// One text more.
 fn put_numbered<'a>(
     alloc: Global,
-    known: &mut Known<'a>,
+    memo: &mut Memo<'a>,
     text: &'a Text,
     made: &mut NumberedTexts<'a>,
 ) -> Result<(), NoMemory>
-    ensures known { OnOk result ((on : OnRow) → AreKnown on known.old → AreKnown on known.new) }
+    ensures memo { OnOk result ((on : OnRow) → IsMemoOf on memo.old → IsMemoOf on memo.new) }
     ensures gains { OnOk result (Gains (NumberedHave made.old) (NumberedHave made.new) (λ o. o ≡ Some text.now)) }
-    ensures numbered { OnOk result (AreNumbered known.old.texts.items made.old → AreNumbered known.new.texts.items made.new) }
+    ensures numbered { OnOk result (AreNumbered memo.old.texts.items made.old → AreNumbered memo.new.texts.items made.new) }
 {
-    let number = known.number_for(alloc, text)?;
+    let number = memo.number_for(alloc, text)?;
     match made.texts.push(Numbered { text, number }) {
         Ok(()) => Ok(()),
         Err(_) => Err(NoMemory),

@@ -4,12 +4,12 @@ ghost use Rattle.fill_arena.specs.Contents.{EachIn, In, IsAtomSet, SomeIn};
 ghost use Rattle.fill_arena.specs.declared.entry.Edge.{Edge as Listed};
 ghost use Rattle.fill_eval.specs.Piece.{IsWithin};
 ghost use Rattle.fill_doubt.specs.Answers.{PiecesHave};
-ghost use Rattle.fill_doubt.specs.Known.{AreEdgesOn, AreKnown, EdgeAnswers, IsOnRow};
+ghost use Rattle.fill_doubt.specs.Memo.{AreEdgesOn, IsMemoOf, EdgeAnswers, IsOnRow};
 ghost use Rattle.fill_doubt.specs.Walks.{Agrees, AreLaid, Clashes, Differs, EdgeAgrees, EdgeClashes, IsAt, KeepsLengths, Reads};
 ghost use Rattle.fill_doubt.specs.declared.row.OnRow.{OnRow};
 
 use crate::answers::Pieces;
-use crate::known::Known;
+use crate::memo::Memo;
 use crate::row::OnRow;
 use crate::sets::atoms_of;
 use crate::some::{first_piece, some_of};
@@ -21,14 +21,14 @@ use std::alloc::Global;
 /// no text.
 pub(crate) fn one_answer<'a>(
     on: &OnRow<'a>,
-    known: &mut Known<'a>,
+    memo: &mut Memo<'a>,
     nodes: usize,
     edges: &[Edge],
 ) -> Result<Option<Text>, NoMemory>
     requires edges { AreEdgesOn on.now nodes edges.now }
     requires row { IsOnRow on.now }
-    requires known { AreKnown on.now known.old }
-    ensures known { OnOk result (AreKnown on.now known.new) }
+    requires memo { IsMemoOf on.now memo.old }
+    ensures memo { OnOk result (IsMemoOf on.now memo.new) }
     ensures answer { IfOk result (λ o. MatchOption o (SomeIn (λ e. EdgeAnswers on.now e None) edges.now) (λ text. Reads (EdgeAnswers on.now) edges.now 0 (nodes - 1) (Some text))) }
 {
     let mut text = Text::new(on.alloc);
@@ -38,7 +38,7 @@ pub(crate) fn one_answer<'a>(
         if e.from != at {
             continue;
         }
-        if !append_first(on, known, e, &mut text)? {
+        if !append_first(on, memo, e, &mut text)? {
             return Ok(None);
         }
         at = e.to;
@@ -49,17 +49,17 @@ pub(crate) fn one_answer<'a>(
 /// Puts a text of the edge at the end, if it has one.
 fn append_first<'a>(
     on: &OnRow<'a>,
-    known: &mut Known<'a>,
+    memo: &mut Memo<'a>,
     e: &Edge,
     text: &mut Text,
 ) -> Result<bool, NoMemory>
     requires atoms { IsAtomSet on.now.arena.now e.now.atoms }
     requires row { IsOnRow on.now }
-    requires known { AreKnown on.now known.old }
-    ensures known { OnOk result (AreKnown on.now known.new) }
+    requires memo { IsMemoOf on.now memo.old }
+    ensures memo { OnOk result (IsMemoOf on.now memo.new) }
     ensures appended { IfOk result (λ b. MatchBool b ((t : Items ℕ) × EdgeAnswers on.now e.now (Some t) × (text.new ≡ text.old ++ t)) ((t : Items ℕ) → ¬ (EdgeAnswers on.now e.now (Some t)))) }
 {
-    match first_piece(on, known, e.atoms)? {
+    match first_piece(on, memo, e.atoms)? {
         Some(first) => {
             text.append_piece(first.text, first.from, first.to)?;
             Ok(true)
@@ -71,21 +71,21 @@ fn append_first<'a>(
 /// Whether some program answers otherwise than with the text.
 pub(crate) fn differs<'a>(
     on: &OnRow<'a>,
-    known: &mut Known<'a>,
+    memo: &mut Memo<'a>,
     nodes: usize,
     edges: &[Edge],
     text: &[char],
 ) -> Result<bool, NoMemory>
     requires edges { AreEdgesOn on.now nodes edges.now }
     requires row { IsOnRow on.now }
-    requires known { AreKnown on.now known.old }
+    requires memo { IsMemoOf on.now memo.old }
     requires one { Reads (EdgeAnswers on.now) edges.now 0 (nodes - 1) (Some text.now) }
-    ensures known { OnOk result (AreKnown on.now known.new) }
+    ensures memo { OnOk result (IsMemoOf on.now memo.new) }
     ensures answer { IfOk result (λ b. IsTrue b ↔ Differs (EdgeAnswers on.now) edges.now (nodes - 1)) }
 {
     let mut lengths = first_length(on.alloc, nodes)?;
     for i in 0..edges.len() {
-        if !follow_edge(on, known, lengths.as_mut_slice(), &edges[i], text)? {
+        if !follow_edge(on, memo, lengths.as_mut_slice(), &edges[i], text)? {
             return Ok(true);
         }
     }
@@ -112,48 +112,48 @@ fn first_length(alloc: Global, nodes: usize) -> Result<Vec<Option<usize>>, NoMem
 /// Notes where the edge's texts end. False where one of its atoms has no value or does not stand in the text there.
 fn follow_edge<'a>(
     on: &OnRow<'a>,
-    known: &mut Known<'a>,
+    memo: &mut Memo<'a>,
     lengths: &mut [Option<usize>],
     e: &Edge,
     text: &[char],
 ) -> Result<bool, NoMemory>
     requires atoms { IsAtomSet on.now.arena.now e.now.atoms }
     requires row { IsOnRow on.now }
-    requires known { AreKnown on.now known.old }
+    requires memo { IsMemoOf on.now memo.old }
     requires from { (a : ℕ) × IsAt lengths.old e.now.from a }
     requires to { e.now.to < length lengths.old }
     requires laid { (edges : Items Listed) × In e.now edges × AreLaid (EdgeAnswers on.now) edges text.now lengths.old }
-    ensures known { OnOk result (AreKnown on.now known.new) }
+    ensures memo { OnOk result (IsMemoOf on.now memo.new) }
     ensures keeps { KeepsLengths lengths.old lengths.new }
     ensures laid { (edges : Items Listed) → In e.now edges → AreLaid (EdgeAnswers on.now) edges text.now lengths.old → AreLaid (EdgeAnswers on.now) edges text.now lengths.new }
     ensures says { IfOk result (λ b. MatchBool b (EdgeAgrees (EdgeAnswers on.now) text.now lengths.new e.now) (EdgeClashes (EdgeAnswers on.now) text.now lengths.new e.now)) }
 {
-    if !follow_some(on, known, lengths, e, text)? {
+    if !follow_some(on, memo, lengths, e, text)? {
         return Ok(false);
     }
-    follow_all(on, known, lengths, e, text)
+    follow_all(on, memo, lengths, e, text)
 }
 
 /// Looks at some of the edge's texts.
 fn follow_some<'a>(
     on: &OnRow<'a>,
-    known: &mut Known<'a>,
+    memo: &mut Memo<'a>,
     lengths: &mut [Option<usize>],
     e: &Edge,
     text: &[char],
 ) -> Result<bool, NoMemory>
     requires atoms { IsAtomSet on.now.arena.now e.now.atoms }
     requires row { IsOnRow on.now }
-    requires known { AreKnown on.now known.old }
+    requires memo { IsMemoOf on.now memo.old }
     requires from { (a : ℕ) × IsAt lengths.old e.now.from a }
     requires to { e.now.to < length lengths.old }
     requires laid { (edges : Items Listed) × In e.now edges × AreLaid (EdgeAnswers on.now) edges text.now lengths.old }
-    ensures known { OnOk result (AreKnown on.now known.new) }
+    ensures memo { OnOk result (IsMemoOf on.now memo.new) }
     ensures keeps { KeepsLengths lengths.old lengths.new }
     ensures laid { (edges : Items Listed) → In e.now edges → AreLaid (EdgeAnswers on.now) edges text.now lengths.old → AreLaid (EdgeAnswers on.now) edges text.now lengths.new }
     ensures says { IfOk result (λ b. b ≡ false → EdgeClashes (EdgeAnswers on.now) text.now lengths.new e.now) }
 {
-    let found = some_of(on, known, e.atoms)?;
+    let found = some_of(on, memo, e.atoms)?;
     if found.none {
         return Ok(false);
     }
@@ -163,23 +163,23 @@ fn follow_some<'a>(
 /// Looks at all of them.
 fn follow_all<'a>(
     on: &OnRow<'a>,
-    known: &mut Known<'a>,
+    memo: &mut Memo<'a>,
     lengths: &mut [Option<usize>],
     e: &Edge,
     text: &[char],
 ) -> Result<bool, NoMemory>
     requires atoms { IsAtomSet on.now.arena.now e.now.atoms }
     requires row { IsOnRow on.now }
-    requires known { AreKnown on.now known.old }
+    requires memo { IsMemoOf on.now memo.old }
     requires from { (a : ℕ) × IsAt lengths.old e.now.from a }
     requires to { e.now.to < length lengths.old }
     requires laid { (edges : Items Listed) × In e.now edges × AreLaid (EdgeAnswers on.now) edges text.now lengths.old }
-    ensures known { OnOk result (AreKnown on.now known.new) }
+    ensures memo { OnOk result (IsMemoOf on.now memo.new) }
     ensures keeps { KeepsLengths lengths.old lengths.new }
     ensures laid { (edges : Items Listed) → In e.now edges → AreLaid (EdgeAnswers on.now) edges text.now lengths.old → AreLaid (EdgeAnswers on.now) edges text.now lengths.new }
     ensures says { IfOk result (λ b. MatchBool b (EdgeAgrees (EdgeAnswers on.now) text.now lengths.new e.now) (EdgeClashes (EdgeAnswers on.now) text.now lengths.new e.now)) }
 {
-    let found = atoms_of(on, known, e.atoms)?;
+    let found = atoms_of(on, memo, e.atoms)?;
     if found.none {
         return Ok(false);
     }
@@ -237,7 +237,7 @@ fn follow_piece(
     }
     let end = start + piece.len();
     match lengths[to] {
-        Some(known) => known == end,
+        Some(memo) => memo == end,
         None => {
             lengths[to] = Some(end);
             true

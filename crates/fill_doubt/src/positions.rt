@@ -3,7 +3,7 @@ ghost use Rattle.std.specs.Prelude.{◌≡◌, ◌↔◌, ◌≤◌, ℕ, Some, 
 ghost use Rattle.fill_arena.specs.Contents.{EachIn, IsPlaceSet};
 ghost use Rattle.fill_eval.specs.Piece.{IsWithin};
 ghost use Rattle.fill_doubt.specs.Answers.{AreBetween, AreBetweenFrom, Gains, Lack, PiecesHave, PositionsHave, between};
-ghost use Rattle.fill_doubt.specs.Known.{AreKnown};
+ghost use Rattle.fill_doubt.specs.Memo.{IsMemoOf};
 ghost use Rattle.fill_doubt.specs.Numbered.{IsNumber};
 ghost use Rattle.fill_doubt.specs.Placed.{ArePlaced};
 ghost use Rattle.fill_doubt.specs.Read.{IsReadIn};
@@ -11,7 +11,7 @@ ghost use Rattle.fill_doubt.specs.Shapes.{IsReadAt, IsShapeOf, KeepsReads, Shape
 
 use crate::answers::{Pieces, Positions};
 use crate::carry::{carry, put_asked};
-use crate::known::Known;
+use crate::memo::Memo;
 use crate::numbered::Numbered;
 use crate::read::Read;
 use crate::row::OnRow;
@@ -28,7 +28,7 @@ use fill_text::{NoMemory, Text};
 /// is asked, and nothing is kept.
 pub(crate) fn find_positions<'a>(
     on: &OnRow<'a>,
-    known: &mut Known<'a>,
+    memo: &mut Memo<'a>,
     text: &Numbered<'a>,
     lefts: PlaceSet,
     rights: PlaceSet,
@@ -36,27 +36,20 @@ pub(crate) fn find_positions<'a>(
 ) -> Result<(), NoMemory>
     requires lefts { IsPlaceSet on.now.arena.now lefts }
     requires rights { IsPlaceSet on.now.arena.now rights }
-    requires number { IsNumber known.old.texts.items text.now.text.now text.now.number }
-    requires known { AreKnown on.now known.old }
-    ensures known { OnOk result (AreKnown on.now known.new) }
-    ensures texts { known.new.texts ≡ known.old.texts }
-    ensures lefts { OnOk result (ArePlaced on.now.arena.now lefts text.now.text.now few known.new.lefts) }
-    ensures rights { OnOk result (ArePlaced on.now.arena.now rights text.now.text.now few known.new.rights) }
+    requires number { IsNumber memo.old.texts.items text.now.text.now text.now.number }
+    requires memo { IsMemoOf on.now memo.old }
+    ensures memo { OnOk result (IsMemoOf on.now memo.new) }
+    ensures texts { memo.new.texts ≡ memo.old.texts }
+    ensures lefts { OnOk result (ArePlaced on.now.arena.now lefts text.now.text.now few memo.new.lefts) }
+    ensures rights { OnOk result (ArePlaced on.now.arena.now rights text.now.text.now few memo.new.rights) }
 {
     let Some(n) = text.number else {
-        long_positions(on, lefts, text.text, few, &mut known.lefts)?;
-        return long_positions(on, rights, text.text, few, &mut known.rights);
+        long_positions(on, lefts, text.text, few, &mut memo.lefts)?;
+        return long_positions(on, rights, text.text, few, &mut memo.rights);
     };
-    let shaped = &known.texts[n];
-    shape_positions(on, lefts, few, shaped, &mut known.shapes, &mut known.lefts)?;
-    shape_positions(
-        on,
-        rights,
-        few,
-        shaped,
-        &mut known.shapes,
-        &mut known.rights,
-    )
+    let shaped = &memo.texts[n];
+    shape_positions(on, lefts, few, shaped, &mut memo.shapes, &mut memo.lefts)?;
+    shape_positions(on, rights, few, shaped, &mut memo.shapes, &mut memo.rights)
 }
 
 /// The positions in a long text, by asking one place after the other.

@@ -7,14 +7,14 @@ ghost use Rattle.fill_arena.specs.WellMade.{IsAtomItem, IsConditionItem, IsSourc
 ghost use Rattle.fill_tree.specs.Value.{IsFilled, IsValue};
 ghost use Rattle.fill_eval.specs.Piece.{IsWithin};
 ghost use Rattle.fill_doubt.specs.Answers.{Gains, GainsSome, PiecesHave, TextsHave};
-ghost use Rattle.fill_doubt.specs.Known.{AreKnown, AtomAnswers, ChoiceAnswers, ConditionPartAnswers, ConstantItemAnswers, IsOnRow, PartAnswers, PartItemAnswers, RowAnswers, SourceAnswers, SourceItemAnswers};
+ghost use Rattle.fill_doubt.specs.Memo.{IsMemoOf, AtomAnswers, ChoiceAnswers, ConditionPartAnswers, ConstantItemAnswers, IsOnRow, PartAnswers, PartItemAnswers, RowAnswers, SourceAnswers, SourceItemAnswers};
 ghost use Rattle.fill_doubt.specs.Gives.{ArePiecesOf, AreWholes, SubGives};
 ghost use Rattle.fill_doubt.specs.Numbered.{AreNumbered, IsNumber, NumberedHave};
 ghost use Rattle.fill_doubt.specs.Rows.{CellsHave, Choice, RowText, RowsHave};
 
 use crate::answers::{Pieces, Texts};
 use crate::conditions::{Cells, cells_of};
-use crate::known::Known;
+use crate::memo::Memo;
 use crate::numbered::{Numbered, NumberedTexts, number_all};
 use crate::positions::{find_positions, put_between};
 use crate::row::OnRow;
@@ -27,38 +27,38 @@ use fill_text::{NoMemory, Text};
 #[cycle(sets)]
 pub(crate) fn sources_of<'a>(
     on: &OnRow<'a>,
-    known: &mut Known<'a>,
+    memo: &mut Memo<'a>,
     s: SourceSet,
 ) -> Result<NumberedTexts<'a>, NoMemory>
     requires set { IsSourceSet on.now.arena.now s }
     requires row { IsOnRow on.now }
-    requires known { AreKnown on.now known.old }
-    ensures known { OnOk result (AreKnown on.now known.new) }
+    requires memo { IsMemoOf on.now memo.old }
+    ensures memo { OnOk result (IsMemoOf on.now memo.new) }
     ensures exact { IfOk result (λ found. (o : Option (Items ℕ)) → NumberedHave found o ↔ SourceAnswers on.now s o) }
-    ensures numbered { IfOk result (AreNumbered known.new.texts.items) }
+    ensures numbered { IfOk result (AreNumbered memo.new.texts.items) }
 {
-    if let Some(found) = known.take_last(s) {
+    if let Some(found) = memo.take_last(s) {
         return Ok(found);
     }
-    if let Some(found) = known.source(s) {
+    if let Some(found) = memo.source(s) {
         return found.copy(on.alloc);
     }
-    let found = scan_sources(on, known, s)?;
-    let numbered = number_all(on.alloc, known, &found)?;
-    known.keep_source(s, numbered.copy(on.alloc)?)?;
+    let found = scan_sources(on, memo, s)?;
+    let numbered = number_all(on.alloc, memo, &found)?;
+    memo.keep_source(s, numbered.copy(on.alloc)?)?;
     Ok(numbered)
 }
 
 #[cycle(sets)]
 fn scan_sources<'a>(
     on: &OnRow<'a>,
-    known: &mut Known<'a>,
+    memo: &mut Memo<'a>,
     s: SourceSet,
 ) -> Result<Texts<'a>, NoMemory>
     requires set { IsSourceSet on.now.arena.now s }
     requires row { IsOnRow on.now }
-    requires known { AreKnown on.now known.old }
-    ensures known { OnOk result (AreKnown on.now known.new) }
+    requires memo { IsMemoOf on.now memo.old }
+    ensures memo { OnOk result (IsMemoOf on.now memo.new) }
     ensures exact { IfOk result (λ found. (o : Option (Items ℕ)) → TextsHave found o ↔ SourceAnswers on.now s o) }
 {
     let arena = on.arena;
@@ -66,7 +66,7 @@ fn scan_sources<'a>(
     let items = arena.sources(s);
     let mut found = Texts::new(on.alloc);
     for item in items {
-        put_source(on, known, s, item, &mut found)?;
+        put_source(on, memo, s, item, &mut found)?;
     }
     Ok(found)
 }
@@ -75,20 +75,20 @@ fn scan_sources<'a>(
 #[cycle(sets)]
 fn put_source<'a>(
     on: &OnRow<'a>,
-    known: &mut Known<'a>,
+    memo: &mut Memo<'a>,
     set: SourceSet,
     item: &'a SourceItem,
     found: &mut Texts<'a>,
 ) -> Result<(), NoMemory>
     requires item { IsSourceItem on.now.arena.now set item.now }
     requires row { IsOnRow on.now }
-    requires known { AreKnown on.now known.old }
-    ensures known { OnOk result (AreKnown on.now known.new) }
+    requires memo { IsMemoOf on.now memo.old }
+    ensures memo { OnOk result (IsMemoOf on.now memo.new) }
     ensures gains { OnOk result (Gains (TextsHave found.old) (TextsHave found.new) (SourceItemAnswers on.now item.now)) }
 {
     match item {
         SourceItem::Col(column) => put_cell(on, *column, found),
-        SourceItem::Select(listed) => put_lookups(on, known, set, listed, found),
+        SourceItem::Select(listed) => put_lookups(on, memo, set, listed, found),
     }
 }
 
@@ -108,18 +108,18 @@ fn put_cell<'a>(on: &OnRow<'a>, column: u32, found: &mut Texts<'a>) -> Result<()
 #[cycle(sets)]
 fn put_lookups<'a>(
     on: &OnRow<'a>,
-    known: &mut Known<'a>,
+    memo: &mut Memo<'a>,
     set: SourceSet,
     item: &'a SelectItem,
     found: &mut Texts<'a>,
 ) -> Result<(), NoMemory>
     requires item { EachIn (IsConditionItem on.now.arena.now set) item.now.conditions }
     requires row { IsOnRow on.now }
-    requires known { AreKnown on.now known.old }
-    ensures known { OnOk result (AreKnown on.now known.new) }
+    requires memo { IsMemoOf on.now memo.old }
+    ensures memo { OnOk result (IsMemoOf on.now memo.new) }
     ensures gains { OnOk result (Gains (TextsHave found.old) (TextsHave found.new) (SourceItemAnswers on.now (SourceItem.Select item.now))) }
 {
-    let conditions = conditions_of(on, known, set, item.conditions.as_slice())?;
+    let conditions = conditions_of(on, memo, set, item.conditions.as_slice())?;
     look_up(on.alloc, found, item, conditions.as_slice(), on.tables)
 }
 
@@ -127,19 +127,19 @@ fn put_lookups<'a>(
 #[cycle(sets)]
 fn conditions_of<'a>(
     on: &OnRow<'a>,
-    known: &mut Known<'a>,
+    memo: &mut Memo<'a>,
     set: SourceSet,
     items: &'a [ConditionItem],
 ) -> Result<Vec<Cells<'a>>, NoMemory>
     requires items { EachIn (IsConditionItem on.now.arena.now set) items.now }
     requires row { IsOnRow on.now }
-    requires known { AreKnown on.now known.old }
-    ensures known { OnOk result (AreKnown on.now known.new) }
+    requires memo { IsMemoOf on.now memo.old }
+    ensures memo { OnOk result (IsMemoOf on.now memo.new) }
     ensures exact { IfOk result (λ made. (o : Option RowText) → RowsHave made.items o ↔ RowAnswers on.now items.now o) }
 {
     let mut made = Vec::new(on.alloc);
     for i in 0..items.len() {
-        let cells = condition_of(on, known, set, &items[i])?;
+        let cells = condition_of(on, memo, set, &items[i])?;
         made.push(cells)?;
     }
     Ok(made)
@@ -149,17 +149,17 @@ fn conditions_of<'a>(
 #[cycle(sets)]
 fn condition_of<'a>(
     on: &OnRow<'a>,
-    known: &mut Known<'a>,
+    memo: &mut Memo<'a>,
     set: SourceSet,
     item: &'a ConditionItem,
 ) -> Result<Cells<'a>, NoMemory>
     requires item { IsConditionItem on.now.arena.now set item.now }
     requires row { IsOnRow on.now }
-    requires known { AreKnown on.now known.old }
-    ensures known { OnOk result (AreKnown on.now known.new) }
+    requires memo { IsMemoOf on.now memo.old }
+    ensures memo { OnOk result (IsMemoOf on.now memo.new) }
     ensures exact { IfOk result (λ made. (x : Option Choice) → CellsHave made x ↔ ChoiceAnswers on.now item.now x) }
 {
-    let parts = condition_parts(on, known, set, item.atoms)?;
+    let parts = condition_parts(on, memo, set, item.atoms)?;
     cells_of(on.alloc, &item.constant, &parts)
 }
 
@@ -167,47 +167,47 @@ fn condition_of<'a>(
 #[cycle(sets)]
 fn condition_parts<'a>(
     on: &OnRow<'a>,
-    known: &mut Known<'a>,
+    memo: &mut Memo<'a>,
     set: SourceSet,
     atoms: Option<AtomSet>,
 ) -> Result<Pieces<'a>, NoMemory>
     requires atoms { IfSome atoms (OlderAtoms on.now.arena.now set) }
     requires row { IsOnRow on.now }
-    requires known { AreKnown on.now known.old }
-    ensures known { OnOk result (AreKnown on.now known.new) }
+    requires memo { IsMemoOf on.now memo.old }
+    ensures memo { OnOk result (IsMemoOf on.now memo.new) }
     ensures within { IfOk result (λ found. EachIn IsWithin found.pieces.items) }
     ensures exact { IfOk result (λ found. (o : Option (Items ℕ)) → PiecesHave found o ↔ ConditionPartAnswers on.now atoms o) }
 {
     match atoms {
-        Some(s) => parts_of(on, known, s),
+        Some(s) => parts_of(on, memo, s),
         None => Ok(Pieces::new(on.alloc)),
     }
 }
 
 /// The texts of the atoms of a set that are no constants.
 #[cycle(sets)]
-fn parts_of<'a>(on: &OnRow<'a>, known: &mut Known<'a>, s: AtomSet) -> Result<Pieces<'a>, NoMemory>
+fn parts_of<'a>(on: &OnRow<'a>, memo: &mut Memo<'a>, s: AtomSet) -> Result<Pieces<'a>, NoMemory>
     requires set { IsAtomSet on.now.arena.now s }
     requires row { IsOnRow on.now }
-    requires known { AreKnown on.now known.old }
-    ensures known { OnOk result (AreKnown on.now known.new) }
+    requires memo { IsMemoOf on.now memo.old }
+    ensures memo { OnOk result (IsMemoOf on.now memo.new) }
     ensures within { IfOk result (λ found. EachIn IsWithin found.pieces.items) }
     ensures exact { IfOk result (λ found. (o : Option (Items ℕ)) → PiecesHave found o ↔ PartAnswers on.now s o) }
 {
-    if let Some(found) = known.part(s) {
+    if let Some(found) = memo.part(s) {
         return found.copy(on.alloc);
     }
-    let found = scan_parts(on, known, s)?;
-    known.keep_part(s, found.copy(on.alloc)?)?;
+    let found = scan_parts(on, memo, s)?;
+    memo.keep_part(s, found.copy(on.alloc)?)?;
     Ok(found)
 }
 
 #[cycle(sets)]
-fn scan_parts<'a>(on: &OnRow<'a>, known: &mut Known<'a>, s: AtomSet) -> Result<Pieces<'a>, NoMemory>
+fn scan_parts<'a>(on: &OnRow<'a>, memo: &mut Memo<'a>, s: AtomSet) -> Result<Pieces<'a>, NoMemory>
     requires set { IsAtomSet on.now.arena.now s }
     requires row { IsOnRow on.now }
-    requires known { AreKnown on.now known.old }
-    ensures known { OnOk result (AreKnown on.now known.new) }
+    requires memo { IsMemoOf on.now memo.old }
+    ensures memo { OnOk result (IsMemoOf on.now memo.new) }
     ensures within { IfOk result (λ found. EachIn IsWithin found.pieces.items) }
     ensures exact { IfOk result (λ found. (o : Option (Items ℕ)) → PiecesHave found o ↔ PartAnswers on.now s o) }
 {
@@ -216,7 +216,7 @@ fn scan_parts<'a>(on: &OnRow<'a>, known: &mut Known<'a>, s: AtomSet) -> Result<P
     let items = arena.atoms(s);
     let mut found = Pieces::new(on.alloc);
     for item in items {
-        put_part(on, known, s, item, false, &mut found)?;
+        put_part(on, memo, s, item, false, &mut found)?;
     }
     Ok(found)
 }
@@ -226,7 +226,7 @@ fn scan_parts<'a>(on: &OnRow<'a>, known: &mut Known<'a>, s: AtomSet) -> Result<P
 #[cycle(sets)]
 pub(crate) fn put_part<'a>(
     on: &OnRow<'a>,
-    known: &mut Known<'a>,
+    memo: &mut Memo<'a>,
     set: AtomSet,
     item: &'a AtomItem,
     few: bool,
@@ -234,9 +234,9 @@ pub(crate) fn put_part<'a>(
 ) -> Result<(), NoMemory>
     requires item { IsAtomItem on.now.arena.now set item.now }
     requires row { IsOnRow on.now }
-    requires known { AreKnown on.now known.old }
+    requires memo { IsMemoOf on.now memo.old }
     requires within { EachIn IsWithin found.old.pieces.items }
-    ensures known { OnOk result (AreKnown on.now known.new) }
+    ensures memo { OnOk result (IsMemoOf on.now memo.new) }
     ensures within { OnOk result (EachIn IsWithin found.new.pieces.items) }
     ensures some { OnOk result (GainsSome (PiecesHave found.old) (PiecesHave found.new) (PartItemAnswers on.now item.now)) }
     ensures all { OnOk result (few ≡ false → Gains (PiecesHave found.old) (PiecesHave found.new) (PartItemAnswers on.now item.now)) }
@@ -244,15 +244,15 @@ pub(crate) fn put_part<'a>(
     match item {
         AtomItem::Const(_) => Ok(()),
         AtomItem::Whole(sources) => {
-            let texts = sources_of(on, known, *sources)?;
+            let texts = sources_of(on, memo, *sources)?;
             put_wholes(&texts, found)?;
-            known.put_last(*sources, texts);
+            memo.put_last(*sources, texts);
             Ok(())
         }
         AtomItem::Sub(sources, lefts, rights) => {
-            let texts = sources_of(on, known, *sources)?;
-            put_subs(on, known, &texts, *lefts, *rights, few, found)?;
-            known.put_last(*sources, texts);
+            let texts = sources_of(on, memo, *sources)?;
+            put_subs(on, memo, &texts, *lefts, *rights, few, found)?;
+            memo.put_last(*sources, texts);
             Ok(())
         }
     }
@@ -288,7 +288,7 @@ fn put_whole<'a>(text: &'a Text, found: &mut Pieces<'a>) -> Result<(), NoMemory>
 /// The pieces of the texts between places of the two sets: some where few will do, and else all of them.
 fn put_subs<'a>(
     on: &OnRow<'a>,
-    known: &mut Known<'a>,
+    memo: &mut Memo<'a>,
     texts: &NumberedTexts<'a>,
     lefts: PlaceSet,
     rights: PlaceSet,
@@ -297,25 +297,25 @@ fn put_subs<'a>(
 ) -> Result<(), NoMemory>
     requires lefts { IsPlaceSet on.now.arena.now lefts }
     requires rights { IsPlaceSet on.now.arena.now rights }
-    requires numbered { AreNumbered known.old.texts.items texts.now }
-    requires known { AreKnown on.now known.old }
+    requires numbered { AreNumbered memo.old.texts.items texts.now }
+    requires memo { IsMemoOf on.now memo.old }
     requires within { EachIn IsWithin found.old.pieces.items }
-    ensures known { OnOk result (AreKnown on.now known.new) }
-    ensures texts { OnOk result (known.new.texts ≡ known.old.texts) }
+    ensures memo { OnOk result (IsMemoOf on.now memo.new) }
+    ensures texts { OnOk result (memo.new.texts ≡ memo.old.texts) }
     ensures within { OnOk result (EachIn IsWithin found.new.pieces.items) }
     ensures some { OnOk result (GainsSome (PiecesHave found.old) (PiecesHave found.new) (ArePiecesOf on.now.arena.now lefts rights (NumberedHave texts.now))) }
     ensures all { OnOk result (few ≡ false → Gains (PiecesHave found.old) (PiecesHave found.new) (ArePiecesOf on.now.arena.now lefts rights (NumberedHave texts.now))) }
 {
     found.put_none(texts.none);
     for i in 0..texts.texts.len() {
-        put_pieces(on, known, &texts.texts[i], lefts, rights, few, found)?;
+        put_pieces(on, memo, &texts.texts[i], lefts, rights, few, found)?;
     }
     Ok(())
 }
 
 fn put_pieces<'a>(
     on: &OnRow<'a>,
-    known: &mut Known<'a>,
+    memo: &mut Memo<'a>,
     text: &Numbered<'a>,
     lefts: PlaceSet,
     rights: PlaceSet,
@@ -324,33 +324,33 @@ fn put_pieces<'a>(
 ) -> Result<(), NoMemory>
     requires lefts { IsPlaceSet on.now.arena.now lefts }
     requires rights { IsPlaceSet on.now.arena.now rights }
-    requires number { IsNumber known.old.texts.items text.now.text.now text.now.number }
-    requires known { AreKnown on.now known.old }
+    requires number { IsNumber memo.old.texts.items text.now.text.now text.now.number }
+    requires memo { IsMemoOf on.now memo.old }
     requires within { EachIn IsWithin found.old.pieces.items }
-    ensures known { OnOk result (AreKnown on.now known.new) }
-    ensures texts { known.new.texts ≡ known.old.texts }
+    ensures memo { OnOk result (IsMemoOf on.now memo.new) }
+    ensures texts { memo.new.texts ≡ memo.old.texts }
     ensures within { OnOk result (EachIn IsWithin found.new.pieces.items) }
     ensures some { OnOk result (GainsSome (PiecesHave found.old) (PiecesHave found.new) (SubGives on.now.arena.now lefts rights text.now.text.now)) }
     ensures all { OnOk result (few ≡ false → Gains (PiecesHave found.old) (PiecesHave found.new) (SubGives on.now.arena.now lefts rights text.now.text.now)) }
 {
-    find_positions(on, known, text, lefts, rights, few)?;
-    put_between(found, text.text, &known.lefts, &known.rights)
+    find_positions(on, memo, text, lefts, rights, few)?;
+    put_between(found, text.text, &memo.lefts, &memo.rights)
 }
 
 /// The texts of the atoms of a set.
 pub(crate) fn atoms_of<'a>(
     on: &OnRow<'a>,
-    known: &mut Known<'a>,
+    memo: &mut Memo<'a>,
     s: AtomSet,
 ) -> Result<Pieces<'a>, NoMemory>
     requires set { IsAtomSet on.now.arena.now s }
     requires row { IsOnRow on.now }
-    requires known { AreKnown on.now known.old }
-    ensures known { OnOk result (AreKnown on.now known.new) }
+    requires memo { IsMemoOf on.now memo.old }
+    ensures memo { OnOk result (IsMemoOf on.now memo.new) }
     ensures within { IfOk result (λ found. EachIn IsWithin found.pieces.items) }
     ensures exact { IfOk result (λ found. (o : Option (Items ℕ)) → PiecesHave found o ↔ AtomAnswers on.now s o) }
 {
-    let mut found = parts_of(on, known, s)?;
+    let mut found = parts_of(on, memo, s)?;
     let items = on.arena.atoms(s);
     for item in items {
         put_constant(item, &mut found)?;

@@ -3,10 +3,10 @@ ghost use Rattle.std.specs.Prelude.{ℕ, List as Items, Option, Some, IfOk, IfSo
 ghost use Rattle.fill_arena.specs.Contents.{EachIn, IsAtomSet, SomeIn};
 ghost use Rattle.fill_eval.specs.Piece.{IsWithin, piece_text};
 ghost use Rattle.fill_doubt.specs.Answers.{PiecesHave};
-ghost use Rattle.fill_doubt.specs.Known.{AreKnown, AtomAnswers, ConstantItemAnswers, IsOnRow};
+ghost use Rattle.fill_doubt.specs.Memo.{IsMemoOf, AtomAnswers, ConstantItemAnswers, IsOnRow};
 
 use crate::answers::Pieces;
-use crate::known::Known;
+use crate::memo::Memo;
 use crate::row::OnRow;
 use crate::sets::{atoms_of, put_part};
 use fill_arena::{AtomItem, AtomSet};
@@ -16,13 +16,13 @@ use fill_text::NoMemory;
 /// Answers of atoms of the set that are no constants.
 pub(crate) fn some_of<'a>(
     on: &OnRow<'a>,
-    known: &mut Known<'a>,
+    memo: &mut Memo<'a>,
     s: AtomSet,
 ) -> Result<Pieces<'a>, NoMemory>
     requires set { IsAtomSet on.now.arena.now s }
     requires row { IsOnRow on.now }
-    requires known { AreKnown on.now known.old }
-    ensures known { OnOk result (AreKnown on.now known.new) }
+    requires memo { IsMemoOf on.now memo.old }
+    ensures memo { OnOk result (IsMemoOf on.now memo.new) }
     ensures within { IfOk result (λ found. EachIn IsWithin found.pieces.items) }
     ensures sound { IfOk result (λ found. (o : Option (Items ℕ)) → PiecesHave found o → AtomAnswers on.now s o) }
 {
@@ -34,7 +34,7 @@ pub(crate) fn some_of<'a>(
         if found.are_several() {
             return Ok(found);
         }
-        put_part(on, known, s, item, true, &mut found)?;
+        put_part(on, memo, s, item, true, &mut found)?;
     }
     Ok(found)
 }
@@ -42,23 +42,23 @@ pub(crate) fn some_of<'a>(
 /// A text of the set, if one of its atoms has one. That of a constant takes no look at other atoms.
 pub(crate) fn first_piece<'a>(
     on: &OnRow<'a>,
-    known: &mut Known<'a>,
+    memo: &mut Memo<'a>,
     s: AtomSet,
 ) -> Result<Option<Piece<'a>>, NoMemory>
     requires set { IsAtomSet on.now.arena.now s }
     requires row { IsOnRow on.now }
-    requires known { AreKnown on.now known.old }
-    ensures known { OnOk result (AreKnown on.now known.new) }
+    requires memo { IsMemoOf on.now memo.old }
+    ensures memo { OnOk result (IsMemoOf on.now memo.new) }
     ensures first { IfOk result (λ o. MatchOption o ((t : Items ℕ) → ¬ (AtomAnswers on.now s (Some t))) (λ piece. IsWithin piece × AtomAnswers on.now s (Some (piece_text piece)))) }
 {
     if let Some(piece) = first_constant(on.arena.atoms(s)) {
         return Ok(Some(piece));
     }
-    let some = some_of(on, known, s)?;
+    let some = some_of(on, memo, s)?;
     if let Some(piece) = some.first() {
         return Ok(Some(piece));
     }
-    let found = atoms_of(on, known, s)?;
+    let found = atoms_of(on, memo, s)?;
     Ok(found.first())
 }
 

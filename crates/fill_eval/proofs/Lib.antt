@@ -1,4 +1,3 @@
-mod Columns
 pub mod Guards
 pub mod Lookups
 pub mod Pieces

@@ -1,10 +1,9 @@
 //! Literals, guards and conditional programs on a row.
-ghost use Rattle.std.specs.Prelude.{◌≡◌, ◌≤◌, ◌↔◌, IsTrue, IfOk, All, Contains, None, length};
+ghost use Rattle.std.specs.Prelude.{◌≤◌, ◌↔◌, IsTrue, IfOk, All, Contains, length};
 ghost use Rattle.fill_tree.specs.Guard.{GuardHolds, LiteralHolds, ReadsInputs, SwitchIs, Takes};
 ghost use Rattle.fill_tree.specs.Meaning.{program_tree};
 ghost use Rattle.fill_tree.specs.Switch.{switch_tree};
 ghost use Rattle.fill_tree.specs.Value.{IsValue};
-ghost use Rattle.fill_eval.specs.Columns.{IsFirstOther, case_columns, guard_columns};
 
 use crate::value::program_value;
 use fill_sheet::Sheet;
@@ -64,36 +63,6 @@ pub fn switch_reads_inputs(s: &Switch, sheet: &Sheet) -> bool
         }
     }
     true
-}
-
-/// The first column that a guard reads and that is no input: in the order of the cases, and of a guard's literals.
-pub fn first_other_column(s: &Switch, sheet: &Sheet) -> Option<u32>
-    ensures first { IsFirstOther sheet.now.inputs (case_columns s.now.cases) result }
-    ensures none { (result ≡ None) ↔ All (λ c. ReadsInputs sheet.now c.guard) s.now.cases }
-{
-    for case in s.cases.as_slice() {
-        if let Some(column) = other_column(&case.guard, sheet) {
-            return Some(column);
-        }
-    }
-    None
-}
-
-/// The first column of the guard that is no input.
-fn other_column(g: &Guard, sheet: &Sheet) -> Option<u32>
-    ensures { IsFirstOther sheet.now.inputs (guard_columns g.now) result }
-{
-    if !is_input(g.first.column, sheet) {
-        return Some(g.first.column);
-    }
-    let Some(second) = &g.second else {
-        return None;
-    };
-    if is_input(second.column, sheet) {
-        None
-    } else {
-        Some(second.column)
-    }
 }
 
 /// The program that the row takes.

@@ -11,8 +11,7 @@ mod piece;
 mod value;
 
 pub use guard::{
-    first_other_column, guard_holds, guard_reads_inputs, literal_holds, switch_reads_inputs,
-    switch_value,
+    guard_holds, guard_reads_inputs, literal_holds, switch_reads_inputs, switch_value,
 };
 pub use lookup::{found_row, input_cell, table_cell};
 pub use piece::Piece;

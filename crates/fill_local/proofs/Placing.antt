@@ -21,11 +21,16 @@ module _ {I : Type 0} (R : I → I → Type 0) (fits fits' : List I → Type 0) 
 
     prefers_to : (rule : Placing) (k : ℕ) (b c : List I) → Zip b c → Prefers rule fits weight bs x k b → Prefers rule fits' weight' cs y k c
     prefers_to First k b c bc p = λ j d lt e f. let m = there j d e in p j m.0 lt m.1 (back (m.0 ++ x ∷ []) (d ++ y ∷ []) m.2 f)
-    prefers_to Lightest k b c bc p = (
-      p.0,
-      w_to (b ++ x ∷ []) (c ++ y ∷ []) (zip_push R b c x y bc xy) p.0 p.1,
-      λ j d v e f w. let m = there j d e in p.2 j m.0 v m.1 (back (m.0 ++ x ∷ []) (d ++ y ∷ []) m.2 f) (w_back (m.0 ++ x ∷ []) (d ++ y ∷ []) m.2 v w),
-    )
+    prefers_to Lightest k b c bc p =
+        λ j d ne e f.
+        let m = there j d e in
+        let q = p j m.0 ne m.1 (back (m.0 ++ x ∷ []) (d ++ y ∷ []) m.2 f) in (
+          q.0,
+          q.1,
+          w_to (b ++ x ∷ []) (c ++ y ∷ []) (zip_push R b c x y bc xy) q.0 q.2,
+          w_to (m.0 ++ x ∷ []) (d ++ y ∷ []) m.2 q.1 q.3,
+          λ u w. q.4 u (w_back (m.0 ++ x ∷ []) (d ++ y ∷ []) m.2 u w),
+        )
 
     pub none_to : NoneFits fits bs x → NoneFits fits' cs y
     none_to none = λ j d e f. let m = there j d e in none j m.0 m.1 (back (m.0 ++ x ∷ []) (d ++ y ∷ []) m.2 f)

@@ -2,7 +2,6 @@
 use Rattle.std.proofs.Common.{◌≡◌, ℕ, ◌+◌, ◌<◌, inl, inr, List, [], ◌∷◌, ◌++◌, length, Option, None, Some, slice_get, refl, sym, ap, ◌∙◌, subst, arith}
 use Rattle.std.specs.Prelude.{IfSome, MatchOption}
 use Rattle.std.proofs.lemmas.Bool.{cases_lt}
-use Rattle.std.proofs.lemmas.Option.{slice_get_within}
 use Rattle.fill_arena.specs.Contents.{EachIn, Extends, In, IsAtomSet, IsPlaceSet}
 use Rattle.fill_arena.specs.Stands.{PlaceStands}
 use Rattle.fill_arena.specs.WellMade.{IsAtomItem}
@@ -17,7 +16,7 @@ use Rattle.fill_meet.specs.Mates.{AreHolders, IsMated}
 use Rattle.fill_meet.specs.Meet.{AreApart, AreMet}
 use Rattle.fill_meet.specs.Rows.{AreDone, IsEntryDone}
 use Rattle.fill_meet.specs.Runs.{Grows}
-use Rattle.fill_meet.specs.Sets.{AtomIn, PairsState}
+use Rattle.fill_meet.specs.Sets.{AtomIn, IsItem, ItemsAtMeet, PairsState}
 use Rattle.fill_meet.specs.declared.holders.Holder.{Holder}
 use Rattle.fill_meet.specs.declared.index.Index.{Index}
 use Rattle.fill_meet.specs.declared.index.Item.{Item}
@@ -26,7 +25,8 @@ use Rattle.fill_meet.specs.declared.makes.Task.{Task}
 use Rattle.fill_meet.specs.declared.mates.Mated.{Mated}
 use Rattle.fill_meet.proofs.Grown.{grows_pushed, grows_same, some_grown}
 use Rattle.fill_meet.proofs.Grows.{apart_stay, atom_item_stays, atoms_stay, places_stay}
-use Rattle.fill_meet.proofs.IndexLaws.{items_stay, listed_once}
+use Rattle.fill_meet.proofs.IndexLaws.{items_stay}
+use Rattle.fill_meet.proofs.ItemPairs.{at_item, item_once, item_stays}
 use Rattle.fill_meet.proofs.LabelLaws.{labels_sets}
 use Rattle.fill_meet.proofs.Lists.{in_last, in_pushed, same_value, some_more}
 use Rattle.fill_meet.proofs.States.{state_stays}
@@ -36,7 +36,7 @@ pub shared_on : (c d : List Entry) → Extends c d → (zs more : List AtomItem)
 shared_on c d o zs more grown x y h = λ e a q fx fy. some_grown (λ v. AtomIn e v a) zs more grown (h e a (extends_on c d e o q) fx fy)
 
 pub shared_of_on : (c d : List Entry) → Extends c d → (k : Task) (zs more : List AtomItem) → Grows zs more → (n j : ℕ) (y : AtomItem) → IsSharedOf c k zs n j y → IsSharedOf d k more n j y
-shared_of_on c d o k zs more grown n j y h = λ x hx e. shared_on c d o zs more grown x y (h x hx e)
+shared_of_on c d o k zs more grown n j y h = λ e. let s = h e in (s.0, item_stays c d o k.first k.place s.0 s.1, shared_on c d o zs more grown s.0 y s.2)
 
 pub apart_shared : (c : List Entry) (zs : List AtomItem) (x y : AtomItem) → AreApart AtomIn c x y → IsShared c zs x y
 apart_shared c zs x y apart = λ d a o fx fy. absurd (apart d o a fx fy)
@@ -71,64 +71,77 @@ module _ (c : List Entry) (n : ℕ) (xs ys zs : List AtomItem) (i j : ℕ) (x y 
     λ d a o fx fy. (z, subst (λ l. In z l) (sym e) (in_last zs z), (m.1.both d o a).1 (fx, fy)),
   )
 
+-- an atom of the task's item and of item j of its second set is one of the list
+abbrev pub IsSharedAt : List Entry → Task → List AtomItem → ℕ → Type 0
+IsSharedAt c k zs j = (y : AtomItem) → IsItem c k.second j y → (x : AtomItem) × IsItem c k.first k.place x × IsShared c zs x y
+
 -- one more pair, made in a later arena
-pub one_step : (c d : List Entry) → Extends c d → (n : ℕ) (xs ys zs more : List AtomItem) (i j : ℕ) (x y : AtomItem) (made : Option AtomItem) → slice_get xs i ≡ Some x → slice_get ys j ≡ Some y → PairsState AtomIn IsAtomItem c n xs ys i 0 zs
-    → MatchOption made (AreApart AtomIn d x y) (λ z. IsAtomItem d (length d) z × AreMet AtomIn d x y z) → MatchOption made (more ≡ zs) (λ z. more ≡ zs ++ z ∷ []) → PairsState AtomIn IsAtomItem d n xs ys i 0 more × Grows zs more × IsShared d more x y
-one_step c d o n xs ys zs more i j x y made hx hy s m e = one_made d n xs ys zs i j x y hx hy (state_stays AtomIn IsAtomItem atom_item_stays c d n xs ys zs i 0 o s) more made m e
+pub one_step : (c d : List Entry) → Extends c d → (k : Task) (zs more : List AtomItem) (j : ℕ) (made : Option AtomItem) → IsMadeTo c k k.place zs → ItemsAtMeet d k.first k.place k.second j made → MatchOption made (more ≡ zs) (λ z. more ≡ zs ++ z ∷ [])
+    → IsMadeTo d k k.place more × Grows zs more × IsSharedAt d k more j
+one_step c d o k zs more j made p met put =
+    let hs = o k.first (kind.Atoms p.xs) p.first in
+    let ht = o k.second (kind.Atoms p.ys) p.second in
+    let hx = at_item d k.first k.place met.0 p.xs hs met.2 in
+    let hy = at_item d k.second j met.1 p.ys ht met.3 in
+    let s = state_stays AtomIn IsAtomItem atom_item_stays c d k.first p.xs p.ys zs k.place 0 o p.state in
+    let one = one_made d k.first p.xs p.ys zs k.place j met.0 met.1 hx hy s more made met.4 put in (
+      record { xs = p.xs; ys = p.ys; first = hs; second = ht; state = one.0 },
+      one.1,
+      λ y at. (met.0, met.2, subst (λ w. IsShared d more met.0 w) (item_once d k.second j met.1 y met.3 at) one.2),
+    )
 
 -- what has nothing in common with the task's item
-pub out_shared : (c : List Entry) (k : Task) (x : AtomItem) (zs : List AtomItem) → slice_get k.xs.now k.place ≡ Some x → (n j : ℕ) (y : AtomItem) → AreApart AtomIn c x y → IsSharedOf c k zs n j y
-out_shared c k x zs hx n j y apart = λ w hw e. apart_shared c zs w y (subst (λ v. AreApart AtomIn c v y) (same_value k.xs.now k.place k.place x w refl hx hw) apart)
+pub out_shared : (c : List Entry) (k : Task) (x : AtomItem) (zs : List AtomItem) → IsItem c k.first k.place x → (n j : ℕ) (y : AtomItem) → AreApart AtomIn c x y → IsSharedOf c k zs n j y
+out_shared c k x zs hx n j y apart = λ e. (x, hx, apart_shared c zs x y apart)
 
 module _ (c : List Entry) (k : Task) (task : IsTask c k) where
   -- after all items that may have something in common with the task's
-  pub made_next : (x : AtomItem) (zs : List AtomItem) → slice_get k.xs.now k.place ≡ Some x → AreDone c k.guide.now.index.labels.sets.items (IsSharedOf c k zs) → IsMadeTo c k k.place zs → IsMadeTo c k (k.place + 1) zs
-  made_next x zs hx done made =
+  pub made_next : (zs : List AtomItem) → AreDone c k.guide.now.index.labels.sets.items (IsSharedOf c k zs) → IsMadeTo c k k.place zs → IsMadeTo c k (k.place + 1) zs
+  made_next zs done made =
       record {
+        xs = made.xs;
+        ys = made.ys;
         first = made.first;
         second = made.second;
-        made = made.made;
-        pairs = record {
-          back = made.pairs.back;
-          some = made.pairs.some;
-          forth = λ d a m l u v o h gx gy fx fy.
-              (let before : m < k.place + 1 = elim h [ inl lt ↦ lt | inr e ↦ (let lt = e.1 in absurd (omega arith)) ] in
-              elim (cases_lt m k.place) [
-                | inl less ↦ made.pairs.forth d a m l u v o (inl less) gx gy fx fy
-                | inr past ↦
-                    let same : x ≡ u = same_value k.xs.now k.place m x u (omega arith) hx gx in
-                    let shared = done.each k.number l v (task.set, k.ys.now, task.number, task.items, gy) x hx refl in
-                    shared d a o (subst (λ w. AtomIn d w a) (sym same) fx) fy
-              ]);
+        state = record {
+          first = made.state.first;
+          second = made.state.second;
+          made = made.state.made;
+          pairs = record {
+            back = made.state.pairs.back;
+            some = made.state.pairs.some;
+            forth = λ d a m l u v o h gx gy fx fy.
+                (let before : m < k.place + 1 = elim h [ inl lt ↦ lt | inr e ↦ (let lt = e.1 in absurd (omega arith)) ] in
+                elim (cases_lt m k.place) [
+                  | inl less ↦ made.state.pairs.forth d a m l u v o (inl less) gx gy fx fy
+                  | inr past ↦
+                      let here : m ≡ k.place = omega arith in
+                      let shared = done.each k.number l v (k.second, made.ys, task.number, made.second, gy) refl in
+                      let same = item_once c k.first k.place u shared.0 (made.xs, made.first, subst (λ n. slice_get made.xs n ≡ Some u) here gx) shared.1 in
+                      shared.2 d a o (subst (λ w. AtomIn d w a) same fx) fy
+                ]);
+          };
         };
       }
 
   -- the item of an entry of the task's second set
-  pub task_listed : (z : Item) (y : AtomItem) → z.set ≡ k.number → slice_get k.ys.now z.place ≡ Some y → IsListed c k.guide.now.index.labels.sets.items z.set z.place y
-  task_listed z y e at = (task.set, k.ys.now, subst (λ n. slice_get k.guide.now.index.labels.sets.items n ≡ Some task.set) (sym e) task.number, task.items, at)
-
-  pub task_within : (z : Item) (y : AtomItem) → z.set ≡ k.number → IsListed c k.guide.now.index.labels.sets.items z.set z.place y → z.place < length k.ys.now
-  task_within z y e listed =
-      let set : listed.0 ≡ task.set = same_value k.guide.now.index.labels.sets.items z.set k.number listed.0 task.set e listed.2 task.number in
-      let both : Some (kind.Atoms listed.1) ≡ Some (kind.Atoms k.ys.now) = sym listed.3 ∙ subst (λ n. slice_get c n ≡ Some (kind.Atoms k.ys.now)) (sym set) task.items in
-      let same : listed.1 ≡ k.ys.now = cc in
-      slice_get_within k.ys.now z.place y (subst (λ l. slice_get l z.place ≡ Some y) same listed.4)
+  pub task_item : (z : Item) (y : AtomItem) → z.set ≡ k.number → IsListed c k.guide.now.index.labels.sets.items z.set z.place y → IsItem c k.second z.place y
+  task_item z y e listed =
+      let set : listed.0 ≡ k.second = same_value k.guide.now.index.labels.sets.items z.set k.number listed.0 k.second e listed.2 task.number in
+      (listed.1, subst (λ n. slice_get c n ≡ Some (kind.Atoms listed.1)) set listed.3, listed.4)
 
 -- an entry of another set, and one whose item was made
 module _ (c : List Entry) (k : Task) (hash e : ℕ) (z : Item) (hz : slice_get k.guide.now.index.items.items e ≡ Some z) where
   pub entry_of_other : (zs : List AtomItem) → (z.set ≡ k.number → ⊥) → IsEntryDone c k.guide.now.index (IsSharedOf c k zs) hash e
   entry_of_other zs other =
-      record { each = λ u y hu same listed x hx number. (let is : z ≡ u = same_value k.guide.now.index.items.items e e z u refl hz hu in absurd (other (ap (λ v. v.set) is ∙ number))) }
+      record { each = λ u y hu same listed number. (let is : z ≡ u = same_value k.guide.now.index.items.items e e z u refl hz hu in absurd (other (ap (λ v. v.set) is ∙ number))) }
 
-  pub entry_shared : (zs : List AtomItem) (x y : AtomItem) → slice_get k.xs.now k.place ≡ Some x → IsListed c k.guide.now.index.labels.sets.items z.set z.place y → IsShared c zs x y → IsEntryDone c k.guide.now.index (IsSharedOf c k zs) hash e
-  entry_shared zs x y hx at shared =
+  pub entry_shared : IsTask c k → (zs : List AtomItem) → IsSharedAt c k zs z.place → IsEntryDone c k.guide.now.index (IsSharedOf c k zs) hash e
+  entry_shared task zs shared =
       record {
-        each = λ u v hu same listed w hw number.
-            (let labels = k.guide.now.index.labels.sets.items in
-            let is : z ≡ u = same_value k.guide.now.index.items.items e e z u refl hz hu in
-            let one : y ≡ v = listed_once c labels z.set z.place y v at (subst (λ i. IsListed c labels i.set i.place v) (sym is) listed) in
-            let this : x ≡ w = same_value k.xs.now k.place k.place x w refl hx hw in
-            subst (λ i. IsShared c zs i v) this (subst (IsShared c zs x) one shared));
+        each = λ u v hu same listed number.
+            (let is : z ≡ u = same_value k.guide.now.index.items.items e e z u refl hz hu in
+            shared v (subst (λ i. IsItem c k.second i.place v) (sym is) (task_item c k task u v number listed)));
       }
 
 -- a guide stays one as the arena grows
@@ -173,7 +186,7 @@ module _ (c d : List Entry) (o : Extends c d) where
       }
 
   pub task_stays : (k : Task) → IsTask c k → IsTask d k
-  task_stays k is = record { guide = guide_stays k.guide.now is.guide; within = is.within; set = is.set; number = is.number; items = o is.set (kind.Atoms k.ys.now) is.items }
+  task_stays k is = record { guide = guide_stays k.guide.now is.guide; item = (is.item.0, item_stays c d o k.first k.place is.item.0 is.item.1); number = is.number }
 
 -- so where there may be none
 pub guides_stay : (c d : List Entry) → Extends c d → (g : Option Guide) → IfSome g (IsGuide c) → IfSome g (IsGuide d)

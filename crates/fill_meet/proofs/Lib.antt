@@ -8,6 +8,7 @@ pub mod Parts
 pub mod Conditions
 pub mod Selects
 pub mod Listed
+pub mod ItemPairs
 pub mod Memories
 pub mod Products
 pub mod Chains

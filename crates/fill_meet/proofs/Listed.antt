@@ -1,7 +1,5 @@
 -- What two sets have in common, by what they list.
-use Rattle.std.proofs.Common.{◌≡◌, ◌↔◌, ℕ, ◌≤◌, List, length, Some, All, slice_get, sym, ◌∙◌, subst, arith}
-use Rattle.std.specs.List.{AllPairs}
-use Rattle.fill_tokens.specs.PlaceGrammar.{IsPlace}
+use Rattle.std.proofs.Common.{◌≡◌, ◌↔◌, ℕ, ◌≤◌, List, length, Some, slice_get, sym, ◌∙◌, subst, arith}
 use Rattle.fill_tokens.specs.declared.place.Place.{Place}
 use Rattle.fill_tree.specs.Tree.{SourceTree, AtomTree, col, select}
 use Rattle.fill_tree.specs.Grammar.{source_depth}
@@ -17,7 +15,6 @@ use Rattle.fill_arena.proofs.Lists.{extends_on, extends_same}
 use Rattle.fill_meet.specs.Meet.{AreMet, AreApart}
 use Rattle.fill_meet.specs.Sets.{AtomIn, SourceIn, NamesOlder, PairsState, AreAtomsMet, IsItemWithin}
 use Rattle.fill_meet.proofs.Lists.{in_empty, some_first, is_empty, positive}
-use Rattle.fill_meet.proofs.Merge.{Before}
 use Rattle.fill_meet.proofs.Pairs.{pairs_end}
 
 -- for a kind of sets, by what a list of its items stands for
@@ -77,9 +74,6 @@ module _ (c d : List Entry) (o : Extends c d) (s t : ℕ) (xs ys zs : List Place
 pub places_within_met : (c : List Entry) (s t : ℕ) (xs ys : List Place) → slice_get c s ≡ Some (Places xs) → slice_get c t ≡ Some (Places ys) → ArePlaces xs → EachIn (λ p. In p ys) xs → AreMet PlaceStands c s t s
 places_within_met c s t xs ys hs ht are all =
     places_met c c (extends_same c) s t xs ys xs hs ht (λ p. (λ h. (h, all h.0 p h.1), λ h. h.0)) s hs (λ e. let lt = are.some in absurd (omega arith))
-
-pub are_places : (zs : List Place) → (length zs ≡ 0 → ⊥) → AllPairs Before zs → All IsPlace zs → ArePlaces zs
-are_places zs some rising grammar = record { some = positive (length zs) some; rising = rising; grammar = grammar }
 
 -- sources: the loop began in c0 and ended in c; the set is new in d
 module _ (c0 c : List Entry) (o : Extends c0 c) (n s t i : ℕ) (xs ys zs : List SourceItem) (hs : slice_get c0 s ≡ Some (Sources xs)) (ht : slice_get c0 t ≡ Some (Sources ys)) (long : length xs ≤ i) (p : PairsState SourceIn NamesOlder c n xs ys i 0 zs) where

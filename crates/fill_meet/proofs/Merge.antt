@@ -1,5 +1,5 @@
 -- The steps of a merge of two lists of places in order.
-use Rattle.std.proofs.Common.{◌≡◌, ◌↔◌, ℕ, ◌+◌, ◌<◌, ◌≤◌, ◌⊎◌, inl, inr, List, [], ◌∷◌, ◌++◌, length, get_or, Some, All, slice_get, refl, sym, ap, ◌∙◌, subst, arith}
+use Rattle.std.proofs.Common.{◌≡◌, ◌↔◌, ℕ, ◌+◌, ◌<◌, ◌≤◌, ◌⊎◌, inl, inr, List, [], ◌∷◌, ◌++◌, length, get_or, Some, slice_get, refl, sym, ap, ◌∙◌, subst, arith}
 use Rattle.std.specs.List.{AllPairs}
 use Rattle.std.specs.Ordering.{ordering_reverse}
 use Rattle.std.specs.declared.cmp.Ordering.TheVariants.{Less, Equal, Greater}
@@ -138,12 +138,6 @@ merged_end xs ys both i j h m p = (
       let wy = slice_get_within ys q.1.0 p q.1.1 in
       m.forth q.0.0 q.1.0 p (elim h [ inl r ↦ inl (omega arith) | inr r ↦ inr (omega arith) ]) q.0.1 q.1.1,
 )
-
--- what all of the first list's items have, all of the common ones have
-pub all_common : (P : Place → Type 0) (xs both : List Place) → ((p : Place) → In p both → In p xs) → All P xs → All P both
-all_common P xs both back all = λ k d lt.
-    let there = back (get_or both k d) (k, slice_get-get_or both k d lt) in
-    subst P (get_or_from_slice_get xs there.0 (get_or both k d) d there.1) (all there.0 d (slice_get_within xs there.0 (get_or both k d) there.1))
 
 -- the same place in both lists
 pub shared_place : (xs ys : List Place) (i j : ℕ) (x y : Place) → slice_get xs i ≡ Some x → slice_get ys j ≡ Some y → place_cmp x y ≡ Equal → SomeIn (λ p. In p ys) xs

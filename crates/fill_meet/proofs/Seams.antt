@@ -3,6 +3,7 @@ use Rattle.std.proofs.Common.{◌≡◌, ℕ, ◌+◌, ◌<◌, ◌≤◌, inl, 
 use Rattle.std.proofs.lemmas.Bool.{cases_lt}
 use Rattle.std.proofs.lemmas.Option.{slice_get_within}
 use Rattle.fill_arena.specs.Contents.{Extends}
+use Rattle.fill_arena.specs.Order.{IsTopological}
 use Rattle.fill_arena.specs.Stands.{AtomStands}
 use Rattle.fill_arena.specs.declared.entry.Entry.{Entry}
 use Rattle.fill_arena.specs.declared.entry.Edge.{Edge}
@@ -23,7 +24,7 @@ IsJoinedBefore c ties i e = (k : ℕ) × (t : Tie) × (k < i) × (slice_get ties
 pub record JoinedSoFar (c : List Entry) (live : List Bool) (ties : List Tie) (i : ℕ) (edges : List Edge) : Type 0 where
   pub sound : (j : ℕ) (e : Edge) → slice_get edges j ≡ Some e → IsJoinedBefore c ties i e
   pub covers : (k : ℕ) (t : Tie) → k < i → slice_get ties k ≡ Some t → IsMarked live t.to → IsDone c edges t
-  pub ordered : (j k : ℕ) (e f : Edge) → slice_get edges j ≡ Some e → slice_get edges k ≡ Some f → e.to ≡ f.from → j < k
+  pub ordered : IsTopological edges
 
 pub joined_start : (c : List Entry) (live : List Bool) (ties : List Tie) (edges : List Edge) → edges ≡ [] → JoinedSoFar c live ties 0 edges
 joined_start c live ties edges none =

@@ -1,6 +1,7 @@
 -- The ties that lead to the last pair of nodes, and their edges.
 use Rattle.std.specs.Prelude.{◌≡◌, ◌⊎◌, ℕ, ◌-◌, ◌<◌, Bool, List, [], ◌∷◌, ◌++◌, length, Some, slice_get}
 use Rattle.fill_arena.specs.Contents.{In, SomeIn, EachIn}
+use Rattle.fill_arena.specs.Order.{IsTopological}
 use Rattle.fill_arena.specs.Stands.{AtomStands}
 use Rattle.fill_arena.specs.declared.entry.Entry.{Entry}
 use Rattle.fill_arena.specs.declared.entry.Edge.{Edge}
@@ -33,7 +34,7 @@ IsDone c edges t = SomeIn (IsJoined c t) edges ⊎ AreApart AtomStands c t.left 
 pub record AreJoined (c : List Entry) (live : List Bool) (ties : List Tie) (edges : List Edge) : Type 0 where
   pub sound : EachIn (λ e. SomeIn (λ t. IsJoined c t e) ties) edges
   pub covers : (t : Tie) → In t ties → IsMarked live t.to → IsDone c edges t
-  pub ordered : (j k : ℕ) (e f : Edge) → slice_get edges j ≡ Some e → slice_get edges k ≡ Some f → e.to ≡ f.from → j < k
+  pub ordered : IsTopological edges
 
 -- what was done for one tie
 abbrev pub IsJoinedTo : List Entry → Tie → List Edge → List Edge → Type 0

@@ -54,6 +54,17 @@ AtomSetsMeet c s t made = MatchOption made (AreApart AtomStands c s t) (AreAtoms
 abbrev pub AtomItemsMeet : List Entry → AtomItem → AtomItem → Option AtomItem → Type 0
 AtomItemsMeet c x y made = MatchOption made (AreApart AtomIn c x y) (λ z. IsAtomItem c (length c) z × AreMet AtomIn c x y z)
 
+-- item i of the set of atoms s
+abbrev pub IsItem : List Entry → ℕ → ℕ → AtomItem → Type 0
+IsItem c s i x = (items : List AtomItem) × (slice_get c s ≡ Some (kind.Atoms items)) × (slice_get items i ≡ Some x)
+
+abbrev pub HasItem : List Entry → ℕ → ℕ → Type 0
+HasItem c s i = (x : AtomItem) × IsItem c s i x
+
+-- what item i of the set s and item j of the set t have in common
+abbrev pub ItemsAtMeet : List Entry → ℕ → ℕ → ℕ → ℕ → Option AtomItem → Type 0
+ItemsAtMeet c s i t j made = (x : AtomItem) × (y : AtomItem) × IsItem c s i x × IsItem c t j y × AtomItemsMeet c x y made
+
 abbrev pub SourceItemsMeet : List Entry → SourceItem → SourceItem → Option SourceItem → Type 0
 SourceItemsMeet c x y made = MatchOption made (AreApart SourceIn c x y) (λ z. NamesOlder c (length c) z × AreMet SourceIn c x y z)
 
@@ -123,3 +134,11 @@ pub record PairsState {A I : Type 0} (Has : List Entry → I → A → Type 0) (
   pub second : EachIn (λ y. (m : ℕ) × Old c m y) ys
   pub made : EachIn (Old c (length c)) zs
   pub pairs : PairsMeet Has c xs ys i j zs
+
+-- so for the items of the sets of atoms s and t
+pub record ArePaired (c : List Entry) (s t i j : ℕ) (zs : List AtomItem) : Type 0 where
+  pub xs : List AtomItem
+  pub ys : List AtomItem
+  pub first : slice_get c s ≡ Some (kind.Atoms xs)
+  pub second : slice_get c t ≡ Some (kind.Atoms ys)
+  pub state : PairsState AtomIn IsAtomItem c s xs ys i j zs

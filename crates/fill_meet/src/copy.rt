@@ -1,30 +1,9 @@
 //! Copies of what sets list.
 ghost use Rattle.std.specs.Prelude.{◌≡◌, IfOk};
 
-use fill_arena::{AtomItem, ConditionItem, SelectItem, SourceItem};
+use fill_arena::{ConditionItem, SelectItem, SourceItem};
 use fill_text::{List, NoMemory, Text};
 use std::alloc::Global;
-
-/// The items of a set of atoms.
-pub(crate) fn copy_atoms(alloc: Global, items: &[AtomItem]) -> Result<List<AtomItem>, NoMemory>
-    ensures { IfOk result (λ copied. copied ≡ items.now) }
-{
-    let mut copied = List::with_capacity(alloc, items.len())?;
-    for item in items {
-        copied.push(copy_atom(item)?)?;
-    }
-    Ok(copied)
-}
-
-fn copy_atom(item: &AtomItem) -> Result<AtomItem, NoMemory>
-    ensures { IfOk result (λ copied. copied ≡ item.now) }
-{
-    match item {
-        AtomItem::Const(text) => Ok(AtomItem::Const(text.copy()?)),
-        AtomItem::Whole(sources) => Ok(AtomItem::Whole(*sources)),
-        AtomItem::Sub(sources, lefts, rights) => Ok(AtomItem::Sub(*sources, *lefts, *rights)),
-    }
-}
 
 /// The items of a set of sources.
 pub(crate) fn copy_sources(

@@ -7,12 +7,11 @@ ghost use Rattle.fill_meet.specs.Rows.{AreAlikeDone, AreEndsDone, ArePiecesDone,
 ghost use Rattle.fill_meet.specs.Runs.{Grows};
 ghost use Rattle.fill_meet.specs.Sets.{AtomSetsMeet};
 
-use crate::copy::copy_atoms;
 use crate::index::{Index, WHOLE, hash_constant, hash_piece};
 use crate::mates::Mates;
 use crate::memo::Memo;
 use crate::runs::Run;
-use crate::sets::{MOSTLY, make_atoms, meet_atom_items, meet_atom_row, push_some};
+use crate::sets::{MOSTLY, item_at, make_atoms, meet_atom_items, meet_atom_row, push_some};
 use fill_arena::{Arena, AtomItem, AtomSet};
 use fill_text::{List, NoMemory};
 
@@ -23,15 +22,14 @@ pub(crate) struct Guide {
     pub(crate) mates: Mates,
 }
 
-/// An item of a set of the first graph, by its place; the items of a set of the second graph, with the set's number; and what
-/// finds those.
+/// An item of a set of the first graph, by its place; a set of the second graph, with its number in the index; and what finds
+/// the items of this one.
 #[derive(Clone, Copy)]
 pub(crate) struct Task<'a> {
     pub(crate) guide: &'a Guide,
-    pub(crate) of: AtomSet,
-    pub(crate) xs: &'a [AtomItem],
+    pub(crate) first: AtomSet,
     pub(crate) place: usize,
-    pub(crate) ys: &'a [AtomItem],
+    pub(crate) second: AtomSet,
     pub(crate) number: usize,
 }
 
@@ -56,18 +54,13 @@ pub(crate) fn make_guided(
         return make_atoms(arena, memo, s, t);
     };
     arena.keeps_made();
-    let first = copy_atoms(memo.alloc, arena.atoms(s))?;
-    let second = copy_atoms(memo.alloc, arena.atoms(t))?;
-    let xs = first.as_slice();
-    let ys = second.as_slice();
     let mut zs = List::with_capacity(memo.alloc, MOSTLY)?;
-    for place in 0..xs.len() {
+    for place in 0..arena.atoms(s).len() {
         let task = Task {
             guide,
-            of: s,
-            xs,
+            first: s,
             place,
-            ys,
+            second: t,
             number,
         };
         make_row(arena, memo, &task, &mut zs)?;
@@ -92,15 +85,19 @@ fn make_row(
     ensures memo { OnOk result (IsRight arena.new memo.new) }
     ensures made { OnOk result (IsMadeTo arena.new task.now (task.now.place + 1) zs.new) }
 {
-    match &task.xs[task.place] {
-        AtomItem::Const(text) => make_alike(arena, memo, task, hash_constant(text.len()), zs),
+    match item_at(arena, task.first, task.place) {
+        AtomItem::Const(text) => {
+            let hash = hash_constant(text.len());
+            make_alike(arena, memo, task, hash, zs)
+        }
         AtomItem::Whole(_) => make_alike(arena, memo, task, WHOLE, zs),
         AtomItem::Sub(_, lefts, rights) => {
-            let Some(begins) = task.guide.mates.told(*lefts) else {
-                return meet_atom_row(arena, memo, task.of, task.xs, task.place, task.ys, zs);
+            let (lefts, rights) = (*lefts, *rights);
+            let Some(begins) = task.guide.mates.told(lefts) else {
+                return meet_atom_row(arena, memo, task.first, task.place, task.second, zs);
             };
-            let Some(ends) = task.guide.mates.told(*rights) else {
-                return meet_atom_row(arena, memo, task.of, task.xs, task.place, task.ys, zs);
+            let Some(ends) = task.guide.mates.told(rights) else {
+                return meet_atom_row(arena, memo, task.first, task.place, task.second, zs);
             };
             make_pieces(arena, memo, task, begins, ends, zs)
         }
@@ -214,8 +211,6 @@ fn make_one(
     if item.set != task.number {
         return Ok(());
     }
-    let x = &task.xs[task.place];
-    let y = &task.ys[item.place];
-    let made = meet_atom_items(arena, memo, task.of, x, y)?;
+    let made = meet_atom_items(arena, memo, task.first, task.place, task.second, item.place)?;
     push_some(zs, made)
 }

@@ -108,8 +108,8 @@ fn meet_walks(
     let graphs = Graphs {
         height,
         width,
-        xs: arena.edges(a),
-        ys: arena.edges(b),
+        xs: arena.sorted_edges(a),
+        ys: arena.sorted_edges(b),
     };
     let tied = tie_graphs(alloc, arena, graphs)?;
     let edges = pair_edges(alloc, arena, &tied, nodes)?;

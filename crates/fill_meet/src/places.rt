@@ -1,9 +1,8 @@
 //! What two sets of places have in common.
-ghost use Rattle.std.specs.Prelude.{◌≡◌, ◌↔◌, All, IfOk, IsTrue, OnOk};
+ghost use Rattle.std.specs.Prelude.{◌≡◌, ◌↔◌, IfOk, IsTrue, OnOk};
 ghost use Rattle.std.specs.List.{AllPairs};
 ghost use Rattle.std.specs.declared.cmp.Ordering.TheVariants.{Less};
 ghost use Rattle.fill_tokens.specs.Place.{place_cmp};
-ghost use Rattle.fill_tokens.specs.PlaceGrammar.{IsPlace};
 ghost use Rattle.fill_tokens.specs.declared.place.Place.{Place};
 ghost use Rattle.fill_arena.specs.Contents.{EachIn, Extends, In, IsPlaceSet};
 ghost use Rattle.fill_arena.specs.WellMade.{ArePlaces};
@@ -153,7 +152,6 @@ fn common_places(alloc: Global, xs: &[Place], ys: &[Place]) -> Result<List<Place
     requires second { ArePlaces ys.now }
     ensures both { IfOk result (λ both. (p : Place) → In p both ↔ (In p xs.now × In p ys.now)) }
     ensures rising { IfOk result (λ both. AllPairs (λ p q. place_cmp p q ≡ Less) both) }
-    ensures grammar { IfOk result (λ both. All IsPlace both) }
 {
     let mut both = List::with_capacity(alloc, xs.len().min(ys.len()))?;
     let mut i = 0;

@@ -4,9 +4,9 @@ ghost use Rattle.fill_arena.specs.Contents.{EachIn, Extends, IsAtomSet, IsSource
 ghost use Rattle.fill_arena.specs.Stands.{SomeAtom};
 ghost use Rattle.fill_arena.specs.WellMade.{IsAtomItem, IsConditionItem, OlderAtoms};
 ghost use Rattle.fill_meet.specs.Memory.{IsRight};
-ghost use Rattle.fill_meet.specs.Sets.{AreConditions, AtomIn, AtomItemsMeet, AtomSetsMeet, ConditionsMeet, HaveSameNumbers, IsCommonConstant, IsFilled, IsPartItem, NamesAtoms, NamesOlder, PairsState, PartsMeet, RowsMeet, SelectsMeet, SourceIn, SourceItemsMeet, SourceSetsMeet};
+ghost use Rattle.fill_meet.specs.Sets.{AreConditions, ArePaired, AtomSetsMeet, ConditionsMeet, HasItem, HaveSameNumbers, IsCommonConstant, IsFilled, IsItem, IsPartItem, ItemsAtMeet, NamesAtoms, NamesOlder, PairsState, PartsMeet, RowsMeet, SelectsMeet, SourceIn, SourceItemsMeet, SourceSetsMeet};
 
-use crate::copy::{copy_atoms, copy_sources};
+use crate::copy::copy_sources;
 use crate::memo::{Memo, find_atoms, find_sources};
 use crate::places::meet_places;
 use crate::within::are_atoms_within;
@@ -62,13 +62,9 @@ pub(crate) fn make_atoms(
         return Ok(Some(s));
     }
     arena.keeps_made();
-    let first = copy_atoms(memo.alloc, arena.atoms(s))?;
-    let second = copy_atoms(memo.alloc, arena.atoms(t))?;
-    let xs = first.as_slice();
-    let ys = second.as_slice();
     let mut zs = List::with_capacity(memo.alloc, MOSTLY)?;
-    for i in 0..xs.len() {
-        meet_atom_row(arena, memo, s, xs, i, ys, &mut zs)?;
+    for i in 0..arena.atoms(s).len() {
+        meet_atom_row(arena, memo, s, i, t, &mut zs)?;
     }
     if zs.len() == 0 {
         return Ok(None);
@@ -76,48 +72,48 @@ pub(crate) fn make_atoms(
     Ok(Some(arena.intern_atoms(zs)?))
 }
 
-/// Puts at the end what item `i` of the set `of` has in common with each of the others.
+/// Puts at the end what item `i` of the first set has in common with each of the second one.
 #[cycle(meet)]
 pub(crate) fn meet_atom_row(
     arena: &mut Arena,
     memo: &mut Memo,
-    of: AtomSet,
-    xs: &[AtomItem],
+    s: AtomSet,
     i: usize,
-    ys: &[AtomItem],
+    t: AtomSet,
     zs: &mut List<AtomItem>,
 ) -> Result<(), NoMemory>
     requires memo { IsRight arena.old memo.old }
-    requires within { i < length xs.now }
-    requires pairs { PairsState AtomIn IsAtomItem arena.old of xs.now ys.now i 0 zs.old }
+    requires within { HasItem arena.old s i }
+    requires paired { ArePaired arena.old s t i 0 zs.old }
     ensures kept { Extends arena.old arena.new }
     ensures memo { OnOk result (IsRight arena.new memo.new) }
-    ensures pairs { OnOk result (PairsState AtomIn IsAtomItem arena.new of xs.now ys.now (i + 1) 0 zs.new) }
+    ensures paired { OnOk result (ArePaired arena.new s t (i + 1) 0 zs.new) }
 {
-    for j in 0..ys.len() {
-        let made = meet_atom_items(arena, memo, of, &xs[i], &ys[j])?;
+    for j in 0..arena.atoms(t).len() {
+        let made = meet_atom_items(arena, memo, s, i, t, j)?;
         push_some(zs, made)?;
     }
     Ok(())
 }
 
-/// What an item of the set `of` has in common with another.
+/// What item `i` of the first set has in common with item `j` of the second one.
 #[cycle(meet)]
 pub(crate) fn meet_atom_items(
     arena: &mut Arena,
     memo: &mut Memo,
-    of: AtomSet,
-    x: &AtomItem,
-    y: &AtomItem,
+    s: AtomSet,
+    i: usize,
+    t: AtomSet,
+    j: usize,
 ) -> Result<Option<AtomItem>, NoMemory>
     requires memo { IsRight arena.old memo.old }
-    requires first { IsAtomItem arena.old of x.now }
-    requires second { (n : ℕ) × IsAtomItem arena.old n y.now }
+    requires first { HasItem arena.old s i }
+    requires second { HasItem arena.old t j }
     ensures kept { Extends arena.old arena.new }
     ensures memo { OnOk result (IsRight arena.new memo.new) }
-    ensures met { IfOk result (AtomItemsMeet arena.new x.now y.now) }
+    ensures met { IfOk result (ItemsAtMeet arena.new s i t j) }
 {
-    match (x, y) {
+    match (item_at(arena, s, i), item_at(arena, t, j)) {
         (AtomItem::Const(u), AtomItem::Const(v)) => {
             if u.same(v) {
                 Ok(Some(AtomItem::Const(u.copy()?)))
@@ -125,24 +121,40 @@ pub(crate) fn meet_atom_items(
                 Ok(None)
             }
         }
-        (AtomItem::Whole(s), AtomItem::Whole(t)) => match meet_sources(arena, memo, *s, *t)? {
-            Some(sources) => Ok(Some(AtomItem::Whole(sources))),
-            None => Ok(None),
-        },
-        (AtomItem::Sub(s, p, q), AtomItem::Sub(t, u, v)) => {
-            let Some(sources) = meet_sources(arena, memo, *s, *t)? else {
+        (AtomItem::Whole(u), AtomItem::Whole(v)) => {
+            let (u, v) = (*u, *v);
+            match meet_sources(arena, memo, u, v)? {
+                Some(sources) => Ok(Some(AtomItem::Whole(sources))),
+                None => Ok(None),
+            }
+        }
+        (AtomItem::Sub(u, p, q), AtomItem::Sub(v, m, n)) => {
+            let (u, p, q) = (*u, *p, *q);
+            let (v, m, n) = (*v, *m, *n);
+            let Some(sources) = meet_sources(arena, memo, u, v)? else {
                 return Ok(None);
             };
-            let Some(lefts) = meet_places(arena, memo, *p, *u)? else {
+            let Some(lefts) = meet_places(arena, memo, p, m)? else {
                 return Ok(None);
             };
-            let Some(rights) = meet_places(arena, memo, *q, *v)? else {
+            let Some(rights) = meet_places(arena, memo, q, n)? else {
                 return Ok(None);
             };
             Ok(Some(AtomItem::Sub(sources, lefts, rights)))
         }
         _ => Ok(None),
     }
+}
+
+/// Item `i` of the set.
+pub(crate) fn item_at(arena: &Arena, s: AtomSet, i: usize) -> &AtomItem
+    requires { HasItem arena.now s i }
+    ensures at { IsItem arena.now s i result.now }
+    ensures older { IsAtomItem arena.now s result.now }
+{
+    arena.keeps_made();
+    let items = arena.atoms(s);
+    &items[i]
 }
 
 /// The set of the sources that stand in both sets, or none where there are none.

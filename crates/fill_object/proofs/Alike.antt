@@ -8,8 +8,9 @@ use Rattle.fill_tree.specs.Grammar.{IsPart}
 use Rattle.fill_tree.specs.Tree.{SourceTree, AtomTree, constant, whole, sub}
 use Rattle.fill_tree.specs.Value.{IsValue, IsFilled, IsPieceBetween, IsJoined, IsHeadAndTail, LooksUp, SourceIs, AtomIs, ConditionIs}
 use Rattle.fill_eval.proofs.Values.{alike}
-use Rattle.fill_rank.specs.Rank.{source_rank, atom_rank}
-use Rattle.fill_rank.proofs.Best.{at_most-trans, source_rank-total, source_rank-exact, atom_rank-total, atom_rank-exact}
+use Rattle.fill_tree.specs.Order.{source_rank, atom_rank}
+use Rattle.fill_arena.proofs.Best.{at_most-trans}
+use Rattle.fill_tree.proofs.Ranked.{source_rank-total, source_rank-exact, atom_rank-total, atom_rank-exact}
 use Rattle.fill_object.specs.Kinds.{sources_on, atoms_on}
 use Rattle.fill_object.specs.Pieces.{text_or_empty}
 use Rattle.fill_object.specs.declared.row.OnRow.{OnRow}

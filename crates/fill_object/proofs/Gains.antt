@@ -9,10 +9,10 @@ use Rattle.std.proofs.lemmas.Map.Lookups.{CmpEqualImpliesEq}
 use Rattle.fill_tree.specs.Value.{IsValue}
 use Rattle.fill_arena.specs.Contents.{SomeIn}
 use Rattle.fill_arena.proofs.Lists.{get_left, get_last, get_pushed}
-use Rattle.fill_rank.specs.Sets.{SomeBelow}
-use Rattle.fill_rank.proofs.Scan.{none_below, below_split, below_left, below_here, some_below, some_in}
-use Rattle.fill_rank.proofs.Best.{at_most-itself, at_most-trans}
-use Rattle.fill_rank.proofs.Pieces.{set_here, set_apart}
+use Rattle.fill_arena.specs.Contents.{SomeBelow}
+use Rattle.fill_arena.proofs.Below.{none_below, below_split, below_left, below_here, some_below, some_in}
+use Rattle.fill_arena.proofs.Best.{at_most-itself, at_most-trans}
+use Rattle.fill_arena.proofs.Items.{set_here, set_apart}
 use Rattle.fill_object.specs.Leasts.{IsOrServes, Takes, Kind, valued, Gains, AreLeasts}
 
 -- what serving keeps to

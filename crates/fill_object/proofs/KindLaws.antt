@@ -12,8 +12,9 @@ use Rattle.fill_arena.specs.Contents.{In}
 use Rattle.fill_arena.specs.Stands.{PlaceStands}
 use Rattle.fill_arena.specs.declared.entry.Entry.{Entry}
 use Rattle.fill_arena.specs.declared.entry.Entry.TheVariants.{Places}
-use Rattle.fill_rank.specs.Rank.{place_rank, source_rank, atom_rank}
-use Rattle.fill_rank.proofs.Best.{at_most-itself, source_rank-total, source_rank-exact, atom_rank-total, atom_rank-exact}
+use Rattle.fill_tree.specs.Order.{place_rank, source_rank, atom_rank}
+use Rattle.fill_arena.proofs.Best.{at_most-itself}
+use Rattle.fill_tree.proofs.Ranked.{source_rank-total, source_rank-exact, atom_rank-total, atom_rank-exact, place_rank-total, place_rank-exact}
 use Rattle.fill_object.specs.Kinds.{atoms_on, sources_on, spots_in}
 use Rattle.fill_object.specs.Leasts.{AreLeasts, Gains, Takes}
 use Rattle.fill_object.specs.declared.row.OnRow.{OnRow}
@@ -21,7 +22,6 @@ use Rattle.fill_object.specs.declared.valued.Spot.{Spot}
 use Rattle.fill_object.specs.declared.valued.ValuedSource.{ValuedSource}
 use Rattle.fill_object.specs.declared.valued.ValuedAtom.{ValuedAtom}
 use Rattle.fill_object.proofs.Gains.{Laws, valued_laws, gains_take, leasts_same}
-use Rattle.fill_object.proofs.Orders.{place_rank-total, place_rank-exact}
 
 pub spots_laws : (prices : Prices) (t : List ℕ) → Laws (spots_in prices t)
 spots_laws prices t = valued_laws (λ (x : Spot). x.place) (λ (x : Spot). x.at) (place_rank prices) (λ p. HasValue p t) (place_rank-total prices) (place_rank-exact prices)

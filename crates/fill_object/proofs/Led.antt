@@ -4,7 +4,7 @@ use Rattle.std.specs.declared.rc.Rc.{Rc}
 use Rattle.fill_tree.specs.Meaning.{program_tree}
 use Rattle.fill_tree.specs.Tree.{AtomTree, more}
 use Rattle.fill_object.specs.Chains.{IsLed}
-use Rattle.fill_object.specs.declared.chain.Chain.{Chain}
+use Rattle.fill_tree.specs.declared.chain.Chain.{Chain}
 use Rattle.fill_object.specs.declared.chain.Least.{Least}
 use Rattle.fill_object.specs.declared.chain.Least.TheVariants.{Found}
 

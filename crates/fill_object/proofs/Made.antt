@@ -9,16 +9,16 @@ use Rattle.fill_tree.specs.Tree.{SourceTree, AtomTree, col, select, constant, wh
 use Rattle.fill_tree.specs.Value.{IsValue, SourceIs, ConditionsAre}
 use Rattle.fill_tree.specs.declared.tree.Program.{Program}
 use Rattle.fill_arena.specs.Contents.{SomeIn}
-use Rattle.fill_arena.specs.Stands.{AtomFits, AtomStands, PlaceStands, SourceFits, SourceStands}
+use Rattle.fill_arena.specs.Stands.{AtomFits, AtomStands, PlaceStands, SourceFits, SourceStands, ConstantFits, PartFits, PartStands}
 use Rattle.fill_arena.specs.declared.entry.AtomItem.TheVariants.{Const, Whole, Sub}
 use Rattle.fill_arena.specs.declared.entry.AtomItem.{AtomItem}
 use Rattle.fill_arena.specs.declared.entry.Entry.{Entry}
 use Rattle.fill_arena.specs.declared.entry.Entry.TheVariants.{Atoms as Listed}
 use Rattle.fill_arena.specs.declared.entry.SelectItem.{SelectItem}
 use Rattle.fill_arena.specs.declared.entry.SourceItem.TheVariants.{Col, Select}
-use Rattle.fill_rank.specs.Rank.{place_rank, source_rank}
-use Rattle.fill_rank.specs.Sets.{ConstantFits, PartFits, PartStands}
-use Rattle.fill_rank.proofs.Best.{at_most-itself, source_rank-total, source_rank-exact}
+use Rattle.fill_tree.specs.Order.{place_rank, source_rank}
+use Rattle.fill_arena.proofs.Best.{at_most-itself}
+use Rattle.fill_tree.proofs.Ranked.{source_rank-total, source_rank-exact, place_rank-total, place_rank-exact}
 use Rattle.fill_object.specs.Kinds.{atoms_on, sources_on, spots_in}
 use Rattle.fill_object.specs.Leasts.{AreLeasts}
 use Rattle.fill_object.specs.Pieces.{IsPieceBetweenSpots, IsPieceOf, text_or_empty}
@@ -28,7 +28,7 @@ use Rattle.fill_object.specs.declared.valued.Spot.{Spot}
 use Rattle.fill_object.specs.declared.valued.ValuedAtom.{ValuedAtom}
 use Rattle.fill_object.specs.declared.valued.ValuedSource.{ValuedSource}
 use Rattle.fill_object.proofs.Alike.{same_value, whole_alike, piece_alike, places_alike, lookup_alike, source_for, atom_for}
-use Rattle.fill_object.proofs.Orders.{place_rank-total, place_rank-exact, whole-at_most, sub-at_most, select-at_most}
+use Rattle.fill_object.proofs.Orders.{whole-at_most, sub-at_most, select-at_most}
 
 place-itself : (prices : Prices) (p : Place) → AtMost (place_rank prices p p)
 place-itself prices p = at_most-itself (place_rank prices) (place_rank-total prices) (place_rank-exact prices) p

@@ -19,13 +19,13 @@ use Rattle.fill_arena.specs.WellMade.{IsWellMade}
 use Rattle.fill_arena.proofs.Costs.{rest_present}
 use Rattle.fill_arena.specs.declared.entry.Edge.{Edge}
 use Rattle.fill_arena.specs.declared.entry.Entry.TheVariants.{Graph}
-use Rattle.fill_rank.specs.Rank.{IsBest}
+use Rattle.fill_arena.specs.Best.{IsBest}
 use Rattle.fill_object.specs.Chains.{IsFound, IsLeastWithin}
 use Rattle.fill_object.specs.Objector.{AllDearer, Answers, IsObjection}
 use Rattle.fill_object.specs.Pieces.{text_or_empty}
 use Rattle.fill_object.specs.Rests.{IsProgramOf}
 use Rattle.fill_object.specs.Wants.{Agrees, RestAgrees, wanted_first}
-use Rattle.fill_object.specs.declared.chain.Chain.{Chain}
+use Rattle.fill_tree.specs.declared.chain.Chain.{Chain}
 use Rattle.fill_object.specs.declared.chain.Least.{Least}
 use Rattle.fill_object.specs.declared.chain.Least.TheVariants.{Absent, Dearer, Found}
 use Rattle.fill_object.specs.declared.graph.Objection.{Objection}

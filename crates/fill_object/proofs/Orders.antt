@@ -2,40 +2,18 @@
 use Rattle.std.proofs.Common.{◌≡◌, ℕ, ◌+◌, refl, ap, sym, subst, ◌∙◌, arith}
 use Rattle.std.specs.declared.cmp.Ordering.{Ordering}
 use Rattle.std.specs.Ordering.{nat_cmp, ordering_then}
-use Rattle.std.specs.Cmp.{IsTotalOrder}
-use Rattle.std.proofs.lemmas.Map.Lookups.{CmpEqualImpliesEq}
 use Rattle.fill_text.specs.Orders.{AtMost}
 use Rattle.fill_tokens.specs.Place.{place_cmp}
 use Rattle.fill_tokens.specs.Prices.{place_cost}
 use Rattle.fill_tokens.specs.declared.place.Place.{Place}
-use Rattle.fill_tokens.proofs.PlaceLaws.{place_total, exact_places}
 use Rattle.fill_tokens.specs.declared.prices.Prices.{Prices}
 use Rattle.fill_tree.specs.Cost.{source_cost, atom_cost, condition_cost, conditions_cost, program_cost}
 use Rattle.fill_tree.specs.Grammar.{IsPart}
-use Rattle.fill_tree.specs.Order.{source_cmp, atom_cmp, atoms_cmp, program_cmp}
+use Rattle.fill_tree.specs.Order.{source_cmp, atom_cmp, atoms_cmp, program_cmp, place_rank, source_rank, atom_rank, row_rank, rank}
 use Rattle.fill_tree.specs.Tree.{SourceTree, AtomTree, Atoms, select, constant, whole, sub, more}
-use Rattle.fill_tree.proofs.Ranked.{nat_cmp-add, nat_cmp-same, pair-at_most}
-use Rattle.fill_tree.proofs.TreeOrder.{atom_total, exact_atoms, atoms_total, exact_atom_lists}
-use Rattle.fill_rank.specs.Rank.{place_rank, source_rank, atom_rank, row_rank, rank}
-use Rattle.fill_rank.proofs.Best.{rank_total, rank_exact, at_most-itself, atom_rank-total, atom_rank-exact}
-
-pub place_rank-total : (prices : Prices) → IsTotalOrder (place_rank prices)
-place_rank-total prices = rank_total (place_cost prices) place_cmp place_total
-
-pub place_rank-exact : (prices : Prices) → CmpEqualImpliesEq (place_rank prices)
-place_rank-exact prices = rank_exact (place_cost prices) place_cmp exact_places
-
-pub row_rank-total : (prices : Prices) → IsTotalOrder (row_rank prices)
-row_rank-total prices = rank_total (conditions_cost prices) atoms_cmp atoms_total
-
-pub row_rank-exact : (prices : Prices) → CmpEqualImpliesEq (row_rank prices)
-row_rank-exact prices = rank_exact (conditions_cost prices) atoms_cmp exact_atom_lists
-
-pub program-total : (prices : Prices) → IsTotalOrder (program_cmp prices)
-program-total prices = rank_total (program_cost prices) atoms_cmp atoms_total
-
-pub program-exact : (prices : Prices) → CmpEqualImpliesEq (program_cmp prices)
-program-exact prices = rank_exact (program_cost prices) atoms_cmp exact_atom_lists
+use Rattle.fill_tree.proofs.Ranked.{nat_cmp-add, nat_cmp-same, pair-at_most, rank_total, rank_exact, atom_rank-total, atom_rank-exact}
+use Rattle.fill_tree.proofs.TreeOrder.{atom_total, exact_atoms}
+use Rattle.fill_arena.proofs.Best.{at_most-itself}
 
 pub whole-at_most : (prices : Prices) (x y : SourceTree) → AtMost (source_rank prices x y) → AtMost (atom_rank prices (whole x) (whole y))
 whole-at_most prices x y h = subst (λ o. AtMost (ordering_then o (source_cmp x y))) (sym (nat_cmp-add prices.whole (source_cost prices x) (source_cost prices y))) h

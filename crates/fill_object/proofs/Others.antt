@@ -11,7 +11,7 @@ use Rattle.fill_tree.specs.Value.{AtomIs, ProgramIs}
 use Rattle.fill_arena.specs.Contents.{SomeIn}
 use Rattle.fill_arena.specs.Stands.{AtomStands}
 use Rattle.fill_arena.specs.declared.entry.Edge.{Edge}
-use Rattle.fill_rank.specs.Rank.{IsBest}
+use Rattle.fill_arena.specs.Best.{IsBest}
 use Rattle.fill_object.specs.Bounds.{number_at}
 use Rattle.fill_object.specs.Chains.{IsCopy, IsFound, IsLeastWithin, IsLesser, IsNoDearer, limit_of}
 use Rattle.fill_object.specs.Kinds.{atoms_on}
@@ -20,7 +20,7 @@ use Rattle.fill_object.specs.Outs.{NoneOutFrom}
 use Rattle.fill_object.specs.Rests.{AreRests, IsAlong, IsEnd, IsKnown, IsSearch, IsThen, RestStands}
 use Rattle.fill_object.specs.Wants.{RestAgrees}
 use Rattle.fill_object.specs.declared.chain.Least.{Least}
-use Rattle.fill_object.specs.declared.chain.Chain.{Chain}
+use Rattle.fill_tree.specs.declared.chain.Chain.{Chain}
 use Rattle.fill_object.specs.declared.chain.Least.TheVariants.{Absent, Found}
 use Rattle.fill_object.specs.declared.row.OnRow.{OnRow}
 use Rattle.fill_object.specs.declared.rests.Rests.{Rests}
@@ -164,9 +164,9 @@ module _ (s : Search) (n : ℕ) (limit : ℕ) (A : Atoms → Type 0) where
       go (more a q) h = absurd h.0
 
 -- what is known already
-pub known_rest : (s : Search) (rests : Rests) (n : ℕ) (w : Wanted) (limit : ℕ) (o q r : Least) → AreRests s rests → IsKnown rests.found.items n w limit o → IsCopy q o → IsNoDearer q limit r →
+pub memo_rest : (s : Search) (rests : Rests) (n : ℕ) (w : Wanted) (limit : ℕ) (o q r : Least) → AreRests s rests → IsKnown rests.found.items n w limit o → IsCopy q o → IsNoDearer q limit r →
     IsLeastWithin s.on.prices.now limit (RestStands s n) (RestAgrees s.on s.said.now w) r
-known_rest s rests n w limit o q r are h copy is =
+memo_rest s rests n w limit o q r are h copy is =
     let kept = h.0 in
     let found = are.each h.1.0 kept h.1.1 in
     let le : (limit ≤ kept.limit) ⊎ IsFound q = elim h.5 [ inl most ↦ inl most | inr there ↦ inr (copied_found q o copy there) ] in

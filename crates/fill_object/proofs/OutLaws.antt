@@ -6,7 +6,7 @@ use Rattle.std.proofs.lemmas.Option.{slice_get_within}
 use Rattle.std.proofs.lemmas.Bool.{cases_lt, cases_eq}
 use Rattle.fill_arena.specs.declared.entry.Edge.{Edge}
 use Rattle.fill_arena.proofs.Lists.{get_pushed}
-use Rattle.fill_rank.proofs.Pieces.{set_here, set_apart}
+use Rattle.fill_arena.proofs.Items.{set_here, set_apart}
 use Rattle.fill_object.specs.Outs.{AreOuts, NoneBetween}
 use Rattle.fill_object.specs.declared.outs.Outs.{Outs}
 

@@ -6,11 +6,10 @@ use Rattle.fill_tree.specs.Tree.{AtomTree, Atoms, constant, whole, sub, end, mor
 use Rattle.fill_tree.specs.Value.{IsValue, AtomIs, ConditionIs, ConditionsAre}
 use Rattle.fill_tree.specs.declared.tree.Program.{Program}
 use Rattle.fill_arena.specs.Contents.{SomeIn}
-use Rattle.fill_arena.specs.Stands.{AtomFits, ConditionFits, ConditionsFit, AtomStands}
+use Rattle.fill_arena.specs.Stands.{AtomFits, ConditionFits, ConditionsFit, AtomStands, PartStands}
 use Rattle.fill_arena.specs.declared.entry.ConditionItem.{ConditionItem}
-use Rattle.fill_rank.specs.Rank.{row_rank}
-use Rattle.fill_rank.specs.Sets.{PartStands}
-use Rattle.fill_rank.proofs.Best.{at_most-itself, at_most-trans}
+use Rattle.fill_tree.specs.Order.{row_rank}
+use Rattle.fill_arena.proofs.Best.{at_most-itself, at_most-trans}
 use Rattle.fill_object.specs.Kinds.{IsRowFor, atoms_on, rows_on}
 use Rattle.fill_object.specs.Leasts.{AreLeasts, Gains}
 use Rattle.fill_object.specs.Rows.{AreParts, AreRows, IsFixed, IsFront, IsLonger}
@@ -18,7 +17,8 @@ use Rattle.fill_object.specs.declared.row.OnRow.{OnRow}
 use Rattle.fill_object.specs.declared.valued.ValuedAtom.{ValuedAtom}
 use Rattle.fill_object.proofs.Alike.{same_value, front_alike, part_value}
 use Rattle.fill_object.proofs.Gains.{Laws, gains_take, gains_same, gains_then, gains_through, leasts_whole, pushed}
-use Rattle.fill_object.proofs.Orders.{row_rank-total, row_rank-exact, same_row-at_most, part_row-at_most}
+use Rattle.fill_object.proofs.Orders.{same_row-at_most, part_row-at_most}
+use Rattle.fill_tree.proofs.Ranked.{row_rank-total, row_rank-exact}
 
 module _ (on : OnRow) where
   pub row_itself : (x : Atoms) → IsRowFor on x x

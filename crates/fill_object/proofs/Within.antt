@@ -7,23 +7,24 @@ use Rattle.fill_text.specs.Orders.{AtMost}
 use Rattle.fill_tokens.specs.declared.prices.Prices.{Prices}
 use Rattle.fill_tree.specs.Cost.{atom_cost, program_cost}
 use Rattle.fill_tree.specs.Meaning.{program_tree}
-use Rattle.fill_tree.specs.Order.{atoms_cmp, program_cmp}
+use Rattle.fill_tree.specs.Order.{atoms_cmp, program_cmp, chain_rank}
 use Rattle.fill_tree.specs.Tree.{AtomTree, Atoms, end, more}
 use Rattle.fill_tree.proofs.Ranked.{ranked-less, ranked-less_is, ranked-equal_is}
 use Rattle.fill_arena.specs.Contents.{SomeIn}
-use Rattle.fill_rank.specs.Rank.{IsBest}
-use Rattle.fill_rank.specs.Sets.{SomeBelow}
-use Rattle.fill_rank.proofs.Scan.{none_below, below_split, below_left, below_here, some_below, some_in}
-use Rattle.fill_rank.proofs.Best.{at_most-itself, at_most-trans, at_most-not_less, best_first, best_second}
-use Rattle.fill_object.specs.Chains.{AreDearer, IsCopy, IsFound, IsLeastWithin, IsLed, IsLesser, IsNoDearer, chain_rank, limit_of}
+use Rattle.fill_arena.specs.Best.{IsBest}
+use Rattle.fill_arena.specs.Contents.{SomeBelow}
+use Rattle.fill_arena.proofs.Below.{none_below, below_split, below_left, below_here, some_below, some_in}
+use Rattle.fill_arena.proofs.Best.{at_most-itself, at_most-trans, at_most-not_less, best_first, best_second}
+use Rattle.fill_object.specs.Chains.{AreDearer, IsCopy, IsFound, IsLeastWithin, IsLed, IsLesser, IsNoDearer, limit_of}
 use Rattle.fill_object.specs.Rests.{IsThen}
-use Rattle.fill_object.specs.declared.chain.Chain.{Chain}
+use Rattle.fill_tree.specs.declared.chain.Chain.{Chain}
 use Rattle.fill_object.specs.declared.chain.Least.{Least}
 use Rattle.fill_object.specs.declared.chain.Least.TheVariants.{Absent, Dearer, Found}
-use Rattle.fill_object.proofs.Orders.{program-total, program-exact, program-at_most, atom-itself}
+use Rattle.fill_object.proofs.Orders.{program-at_most, atom-itself}
+use Rattle.fill_tree.proofs.ProgramOrder.{program_total, exact_programs}
 
 pub program-itself : (prices : Prices) (p : Atoms) → AtMost (program_cmp prices p p)
-program-itself prices p = at_most-itself (program_cmp prices) (program-total prices) (program-exact prices) p
+program-itself prices p = at_most-itself (program_cmp prices) (program_total prices) (exact_programs prices) p
 
 -- what is at most another costs no more
 pub costs_at_most : (prices : Prices) (p q : Atoms) → AtMost (program_cmp prices p q) → program_cost prices p ≤ program_cost prices q
@@ -45,7 +46,7 @@ within_through prices limit U S A from to (Found x) h = (
     has = (from (program_tree x.value.atoms) h.2.has.0, h.2.has.1);
     least = λ p s.
         let q = to p s.0 in
-        at_most-trans (program_cmp prices) (program-total prices) (program-exact prices) (program_tree x.value.atoms) q.0 p (h.2.least q.0 (q.1, λ a. s.1 (q.3 a))) q.2;
+        at_most-trans (program_cmp prices) (program_total prices) (exact_programs prices) (program_tree x.value.atoms) q.0 p (h.2.least q.0 (q.1, λ a. s.1 (q.3 a))) q.2;
   },
 )
 
@@ -121,7 +122,7 @@ module _ (prices : Prices) (limit : ℕ) (P Q S A : Atoms → Type 0) (split : (
       subst (IsLeastWithin prices limit S A) (sym is.0) (
         k.0,
         few,
-        best_second (program_cmp prices) (program-total prices) (program-exact prices) (Apart P) (Apart Q) (Apart S) split_apart right_apart
+        best_second (program_cmp prices) (program_total prices) (exact_programs prices) (Apart P) (Apart Q) (Apart S) split_apart right_apart
             (program_tree x.value.atoms) (program_tree y.value.atoms) h.2 k.2 (inl less),
       )
   within_lesser (Found x) (Found y) r (inr is) h k =
@@ -129,9 +130,9 @@ module _ (prices : Prices) (limit : ℕ) (P Q S A : Atoms → Type 0) (split : (
       subst (IsLeastWithin prices limit S A) (sym is.0) (
         h.0,
         h.1,
-        best_first (program_cmp prices) (program-total prices) (program-exact prices) (Apart P) (Apart Q) (Apart S) split_apart left_apart
+        best_first (program_cmp prices) (program_total prices) (exact_programs prices) (Apart P) (Apart Q) (Apart S) split_apart left_apart
             (program_tree x.value.atoms) (program_tree y.value.atoms) h.2 k.2
-            (at_most-not_less (program_cmp prices) (program-total prices) (program-exact prices) (program_tree x.value.atoms) (program_tree y.value.atoms) not),
+            (at_most-not_less (program_cmp prices) (program_total prices) (exact_programs prices) (program_tree x.value.atoms) (program_tree y.value.atoms) not),
       )
 
 -- one item after the other

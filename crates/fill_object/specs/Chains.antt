@@ -1,21 +1,14 @@
 -- Ends of programs with what they cost, of which the least is looked for.
 use Rattle.std.specs.Prelude.{◌≡◌, ◌⊎◌, ℕ, ◌+◌, ◌<◌, ◌≤◌, ◌^◌}
-use Rattle.std.specs.declared.cmp.Ordering.{Ordering}
 use Rattle.std.specs.declared.cmp.Ordering.TheVariants.{Less}
-use Rattle.std.specs.Ordering.{nat_cmp, ordering_then}
 use Rattle.fill_tokens.specs.declared.prices.Prices.{Prices}
 use Rattle.fill_tree.specs.Cost.{program_cost}
 use Rattle.fill_tree.specs.Meaning.{program_tree}
-use Rattle.fill_tree.specs.Order.{atoms_cmp, program_cmp}
+use Rattle.fill_tree.specs.Order.{chain_rank, program_cmp}
 use Rattle.fill_tree.specs.Tree.{AtomTree, Atoms, more}
-use Rattle.fill_rank.specs.Rank.{IsBest}
-use Rattle.fill_object.specs.declared.chain.Chain.{Chain}
+use Rattle.fill_arena.specs.Best.{IsBest}
 use Rattle.fill_object.specs.declared.chain.Least.{Least}
 use Rattle.fill_object.specs.declared.chain.Least.TheVariants.{Absent, Dearer, Found}
-
--- by the costs that they carry, and then by their order
-abbrev pub chain_rank : Chain → Chain → Ordering
-chain_rank x y = ordering_then (nat_cmp x.cost y.cost) (atoms_cmp (program_tree x.atoms) (program_tree y.atoms))
 
 abbrev pub IsFound : Least → Type 0
 IsFound Absent = ⊥

@@ -9,7 +9,7 @@ use Rattle.fill_tree.specs.Meaning.{atom_tree, program_tree, source_tree}
 use Rattle.fill_tree.specs.Tree.{SourceTree, AtomTree, Atoms}
 use Rattle.fill_tree.specs.Value.{SourceIs, AtomIs, ConditionsAre}
 use Rattle.fill_tree.specs.declared.tree.Program.{Program}
-use Rattle.fill_rank.specs.Rank.{place_rank, source_rank, atom_rank, row_rank}
+use Rattle.fill_tree.specs.Order.{place_rank, source_rank, atom_rank, row_rank}
 use Rattle.fill_object.specs.Leasts.{Kind, valued}
 use Rattle.fill_object.specs.declared.row.OnRow.{OnRow}
 use Rattle.fill_object.specs.declared.valued.Spot.{Spot}

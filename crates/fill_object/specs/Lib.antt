@@ -2,7 +2,7 @@ pub mod Bounds
 pub mod Chains
 pub mod Guide
 pub mod Kinds
-pub mod Known
+pub mod Memo
 pub mod Leasts
 pub mod Objector
 pub mod Outs

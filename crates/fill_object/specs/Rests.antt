@@ -9,7 +9,7 @@ use Rattle.fill_arena.specs.Stands.{AtomStands, Walks}
 use Rattle.fill_arena.specs.declared.entry.Edge.{Edge}
 use Rattle.fill_object.specs.Chains.{IsFound, IsLeastWithin}
 use Rattle.fill_object.specs.Guide.{IsGuide}
-use Rattle.fill_object.specs.Known.{AreKnown, IsOnRow}
+use Rattle.fill_object.specs.Memo.{IsMemoOf, IsOnRow}
 use Rattle.fill_object.specs.Wants.{RestAgrees}
 use Rattle.fill_object.specs.declared.chain.Least.{Least}
 use Rattle.fill_object.specs.declared.graph.Objection.{Objection}
@@ -53,7 +53,7 @@ pub record AreRests (s : Search) (rests : Rests) : Type 0 where
   pub each : EachIn (IsRest s) rests.found.items
 
 pub record AreFound (s : Search) (found : Found) : Type 0 where
-  pub known : AreKnown s.on found.known
+  pub memo : IsMemoOf s.on found.memo
   pub rests : AreRests s found.rests
 
 -- it was found for the node and what is wanted, within no less than the limit or whatever it costs

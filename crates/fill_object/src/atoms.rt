@@ -2,15 +2,14 @@
 ghost use Rattle.std.specs.Prelude.{◌≡◌, [], OnOk};
 ghost use Rattle.fill_tree.specs.Meaning.{atom_tree, source_tree};
 ghost use Rattle.fill_arena.specs.Contents.{IsPlaceSet};
-ghost use Rattle.fill_arena.specs.Stands.{SourceStands};
-ghost use Rattle.fill_rank.specs.Sets.{PartFits};
+ghost use Rattle.fill_arena.specs.Stands.{SourceStands, PartFits};
 ghost use Rattle.fill_object.specs.Kinds.{atoms_on, sources_on};
-ghost use Rattle.fill_object.specs.Known.{AreKnown, IsOnRow};
+ghost use Rattle.fill_object.specs.Memo.{IsMemoOf, IsOnRow};
 ghost use Rattle.fill_object.specs.Leasts.{AreLeasts, Gains};
 ghost use Rattle.fill_object.specs.Pieces.{IsPieceBetweenSpots, IsPieceOf, IsPieceTo, text_or_empty};
 
 use crate::kept::take;
-use crate::known::Known;
+use crate::memo::Memo;
 use crate::row::OnRow;
 use crate::valued::{Spot, ValuedAtom, ValuedSource};
 use fill_arena::{AtomItem, PlaceSet};
@@ -53,7 +52,7 @@ pub(crate) fn put_wholes(
 /// Puts the pieces of sources that serve for all of a set, between places of two sets.
 pub(crate) fn put_pieces(
     on: &OnRow<'_>,
-    known: &mut Known,
+    memo: &mut Memo,
     sources: &[ValuedSource],
     lefts: PlaceSet,
     rights: PlaceSet,
@@ -63,13 +62,13 @@ pub(crate) fn put_pieces(
     requires rights { IsPlaceSet on.now.arena.now rights }
     requires row { IsOnRow on.now }
     requires sources { (s : _) × AreLeasts (sources_on on.now) (SourceStands on.now.arena.now s) sources.now }
-    requires known { AreKnown on.now known.old }
-    ensures known { OnOk result (AreKnown on.now known.new) }
+    requires memo { IsMemoOf on.now memo.old }
+    ensures memo { OnOk result (IsMemoOf on.now memo.new) }
     ensures gains { OnOk result ((s : _) → AreLeasts (sources_on on.now) (SourceStands on.now.arena.now s) sources.now →
         Gains (atoms_on on.now) (PartFits on.now.arena.now (AtomItem.Sub s lefts rights)) kept.old.items kept.new.items) }
 {
     for source in sources {
-        put_pieces_of(on, known, source, lefts, rights, kept)?;
+        put_pieces_of(on, memo, source, lefts, rights, kept)?;
     }
     Ok(())
 }
@@ -88,7 +87,7 @@ fn text_or<'a>(text: &'a Option<Text>, empty: &'a Text) -> &'a Text
 /// Puts the pieces of one source. Where it has no text none of them has, whatever the places are.
 fn put_pieces_of(
     on: &OnRow<'_>,
-    known: &mut Known,
+    memo: &mut Memo,
     source: &ValuedSource,
     lefts: PlaceSet,
     rights: PlaceSet,
@@ -98,14 +97,14 @@ fn put_pieces_of(
     requires rights { IsPlaceSet on.now.arena.now rights }
     requires row { IsOnRow on.now }
     requires source { (sources_on on.now).Right source.now }
-    requires known { AreKnown on.now known.old }
-    ensures known { OnOk result (AreKnown on.now known.new) }
+    requires memo { IsMemoOf on.now memo.old }
+    ensures memo { OnOk result (IsMemoOf on.now memo.new) }
     ensures gains { OnOk result (Gains (atoms_on on.now) (IsPieceOf on.now.arena.now (source_tree source.now.source) lefts rights) kept.old.items kept.new.items) }
 {
     let empty = Text::new(on.alloc);
     let text = text_or(&source.text, &empty);
-    let from = known.spots.of(on.alloc, on.prices, on.arena, lefts, text)?;
-    let to = known.spots.of(on.alloc, on.prices, on.arena, rights, text)?;
+    let from = memo.spots.of(on.alloc, on.prices, on.arena, lefts, text)?;
+    let to = memo.spots.of(on.alloc, on.prices, on.arena, rights, text)?;
     put_between(on, &source.source, from.as_slice(), to.as_slice(), kept)
 }
 

@@ -1,25 +1,15 @@
 //! Ends of programs with what they cost.
-ghost use Rattle.std.specs.Prelude.{◌≡◌, ◌↔◌, ◌+◌, ◌<◌, ◌≤◌, ◌^◌, IsTrue, IfOk, MatchOption};
-ghost use Rattle.std.specs.declared.cmp.Ordering.TheVariants.{Less};
+ghost use Rattle.std.specs.Prelude.{◌≡◌, ◌+◌, ◌<◌, ◌≤◌, ◌^◌, IsTrue, IfOk, MatchOption};
 ghost use Rattle.fill_tree.specs.Cost.{atom_cost};
 ghost use Rattle.fill_tree.specs.Meaning.{atom_tree, program_tree};
-ghost use Rattle.fill_tree.specs.Tree.{end, more};
-ghost use Rattle.fill_object.specs.Chains.{IsCopy, IsFound, IsLed, IsLesser, IsNoDearer, chain_rank, limit_of};
+ghost use Rattle.fill_tree.specs.Tree.{more};
+ghost use Rattle.fill_object.specs.Chains.{IsCopy, IsFound, IsLed, IsLesser, IsNoDearer, limit_of};
 
-use crate::rows::{followed_by, no_atoms};
 use fill_text::NoMemory;
 use fill_tokens::Prices;
-use fill_tree::{Atom, Program};
+use fill_tree::{Atom, Chain};
 use std::alloc::Global;
-use std::cmp::Ordering;
 use std::rc::Rc;
-
-/// The end of a program, and what it costs.
-#[derive(Drop)]
-pub(crate) struct Chain {
-    pub cost: u64,
-    pub atoms: Program,
-}
 
 /// What an atom costs in a program, if that is a number of 64 bits.
 fn link_cost(prices: &Prices, atom: &Atom) -> Option<u64>
@@ -39,17 +29,6 @@ pub(crate) fn left_after(prices: &Prices, atom: &Atom, limit: u64) -> Option<u64
     Some(limit - own)
 }
 
-/// The chain without atoms.
-pub(crate) fn no_chain(alloc: Global) -> Chain
-    ensures cost { result.cost ≡ 0 }
-    ensures atoms { program_tree result.atoms ≡ end }
-{
-    Chain {
-        cost: 0,
-        atoms: no_atoms(alloc),
-    }
-}
-
 /// The sum, where it is a number of 64 bits.
 fn added(a: u64, b: u64) -> u64
     ensures { a + b < 2 ^ 64 → result ≡ a + b }
@@ -62,7 +41,7 @@ fn chain_of(alloc: Global, atom: &Atom, own: u64, rest: &Chain) -> Result<Chain,
     ensures cost { IfOk result (λ made. own + rest.now.cost < 2 ^ 64 → made.cost ≡ own + rest.now.cost) }
     ensures atoms { IfOk result (λ made. program_tree made.atoms ≡ more (atom_tree atom.now) (program_tree rest.now.atoms)) }
 {
-    let atoms = followed_by(alloc, atom, &rest.atoms)?;
+    let atoms = rest.atoms.with_first(alloc, atom)?;
     Ok(Chain {
         cost: added(own, rest.cost),
         atoms,
@@ -145,7 +124,7 @@ impl Least {
         ensures { IsLesser self next result }
     {
         match self {
-            Least::Found(known) => known_or(known, next),
+            Least::Found(first) => chain_or(first, next),
             Least::Dearer => match next {
                 Least::Absent => Least::Dearer,
                 Least::Dearer => Least::Dearer,
@@ -157,23 +136,17 @@ impl Least {
 }
 
 /// The chain, or the other one if that is before it.
-fn known_or(known: Rc<Chain>, next: Least) -> Least
-    ensures { IsLesser (Least.Found known) next result }
+fn chain_or(first: Rc<Chain>, next: Least) -> Least
+    ensures { IsLesser (Least.Found first) next result }
 {
     match next {
         Least::Found(other) => {
-            if is_before(&other, &known) {
+            if other.before(&first) {
                 return Least::Found(other);
             }
-            Least::Found(known)
+            Least::Found(first)
         }
-        Least::Dearer => Least::Found(known),
-        Least::Absent => Least::Found(known),
+        Least::Dearer => Least::Found(first),
+        Least::Absent => Least::Found(first),
     }
-}
-
-fn is_before(a: &Chain, b: &Chain) -> bool
-    ensures { IsTrue result ↔ (chain_rank a.now b.now ≡ Less) }
-{
-    a.cost.cmp(&b.cost).then(a.atoms.compare(&b.atoms)) == Ordering::Less
 }

@@ -94,7 +94,7 @@ impl Costs {
         }
     }
 
-    fn known(&self, s: PlaceSet) -> Option<u64>
+    fn recall(&self, s: PlaceSet) -> Option<u64>
         ensures { (prices : Table) (c : Items Entry) → AreCosts prices c self.now → IfSome result (IsPlaceLeast prices c s) }
     {
         self.places.get(&s).copied()
@@ -112,11 +112,11 @@ impl Costs {
     /// What the places of a set cost at least.
     fn of_places(&mut self, prices: &Prices, arena: &Arena, s: PlaceSet) -> Result<u64, NoMemory>
         requires set { IsPlaceSet arena.now s }
-        requires known { AreCosts prices.now arena.now self.old }
-        ensures known { OnOk result (AreCosts prices.now arena.now self.new) }
+        requires memo { AreCosts prices.now arena.now self.old }
+        ensures memo { OnOk result (AreCosts prices.now arena.now self.new) }
         ensures least { IfOk result (IsPlaceLeast prices.now arena.now s) }
     {
-        if let Some(least) = self.known(s) {
+        if let Some(least) = self.recall(s) {
             return Ok(least);
         }
         let least = least_place_cost(prices, arena.places(s));
@@ -127,8 +127,8 @@ impl Costs {
     /// What the atoms of an item cost at least.
     fn of_item(&mut self, prices: &Prices, arena: &Arena, item: &AtomItem) -> Result<u64, NoMemory>
         requires item { (s : ℕ) × IsAtomItem arena.now s item.now }
-        requires known { AreCosts prices.now arena.now self.old }
-        ensures known { OnOk result (AreCosts prices.now arena.now self.new) }
+        requires memo { AreCosts prices.now arena.now self.old }
+        ensures memo { OnOk result (AreCosts prices.now arena.now self.new) }
         ensures least { IfOk result (λ n. (a : AtomTree) → AtomFits a arena.now item.now → n ≤ atom_cost prices.now a) }
     {
         match item {
@@ -150,8 +150,8 @@ impl Costs {
     /// What the atoms of a set cost at least.
     fn of_atoms(&mut self, prices: &Prices, arena: &Arena, s: AtomSet) -> Result<u64, NoMemory>
         requires set { IsAtomSet arena.now s }
-        requires known { AreCosts prices.now arena.now self.old }
-        ensures known { OnOk result (AreCosts prices.now arena.now self.new) }
+        requires memo { AreCosts prices.now arena.now self.old }
+        ensures memo { OnOk result (AreCosts prices.now arena.now self.new) }
         ensures least { IfOk result (λ n. (a : AtomTree) → AtomStands arena.now s a → n ≤ atom_cost prices.now a) }
     {
         arena.keeps_made();
@@ -175,10 +175,10 @@ pub(crate) fn edge_costs(
     requires { EachIn (λ e. IsAtomSet arena.now e.atoms) edges.now }
     ensures { IfOk result (λ costs. AreEdgeCosts prices.now arena.now edges.now costs.items) }
 {
-    let mut known = Costs::new(alloc);
+    let mut memo = Costs::new(alloc);
     let mut costs = Vec::new(alloc);
     for i in 0..edges.len() {
-        let atom = known.of_atoms(prices, arena, edges[i].atoms)?;
+        let atom = memo.of_atoms(prices, arena, edges[i].atoms)?;
         costs.push(sum_of(u64::from(prices.atom), atom))?;
     }
     Ok(costs)

@@ -1,14 +1,13 @@
 //! The least atoms of sets, constants among them, by their texts on the row.
 ghost use Rattle.std.specs.Prelude.{IfOk, OnOk};
 ghost use Rattle.fill_arena.specs.Contents.{IsAtomSet, SomeIn};
-ghost use Rattle.fill_arena.specs.Stands.{AtomStands};
-ghost use Rattle.fill_rank.specs.Sets.{ConstantFits};
+ghost use Rattle.fill_arena.specs.Stands.{AtomStands, ConstantFits};
 ghost use Rattle.fill_object.specs.Kinds.{atoms_on};
-ghost use Rattle.fill_object.specs.Known.{AreKnown, IsOnRow};
+ghost use Rattle.fill_object.specs.Memo.{IsMemoOf, IsOnRow};
 ghost use Rattle.fill_object.specs.Leasts.{AreLeasts, Gains};
 
 use crate::atoms::put_atom;
-use crate::known::Known;
+use crate::memo::Memo;
 use crate::row::OnRow;
 use crate::sets::scan_parts;
 use crate::valued::ValuedAtom;
@@ -46,31 +45,31 @@ fn put_constants(
 /// The least atoms of a set, by their texts.
 pub(crate) fn atoms_of(
     on: &OnRow<'_>,
-    known: &mut Known,
+    memo: &mut Memo,
     s: AtomSet,
 ) -> Result<Rc<Vec<ValuedAtom>>, NoMemory>
     requires set { IsAtomSet on.now.arena.now s }
     requires row { IsOnRow on.now }
-    requires known { AreKnown on.now known.old }
-    ensures known { OnOk result (AreKnown on.now known.new) }
+    requires memo { IsMemoOf on.now memo.old }
+    ensures memo { OnOk result (IsMemoOf on.now memo.new) }
     ensures least { IfOk result (λ found. AreLeasts (atoms_on on.now) (AtomStands on.now.arena.now s) found.value.items) }
 {
-    if let Some(found) = known.atoms(s) {
+    if let Some(found) = memo.atoms(s) {
         return Ok(found.clone()?);
     }
-    let found = Rc::new(on.alloc, scan_atoms(on, known, s)?)?;
-    known.keep_atoms(s, found.clone()?)?;
+    let found = Rc::new(on.alloc, scan_atoms(on, memo, s)?)?;
+    memo.keep_atoms(s, found.clone()?)?;
     Ok(found)
 }
 
-fn scan_atoms(on: &OnRow<'_>, known: &mut Known, s: AtomSet) -> Result<Vec<ValuedAtom>, NoMemory>
+fn scan_atoms(on: &OnRow<'_>, memo: &mut Memo, s: AtomSet) -> Result<Vec<ValuedAtom>, NoMemory>
     requires set { IsAtomSet on.now.arena.now s }
     requires row { IsOnRow on.now }
-    requires known { AreKnown on.now known.old }
-    ensures known { OnOk result (AreKnown on.now known.new) }
+    requires memo { IsMemoOf on.now memo.old }
+    ensures memo { OnOk result (IsMemoOf on.now memo.new) }
     ensures least { IfOk result (λ kept. AreLeasts (atoms_on on.now) (AtomStands on.now.arena.now s) kept.items) }
 {
-    let mut kept = scan_parts(on, known, s)?;
+    let mut kept = scan_parts(on, memo, s)?;
     put_constants(on, on.arena.atoms(s), &mut kept)?;
     Ok(kept)
 }

@@ -7,15 +7,15 @@ ghost use Rattle.fill_arena.specs.Contents.{IsGraph};
 ghost use Rattle.fill_arena.specs.Stands.{ProgramStands};
 ghost use Rattle.fill_object.specs.Chains.{IsLeastWithin};
 ghost use Rattle.fill_object.specs.Guide.{IsGuideOf};
-ghost use Rattle.fill_object.specs.Known.{IsOnRow};
+ghost use Rattle.fill_object.specs.Memo.{IsOnRow};
 ghost use Rattle.fill_object.specs.Objector.{AllDearer, Answers, IsObjection};
 ghost use Rattle.fill_object.specs.Pieces.{text_or_empty};
 ghost use Rattle.fill_object.specs.Rests.{IsProgramOf, IsSearch, RestStands};
 ghost use Rattle.fill_object.specs.Wants.{RestAgrees, wanted_first};
 
-use crate::chain::{Chain, Least};
+use crate::chain::Least;
 use crate::guide::Guide;
-use crate::known::Known;
+use crate::memo::Memo;
 use crate::rests::Rests;
 use crate::row::OnRow;
 use crate::search::{Found, Search, least_rest};
@@ -25,7 +25,7 @@ use fill_eval::program_value;
 use fill_sheet::Sheet;
 use fill_tables::Tables;
 use fill_text::{NoMemory, Text};
-use fill_tree::{Prices, Program};
+use fill_tree::{Chain, Prices, Program};
 use std::alloc::Global;
 
 /// A program that answers otherwise than was said, and its value on the row.
@@ -147,9 +147,9 @@ fn least_of(search: &Search<'_>, wanted: Wanted, limit: u64) -> Result<Least, No
     ensures { IfOk result (IsLeastWithin search.now.on.prices.now limit (RestStands search.now 0) (RestAgrees search.now.on search.now.said.now wanted)) }
 {
     let alloc = search.on.alloc;
-    let known = Known::new(alloc);
+    let memo = Memo::new(alloc);
     let rests = Rests::new(alloc, search.last)?;
-    let mut found = Found { known, rests };
+    let mut found = Found { memo, rests };
     least_rest(search, &mut found, 0, wanted, limit)
 }
 

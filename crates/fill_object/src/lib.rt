@@ -13,7 +13,7 @@ mod edges;
 mod graph;
 mod guide;
 mod kept;
-mod known;
+mod memo;
 mod outs;
 mod rests;
 mod row;

@@ -62,7 +62,7 @@ impl Rests {
     }
 
     /// What is known of the least rest within the limit, if it was looked for already.
-    pub fn known(&self, node: usize, wanted: Wanted, limit: u64) -> Option<&Least>
+    pub fn recall(&self, node: usize, wanted: Wanted, limit: u64) -> Option<&Least>
         ensures { IfSome result (λ o. IsKnown self.now.found.items node wanted limit o.now) }
     {
         let rest = &self.found[self.place_of(node, wanted)?];

@@ -1,7 +1,6 @@
 //! Rows of conditions of a lookup.
-ghost use Rattle.std.specs.Prelude.{◌≡◌, [], IfOk, OnOk};
-ghost use Rattle.fill_tree.specs.Meaning.{atom_tree, program_tree};
-ghost use Rattle.fill_tree.specs.Tree.{end, more};
+ghost use Rattle.std.specs.Prelude.{[], IfOk, OnOk};
+ghost use Rattle.fill_tree.specs.Meaning.{atom_tree};
 ghost use Rattle.fill_arena.specs.Contents.{SomeIn};
 ghost use Rattle.fill_object.specs.Kinds.{rows_on};
 ghost use Rattle.fill_object.specs.Leasts.{Gains};
@@ -9,36 +8,16 @@ ghost use Rattle.fill_object.specs.Rows.{AreRows, IsFixed, IsFront, IsLonger};
 ghost use Rattle.fill_object.specs.declared.row.OnRow.{OnRow as Row};
 
 use crate::valued::ValuedAtom;
-use fill_text::{List, NoMemory, Text};
+use fill_text::{NoMemory, Text};
 use fill_tree::{Atom, Program};
 use std::alloc::Global;
-
-/// The atom and then the atoms of the rest.
-pub(crate) fn followed_by(alloc: Global, atom: &Atom, rest: &Program) -> Result<Program, NoMemory>
-    ensures { IfOk result (λ made. program_tree made ≡ more (atom_tree atom.now) (program_tree rest.now)) }
-{
-    let mut atoms = List::new(alloc);
-    atoms.push(atom.copy(alloc)?)?;
-    for next in rest.atoms.as_slice() {
-        atoms.push(next.copy(alloc)?)?;
-    }
-    Ok(Program { atoms })
-}
-
-/// The program without atoms.
-pub(crate) fn no_atoms(alloc: Global) -> Program
-    ensures { program_tree result ≡ end }
-{
-    let atoms = List::new(alloc);
-    Program { atoms }
-}
 
 /// The row without conditions.
 pub(crate) fn no_conditions(alloc: Global) -> Result<Vec<Program>, NoMemory>
     ensures { IfOk result (λ rows. (on : Row) → AreRows on [] rows.items) }
 {
     let mut rows = Vec::new(alloc);
-    rows.push(no_atoms(alloc))?;
+    rows.push(Program::empty(alloc))?;
     Ok(rows)
 }
 
@@ -52,7 +31,7 @@ fn put_before(
     ensures { OnOk result ((on : Row) → Gains (rows_on on) (IsFront (atom_tree condition.now) rests.now) made.old.items made.new.items) }
 {
     for rest in rests {
-        made.push(followed_by(alloc, condition, rest)?)?;
+        made.push(rest.with_first(alloc, condition)?)?;
     }
     Ok(())
 }

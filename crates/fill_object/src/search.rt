@@ -11,17 +11,18 @@ ghost use Rattle.fill_object.specs.Outs.{NoneOutFrom};
 ghost use Rattle.fill_object.specs.Rests.{AreFound, IsAlong, IsEnd, IsSearch, IsThen, RestStands};
 ghost use Rattle.fill_object.specs.Wants.{RestAgrees};
 
-use crate::chain::{Least, led_by, left_after, no_chain};
+use crate::chain::{Least, led_by, left_after};
 use crate::costs::sum_of;
 use crate::edges::atoms_of;
 use crate::guide::Guide;
-use crate::known::Known;
+use crate::memo::Memo;
 use crate::rests::Rests;
 use crate::row::OnRow;
 use crate::valued::ValuedAtom;
 use crate::wanted::Wanted;
 use fill_arena::Edge;
 use fill_text::NoMemory;
+use fill_tree::Chain;
 use std::alloc::Global;
 use std::rc::Rc;
 
@@ -41,7 +42,7 @@ pub(crate) struct Search<'a> {
 /// What was found on the row.
 #[derive(Drop)]
 pub(crate) struct Found {
-    pub known: Known,
+    pub memo: Memo,
     pub rests: Rests,
 }
 
@@ -103,8 +104,8 @@ fn rest_within(
     ensures found { OnOk result (AreFound search.now found.new) }
     ensures least { IfOk result (IsLeastWithin search.now.on.prices.now limit (RestStands search.now node) (RestAgrees search.now.on search.now.said.now wanted)) }
 {
-    if let Some(known) = found.rests.known(node, wanted, limit) {
-        return Ok(known.copy()?.within(limit));
+    if let Some(least) = found.rests.recall(node, wanted, limit) {
+        return Ok(least.copy()?.within(limit));
     }
     let least = along_edges(search, found, node, wanted, limit)?;
     found.rests.keep(node, wanted, limit, least.copy()?)?;
@@ -121,7 +122,7 @@ fn ended(search: &Search<'_>, node: usize, wanted: Wanted) -> Result<Least, NoMe
     if !wanted.is_end(search.said) {
         return Ok(Least::Absent);
     }
-    let chain = Rc::new(search.on.alloc, no_chain(search.on.alloc))?;
+    let chain = Rc::new(search.on.alloc, Chain::empty(search.on.alloc))?;
     Ok(Least::Found(chain))
 }
 
@@ -203,7 +204,7 @@ fn along_edge(
     if search.guide.bounds.along(i, edge.to) > limit {
         return Ok(Least::Absent);
     }
-    let atoms = atoms_of(&search.on, &mut found.known, edge.atoms)?;
+    let atoms = atoms_of(&search.on, &mut found.memo, edge.atoms)?;
     let mut best = Least::Absent;
     for atom in atoms.as_slice() {
         let within = best.limit(limit);

@@ -3,17 +3,16 @@
 //! What a set names is older than the set, so the way down ends.
 ghost use Rattle.std.specs.Prelude.{◌∷◌, List as Items, IfOk, OnOk};
 ghost use Rattle.fill_arena.specs.Contents.{EachIn, IsAtomSet, IsSourceSet};
-ghost use Rattle.fill_arena.specs.Stands.{SourceFits, SourceStands};
+ghost use Rattle.fill_arena.specs.Stands.{SourceFits, SourceStands, PartFits, PartStands};
 ghost use Rattle.fill_arena.specs.WellMade.{IsAtomItem, IsConditionItem, IsSelectItem, IsSourceItem};
 ghost use Rattle.fill_arena.specs.declared.entry.ConditionItem.{ConditionItem as Listed};
-ghost use Rattle.fill_rank.specs.Sets.{PartFits, PartStands};
 ghost use Rattle.fill_object.specs.Kinds.{atoms_on, sources_on};
-ghost use Rattle.fill_object.specs.Known.{AreKnown, IsOnRow};
+ghost use Rattle.fill_object.specs.Memo.{IsMemoOf, IsOnRow};
 ghost use Rattle.fill_object.specs.Leasts.{AreLeasts, Gains};
 ghost use Rattle.fill_object.specs.Rows.{AreParts, AreRows};
 
 use crate::atoms::{put_pieces, put_wholes};
-use crate::known::Known;
+use crate::memo::Memo;
 use crate::row::OnRow;
 use crate::rows::{no_conditions, put_in_front};
 use crate::sources::{put_column, put_selects};
@@ -27,33 +26,33 @@ use std::rc::Rc;
 #[cycle(sets)]
 fn sources_of(
     on: &OnRow<'_>,
-    known: &mut Known,
+    memo: &mut Memo,
     s: SourceSet,
 ) -> Result<Rc<Vec<ValuedSource>>, NoMemory>
     requires set { IsSourceSet on.now.arena.now s }
     requires row { IsOnRow on.now }
-    requires known { AreKnown on.now known.old }
-    ensures known { OnOk result (AreKnown on.now known.new) }
+    requires memo { IsMemoOf on.now memo.old }
+    ensures memo { OnOk result (IsMemoOf on.now memo.new) }
     ensures least { IfOk result (λ found. AreLeasts (sources_on on.now) (SourceStands on.now.arena.now s) found.value.items) }
 {
-    if let Some(found) = known.sources(s) {
+    if let Some(found) = memo.sources(s) {
         return Ok(found.clone()?);
     }
-    let found = Rc::new(on.alloc, scan_sources(on, known, s)?)?;
-    known.keep_sources(s, found.clone()?)?;
+    let found = Rc::new(on.alloc, scan_sources(on, memo, s)?)?;
+    memo.keep_sources(s, found.clone()?)?;
     Ok(found)
 }
 
 #[cycle(sets)]
 fn scan_sources(
     on: &OnRow<'_>,
-    known: &mut Known,
+    memo: &mut Memo,
     s: SourceSet,
 ) -> Result<Vec<ValuedSource>, NoMemory>
     requires set { IsSourceSet on.now.arena.now s }
     requires row { IsOnRow on.now }
-    requires known { AreKnown on.now known.old }
-    ensures known { OnOk result (AreKnown on.now known.new) }
+    requires memo { IsMemoOf on.now memo.old }
+    ensures memo { OnOk result (IsMemoOf on.now memo.new) }
     ensures least { IfOk result (λ kept. AreLeasts (sources_on on.now) (SourceStands on.now.arena.now s) kept.items) }
 {
     let arena = on.arena;
@@ -61,7 +60,7 @@ fn scan_sources(
     let items = arena.sources(s);
     let mut kept = Vec::new(on.alloc);
     for item in items {
-        put_source(on, known, s, item, &mut kept)?;
+        put_source(on, memo, s, item, &mut kept)?;
     }
     Ok(kept)
 }
@@ -70,20 +69,20 @@ fn scan_sources(
 #[cycle(sets)]
 fn put_source(
     on: &OnRow<'_>,
-    known: &mut Known,
+    memo: &mut Memo,
     set: SourceSet,
     item: &SourceItem,
     kept: &mut Vec<ValuedSource>,
 ) -> Result<(), NoMemory>
     requires item { IsSourceItem on.now.arena.now set item.now }
     requires row { IsOnRow on.now }
-    requires known { AreKnown on.now known.old }
-    ensures known { OnOk result (AreKnown on.now known.new) }
+    requires memo { IsMemoOf on.now memo.old }
+    ensures memo { OnOk result (IsMemoOf on.now memo.new) }
     ensures gains { OnOk result (Gains (sources_on on.now) (λ x. SourceFits x on.now.arena.now item.now) kept.old.items kept.new.items) }
 {
     match item {
         SourceItem::Col(number) => put_column(on, *number, kept),
-        SourceItem::Select(listed) => put_lookups(on, known, set, listed, kept),
+        SourceItem::Select(listed) => put_lookups(on, memo, set, listed, kept),
     }
 }
 
@@ -91,18 +90,18 @@ fn put_source(
 #[cycle(sets)]
 fn put_lookups(
     on: &OnRow<'_>,
-    known: &mut Known,
+    memo: &mut Memo,
     set: SourceSet,
     item: &SelectItem,
     kept: &mut Vec<ValuedSource>,
 ) -> Result<(), NoMemory>
     requires item { IsSelectItem on.now.arena.now set item.now }
     requires row { IsOnRow on.now }
-    requires known { AreKnown on.now known.old }
-    ensures known { OnOk result (AreKnown on.now known.new) }
+    requires memo { IsMemoOf on.now memo.old }
+    ensures memo { OnOk result (IsMemoOf on.now memo.new) }
     ensures gains { OnOk result (Gains (sources_on on.now) (λ x. SourceFits x on.now.arena.now (SourceItem.Select item.now)) kept.old.items kept.new.items) }
 {
-    let rows = rows_of(on, known, set, item.conditions.as_slice())?;
+    let rows = rows_of(on, memo, set, item.conditions.as_slice())?;
     put_selects(on, item, rows.as_slice(), kept)
 }
 
@@ -110,21 +109,21 @@ fn put_lookups(
 #[cycle(sets)]
 fn rows_of(
     on: &OnRow<'_>,
-    known: &mut Known,
+    memo: &mut Memo,
     set: SourceSet,
     items: &[ConditionItem],
 ) -> Result<Vec<Program>, NoMemory>
     requires items { EachIn (IsConditionItem on.now.arena.now set) items.now }
     requires row { IsOnRow on.now }
-    requires known { AreKnown on.now known.old }
-    ensures known { OnOk result (AreKnown on.now known.new) }
+    requires memo { IsMemoOf on.now memo.old }
+    ensures memo { OnOk result (IsMemoOf on.now memo.new) }
     ensures least { IfOk result (λ rows. AreRows on.now items.now rows.items) }
 {
     let mut rows = no_conditions(on.alloc)?;
     let mut left = items.len();
     while left > 0 {
         left -= 1;
-        rows = longer_rows(on, known, set, &items[left], rows.as_slice())?;
+        rows = longer_rows(on, memo, set, &items[left], rows.as_slice())?;
     }
     Ok(rows)
 }
@@ -132,18 +131,18 @@ fn rows_of(
 #[cycle(sets)]
 fn longer_rows(
     on: &OnRow<'_>,
-    known: &mut Known,
+    memo: &mut Memo,
     set: SourceSet,
     item: &ConditionItem,
     rows: &[Program],
 ) -> Result<Vec<Program>, NoMemory>
     requires item { IsConditionItem on.now.arena.now set item.now }
     requires row { IsOnRow on.now }
-    requires known { AreKnown on.now known.old }
-    ensures known { OnOk result (AreKnown on.now known.new) }
+    requires memo { IsMemoOf on.now memo.old }
+    ensures memo { OnOk result (IsMemoOf on.now memo.new) }
     ensures least { IfOk result (λ made. (is : Items Listed) → AreRows on.now is rows.now → AreRows on.now (item.now ∷ is) made.items) }
 {
-    let parts = conditions_of(on, known, set, item)?;
+    let parts = conditions_of(on, memo, set, item)?;
     put_in_front(on.alloc, &item.constant, parts.as_slice(), rows)
 }
 
@@ -151,49 +150,49 @@ fn longer_rows(
 #[cycle(sets)]
 fn conditions_of(
     on: &OnRow<'_>,
-    known: &mut Known,
+    memo: &mut Memo,
     set: SourceSet,
     item: &ConditionItem,
 ) -> Result<Rc<Vec<ValuedAtom>>, NoMemory>
     requires item { IsConditionItem on.now.arena.now set item.now }
     requires row { IsOnRow on.now }
-    requires known { AreKnown on.now known.old }
-    ensures known { OnOk result (AreKnown on.now known.new) }
+    requires memo { IsMemoOf on.now memo.old }
+    ensures memo { OnOk result (IsMemoOf on.now memo.new) }
     ensures least { IfOk result (λ found. AreParts on.now item.now found.value.items) }
 {
     match item.atoms {
-        Some(s) => parts_of(on, known, s),
+        Some(s) => parts_of(on, memo, s),
         None => Ok(Rc::new(on.alloc, Vec::new(on.alloc))?),
     }
 }
 
 /// The least atoms of a set that are no constants, by their texts.
 #[cycle(sets)]
-fn parts_of(on: &OnRow<'_>, known: &mut Known, s: AtomSet) -> Result<Rc<Vec<ValuedAtom>>, NoMemory>
+fn parts_of(on: &OnRow<'_>, memo: &mut Memo, s: AtomSet) -> Result<Rc<Vec<ValuedAtom>>, NoMemory>
     requires set { IsAtomSet on.now.arena.now s }
     requires row { IsOnRow on.now }
-    requires known { AreKnown on.now known.old }
-    ensures known { OnOk result (AreKnown on.now known.new) }
+    requires memo { IsMemoOf on.now memo.old }
+    ensures memo { OnOk result (IsMemoOf on.now memo.new) }
     ensures least { IfOk result (λ found. AreLeasts (atoms_on on.now) (PartStands on.now.arena.now s) found.value.items) }
 {
-    if let Some(found) = known.parts(s) {
+    if let Some(found) = memo.parts(s) {
         return Ok(found.clone()?);
     }
-    let found = Rc::new(on.alloc, scan_parts(on, known, s)?)?;
-    known.keep_parts(s, found.clone()?)?;
+    let found = Rc::new(on.alloc, scan_parts(on, memo, s)?)?;
+    memo.keep_parts(s, found.clone()?)?;
     Ok(found)
 }
 
 #[cycle(sets)]
 pub(crate) fn scan_parts(
     on: &OnRow<'_>,
-    known: &mut Known,
+    memo: &mut Memo,
     s: AtomSet,
 ) -> Result<Vec<ValuedAtom>, NoMemory>
     requires set { IsAtomSet on.now.arena.now s }
     requires row { IsOnRow on.now }
-    requires known { AreKnown on.now known.old }
-    ensures known { OnOk result (AreKnown on.now known.new) }
+    requires memo { IsMemoOf on.now memo.old }
+    ensures memo { OnOk result (IsMemoOf on.now memo.new) }
     ensures least { IfOk result (λ kept. AreLeasts (atoms_on on.now) (PartStands on.now.arena.now s) kept.items) }
 {
     let arena = on.arena;
@@ -201,7 +200,7 @@ pub(crate) fn scan_parts(
     let items = arena.atoms(s);
     let mut kept = Vec::new(on.alloc);
     for item in items {
-        put_part(on, known, s, item, &mut kept)?;
+        put_part(on, memo, s, item, &mut kept)?;
     }
     Ok(kept)
 }
@@ -210,26 +209,26 @@ pub(crate) fn scan_parts(
 #[cycle(sets)]
 fn put_part(
     on: &OnRow<'_>,
-    known: &mut Known,
+    memo: &mut Memo,
     set: AtomSet,
     item: &AtomItem,
     kept: &mut Vec<ValuedAtom>,
 ) -> Result<(), NoMemory>
     requires item { IsAtomItem on.now.arena.now set item.now }
     requires row { IsOnRow on.now }
-    requires known { AreKnown on.now known.old }
-    ensures known { OnOk result (AreKnown on.now known.new) }
+    requires memo { IsMemoOf on.now memo.old }
+    ensures memo { OnOk result (IsMemoOf on.now memo.new) }
     ensures gains { OnOk result (Gains (atoms_on on.now) (PartFits on.now.arena.now item.now) kept.old.items kept.new.items) }
 {
     match item {
         AtomItem::Const(_) => Ok(()),
         AtomItem::Whole(sources) => {
-            let found = sources_of(on, known, *sources)?;
+            let found = sources_of(on, memo, *sources)?;
             put_wholes(on, found.as_slice(), kept)
         }
         AtomItem::Sub(sources, lefts, rights) => {
-            let found = sources_of(on, known, *sources)?;
-            put_pieces(on, known, found.as_slice(), *lefts, *rights, kept)
+            let found = sources_of(on, memo, *sources)?;
+            put_pieces(on, memo, found.as_slice(), *lefts, *rights, kept)
         }
     }
 }

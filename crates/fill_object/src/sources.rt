@@ -3,7 +3,7 @@ ghost use Rattle.std.specs.Prelude.{◌≡◌, OnOk};
 ghost use Rattle.fill_tree.specs.Meaning.{source_tree};
 ghost use Rattle.fill_arena.specs.Stands.{SourceFits};
 ghost use Rattle.fill_object.specs.Kinds.{sources_on};
-ghost use Rattle.fill_object.specs.Known.{IsOnRow};
+ghost use Rattle.fill_object.specs.Memo.{IsOnRow};
 ghost use Rattle.fill_object.specs.Leasts.{Gains};
 ghost use Rattle.fill_object.specs.Rows.{AreRows, IsSelectBy};
 

@@ -52,7 +52,7 @@ impl Spots {
     }
 
     /// The spots of a set in a text, if they were found already.
-    fn known(&self, s: PlaceSet, text: &Text) -> Option<&Rc<Vec<Spot>>>
+    fn recall(&self, s: PlaceSet, text: &Text) -> Option<&Rc<Vec<Spot>>>
         ensures { (prices : Table) (c : Items Entry) → AreSpotted prices c self.now →
             IfSome result (λ spots. AreLeasts (spots_in prices text.now) (PlaceStands c s) spots.now.value.items) }
     {
@@ -86,11 +86,11 @@ impl Spots {
         text: &Text,
     ) -> Result<Rc<Vec<Spot>>, NoMemory>
         requires set { IsPlaceSet arena.now s }
-        requires known { AreSpotted prices.now arena.now self.old }
-        ensures known { OnOk result (AreSpotted prices.now arena.now self.new) }
+        requires memo { AreSpotted prices.now arena.now self.old }
+        ensures memo { OnOk result (AreSpotted prices.now arena.now self.new) }
         ensures least { IfOk result (λ spots. AreLeasts (spots_in prices.now text.now) (PlaceStands arena.now s) spots.value.items) }
     {
-        if let Some(spots) = self.known(s, text) {
+        if let Some(spots) = self.recall(s, text) {
             return Ok(spots.clone()?);
         }
         let spots = Rc::new(alloc, read_spots(alloc, prices, arena.places(s), text)?)?;

@@ -1,8 +1,9 @@
 //! Places and trees with their values.
-ghost use Rattle.std.specs.Prelude.{◌≡◌, IsTrue};
+ghost use Rattle.std.specs.Prelude.{◌≡◌, IsTrue, Some};
+ghost use Rattle.std.specs.declared.cmp.Ordering.{Ordering as Outcome};
 ghost use Rattle.fill_text.specs.Orders.{AtMost};
 ghost use Rattle.fill_tree.specs.Meaning.{atom_tree, source_tree};
-ghost use Rattle.fill_rank.specs.Rank.{atom_rank, place_rank, source_rank};
+ghost use Rattle.fill_tree.specs.Order.{atom_rank, place_rank, source_rank};
 
 use crate::kept::Rival;
 use fill_text::Text;
@@ -49,31 +50,20 @@ fn is_place_at_most(prices: &Prices, a: &Place, b: &Place) -> bool
     a.cost(prices).cmp(&b.cost(prices)).then(a.compare(b)) != Ordering::Greater
 }
 
-/// Whether the source is at most the other one, by the cost and then in order; no where a cost is no number of 64 bits.
-fn is_source_at_most(prices: &Prices, a: &Source, b: &Source) -> bool
-    ensures { IsTrue result → AtMost (source_rank prices.now (source_tree a.now) (source_tree b.now)) }
+/// Whether the order is known, and is not `Greater`.
+fn is_at_most(order: Option<Ordering>) -> bool
+    ensures { IsTrue result → (o : Outcome) × (order ≡ Some o) × AtMost o }
 {
-    let (Some(first), Some(second)) = (a.cost(prices), b.cost(prices)) else {
-        return false;
-    };
-    first.cmp(&second).then(a.compare(b)) != Ordering::Greater
-}
-
-/// Whether the atom is at most the other one, by the cost in a program and then in order; no where a cost is no number of
-/// 64 bits.
-fn is_atom_at_most(prices: &Prices, a: &Atom, b: &Atom) -> bool
-    ensures { IsTrue result → AtMost (atom_rank prices.now (atom_tree a.now) (atom_tree b.now)) }
-{
-    let (Some(first), Some(second)) = (a.cost(prices), b.cost(prices)) else {
-        return false;
-    };
-    first.cmp(&second).then(a.compare(b)) != Ordering::Greater
+    match order {
+        Some(order) => order != Ordering::Greater,
+        None => false,
+    }
 }
 
 impl Rival for Spot {
     ghost use Rattle.std.specs.Prelude.{◌≡◌};
     ghost use Rattle.fill_text.specs.Orders.{AtMost};
-    ghost use Rattle.fill_rank.specs.Rank.{place_rank};
+    ghost use Rattle.fill_tree.specs.Order.{place_rank};
 
     ghost serving = { λ prices x y. AtMost (place_rank prices x.place y.place) × (x.at ≡ y.at) };
 
@@ -89,7 +79,7 @@ impl Rival for ValuedSource {
     ghost use Rattle.std.specs.Prelude.{◌≡◌};
     ghost use Rattle.fill_text.specs.Orders.{AtMost};
     ghost use Rattle.fill_tree.specs.Meaning.{source_tree};
-    ghost use Rattle.fill_rank.specs.Rank.{source_rank};
+    ghost use Rattle.fill_tree.specs.Order.{source_rank};
 
     ghost serving = { λ prices x y. AtMost (source_rank prices (source_tree x.source) (source_tree y.source)) × (x.text ≡ y.text) };
 
@@ -97,7 +87,7 @@ impl Rival for ValuedSource {
         if !is_same(&self.text, &other.text) {
             return false;
         }
-        is_source_at_most(prices, &self.source, &other.source)
+        is_at_most(self.source.rank(&other.source, prices))
     }
 }
 
@@ -105,7 +95,7 @@ impl Rival for ValuedAtom {
     ghost use Rattle.std.specs.Prelude.{◌≡◌};
     ghost use Rattle.fill_text.specs.Orders.{AtMost};
     ghost use Rattle.fill_tree.specs.Meaning.{atom_tree};
-    ghost use Rattle.fill_rank.specs.Rank.{atom_rank};
+    ghost use Rattle.fill_tree.specs.Order.{atom_rank};
 
     ghost serving = { λ prices x y. AtMost (atom_rank prices (atom_tree x.atom) (atom_tree y.atom)) × (x.text ≡ y.text) };
 
@@ -113,6 +103,6 @@ impl Rival for ValuedAtom {
         if !is_same(&self.text, &other.text) {
             return false;
         }
-        is_atom_at_most(prices, &self.atom, &other.atom)
+        is_at_most(self.atom.rank(&other.atom, prices))
     }
 }

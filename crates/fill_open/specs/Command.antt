@@ -6,7 +6,7 @@ use Rattle.fill_open.specs.Apply.{Names, named}
 use Rattle.fill_open.specs.declared.command.Command.{Command}
 use Rattle.fill_open.specs.declared.command.Command.TheVariants.{Replay, Made, Apply, Keys}
 
--- a command: the replay of the session of a name, or that of the generated session of so many lines; the application of
+-- a command: the replay of the session of a name, or that of the generated session of a number of lines; the application of
 -- a saved program; or the listing of the keys of a file's table
 pub data CommandData : Type 0 where
   replay : List ℕ → CommandData

@@ -1,4 +1,4 @@
--- What the generated session opens: its script, and its sheet of so many rows.
+-- What the generated session opens: its script, and its sheet, of the number of rows that the command tells.
 use Rattle.std.specs.Prelude.{ℕ, [], ◌∷◌, map, codes, Some, false}
 use Rattle.std.specs.List.{range_with_len}
 use Rattle.fill_text.specs.Data.{RowData, SheetData}

@@ -56,7 +56,7 @@ pub fn open_replay<C: Cabinet>(alloc: Global, cabinet: &mut C, session: &str) ->
     })
 }
 
-/// Opens the generated session over so many lines. Nothing is read, and it always opens unless memory runs out.
+/// Opens the generated session over `n` lines. Nothing is read, and it always opens unless memory runs out.
 pub fn open_made(alloc: Global, n: u32) -> Result<Ready, Stop>
     requires first { 1 ≤ n }
     requires last { n ≤ 2000 }

@@ -87,7 +87,7 @@ impl Marks {
     }
 }
 
-/// So many words that are all the same.
+/// This many words that are all the same.
 fn equal_words(alloc: Global, word: u64, m: usize) -> Result<Vec<u64>, NoMemory>
     requires { m < 2 ^ 60 }
     ensures { IfOk result (λ words. AreEqual word m words.items) }

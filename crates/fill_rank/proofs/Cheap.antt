@@ -1,25 +1,28 @@
 -- What is compared and added up costs less than 2^64.
-use Rattle.std.proofs.Common.{◌≡◌, ℕ, suc, ◌+◌, ◌<◌, ◌≤◌, ◌^◌, List, ◌∷◌, length, Option, Some, None, slice_get, refl, sym, subst}
+use Rattle.std.proofs.Common.{◌≡◌, ℕ, ◌+◌, ◌<◌, ◌≤◌, ◌^◌, List, ◌∷◌, length, Option, Some, None, refl, sym, subst}
 use Rattle.std.specs.Option.{IfSome}
 use Rattle.fill_tokens.specs.declared.prices.Prices.{Prices}
 use Rattle.fill_tokens.specs.Prices.{ArePrices}
 use Rattle.fill_tree.specs.Cost.{source_cost, atom_cost, condition_cost, conditions_cost, program_cost}
 use Rattle.fill_tree.specs.Meaning.{atom_tree, source_tree, program_tree}
-use Rattle.fill_tree.specs.Tree.{AtomTree, Atoms, constant, end, more}
+use Rattle.fill_tree.specs.Tree.{AtomTree, Atoms, constant, more}
 use Rattle.fill_tree.specs.declared.tree.Atom.{Atom}
 use Rattle.fill_tree.specs.declared.tree.Source.{Source}
 use Rattle.fill_arena.specs.Contents.{EachIn}
-use Rattle.fill_arena.specs.Stands.{AtomFits, AtomStands, ConditionFits, ConditionsFit, SourceFits, Walks}
+use Rattle.fill_arena.specs.Stands.{AtomFits, AtomStands, ConditionFits, ConditionsFit, SourceFits, Walks, PartFits, PartStands, ConstantFits, ConstantStands, WalksAreCheap}
 use Rattle.fill_arena.specs.WellMade.{IsWellMade, IsAtomItem, IsConditionItem, IsSourceItem}
 use Rattle.fill_arena.specs.declared.entry.AtomItem.{AtomItem}
 use Rattle.fill_arena.specs.declared.entry.ConditionItem.{ConditionItem}
 use Rattle.fill_arena.specs.declared.entry.Edge.{Edge}
 use Rattle.fill_arena.specs.declared.entry.Entry.{Entry}
 use Rattle.fill_arena.specs.declared.entry.SourceItem.{SourceItem}
+use Rattle.fill_arena.proofs.Edges.{walks_more}
 use Rattle.fill_arena.proofs.Costs.{source_item_present, atom_item_present, atom_present, row_present}
-use Rattle.fill_rank.specs.Rank.{IsBest, IsBestOf, source_rank, atom_rank}
-use Rattle.fill_rank.specs.Sets.{AreBestRows, IsBestChain, IsBestPart, IsCheap, IsConstantOf, PartFits, PartStands, ConstantFits, ConstantStands, SomeBelow, WalksAreCheap, link_cost}
-use Rattle.fill_rank.specs.declared.chain.Chain.{Chain}
+use Rattle.fill_arena.specs.Best.{IsBest, IsBestOf}
+use Rattle.fill_tree.specs.Order.{source_rank, atom_rank}
+use Rattle.fill_arena.specs.Contents.{SomeBelow}
+use Rattle.fill_rank.specs.Sets.{AreBestRows, IsBestChain, IsBestPart, IsCheap, IsConstantOf, link_cost}
+use Rattle.fill_tree.specs.declared.chain.Chain.{Chain}
 use Rattle.fill_rank.specs.declared.rows.Rows.{Rows}
 
 module _ (prices : Prices) (small : ArePrices prices) (c : List Entry) (made : IsWellMade c) (n : ℕ) where
@@ -98,17 +101,10 @@ module _ (prices : Prices) (small : ArePrices prices) (c : List Entry) (made : I
       (row_cheap fixed rows.any (from_constant fixed k) any, row_cheap part rows.any (from_part part b) any, row_cheap fixed rows.mixed (from_constant fixed k) mixed)
 
 -- an atom before the rest of a program
-walk_kept : (c : List Entry) (es edges : List Edge) → ((k : ℕ) (f : Edge) → slice_get es k ≡ Some f → (j : ℕ) × (slice_get edges j ≡ Some f)) → (p : Atoms) (last at : ℕ) → Walks p c es last at → Walks p c edges last at
-walk_kept c es edges among end last at h = h
-walk_kept c es edges among (more a q) last at h = (h.0, among h.1.0 h.0 h.1.1, (h.2.0, h.2.1, walk_kept c es edges among q last h.0.to h.2.2))
-
 pub link_cheap : (prices : Prices) (c : List Entry) (e : Edge) (others : List Edge) (last : ℕ) → WalksAreCheap prices c (e ∷ others) last → (a : Atom) → AtomStands c e.atoms (atom_tree a) →
     (o : Option Chain) → IsBestChain (program_cost prices) (λ p. Walks p c others last e.to) o → IsCheap (link_cost prices) (Some a) o
 link_cheap prices c e others last cheap a stands None best = tt
 link_cheap prices c e others last cheap a stands (Some x) best =
-    let tail = walk_kept c others (e ∷ others) (λ k f h. (suc k, h)) (program_tree x.atoms) last e.to best.1.has in
+    let tail = walks_more c e others last (program_tree x.atoms) e.to best.1.has in
     let whole = cheap (more (atom_tree a) (program_tree x.atoms)) e.from (e, (0, refl), (refl, stands, tail)) in
     subst (λ m. link_cost prices (atom_tree a) + m < 2 ^ 64) (sym best.0) whole
-
-pub walks_cheap : (prices : Prices) (c : List Entry) (es edges : List Edge) (last : ℕ) → ((k : ℕ) (f : Edge) → slice_get es k ≡ Some f → (j : ℕ) × (slice_get edges j ≡ Some f)) → WalksAreCheap prices c edges last → WalksAreCheap prices c es last
-walks_cheap prices c es edges last among cheap p at h = cheap p at (walk_kept c es edges among p last at h)

@@ -1,10 +1,7 @@
 pub mod Best
-pub mod Maps
 pub mod Parts
 pub mod Pieces
 pub mod Put
 pub mod Scan
-pub mod Stand
-pub mod Trees
 pub mod Walk
 pub mod Cheap

@@ -8,19 +8,18 @@ use Rattle.fill_tokens.specs.declared.place.Place.{Place}
 use Rattle.fill_tokens.specs.declared.prices.Prices.{Prices}
 use Rattle.fill_tree.specs.Cost.{source_cost, atom_cost, conditions_cost}
 use Rattle.fill_tree.specs.Grammar.{HasPart}
-use Rattle.fill_tree.specs.Order.{source_cmp, atom_cmp, atoms_cmp}
+use Rattle.fill_tree.specs.Order.{source_cmp, atom_cmp, atoms_cmp, place_rank, source_rank, atom_rank, row_rank}
 use Rattle.fill_tree.specs.Tree.{SourceTree, AtomTree, Atoms, col, select, constant, whole, sub}
-use Rattle.fill_tree.proofs.Ranked.{nat_cmp-add, nat_cmp-same, pair-at_most}
+use Rattle.fill_tree.proofs.Ranked.{nat_cmp-add, nat_cmp-same, pair-at_most, rank_total, rank_exact}
 use Rattle.fill_tree.proofs.TreeOrder.{source_total, exact_sources, atom_total, exact_atoms}
-use Rattle.fill_arena.specs.Stands.{ConditionsFit, PlaceStands, SourceFits, SourceStands}
+use Rattle.fill_arena.specs.Stands.{ConditionsFit, PlaceStands, SourceFits, SourceStands, ConstantFits, PartFits}
 use Rattle.fill_arena.specs.declared.entry.AtomItem.TheVariants.{Const, Whole, Sub}
 use Rattle.fill_arena.specs.declared.entry.Entry.{Entry}
 use Rattle.fill_arena.specs.declared.entry.SelectItem.{SelectItem}
 use Rattle.fill_arena.specs.declared.entry.SourceItem.TheVariants.{Col, Select}
 use Rattle.fill_text.specs.Orders.{AtMost}
-use Rattle.fill_rank.specs.Rank.{IsBest, place_rank, source_rank, atom_rank, row_rank}
-use Rattle.fill_rank.specs.Sets.{ConstantFits, PartFits}
-use Rattle.fill_rank.proofs.Best.{rank_total, rank_exact, at_most-itself}
+use Rattle.fill_arena.specs.Best.{IsBest}
+use Rattle.fill_arena.proofs.Best.{at_most-itself}
 
 source-itself : (prices : Prices) (x : SourceTree) → AtMost (source_rank prices x x)
 source-itself prices x = at_most-itself (source_rank prices) (rank_total (source_cost prices) source_cmp source_total) (rank_exact (source_cost prices) source_cmp exact_sources) x

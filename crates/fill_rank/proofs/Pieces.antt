@@ -1,27 +1,22 @@
--- Small steps of the proofs about sets: what is kept of conditions, and lists from the back.
+-- Small steps of the proofs about sets: what is kept of conditions.
 use Rattle.std.proofs.Common.{◌≡◌, ◌⊎◌, ℕ, zero, suc, ◌+◌, List, [], ◌∷◌, length, drop, Option, Some, None, Result, Ok, Err, option_map, inl, inr, refl, sym, ap, subst, ◌∙◌, slice_get, ◌<◌, ◌≢◌, arith}
-use Rattle.std.proofs.Math.ListN.{set}
-use Rattle.std.specs.Result.{IfOk}
 use Rattle.fill_tokens.specs.declared.prices.Prices.{Prices}
 use Rattle.fill_tree.specs.Grammar.{HasPart, IsPart}
 use Rattle.fill_tree.specs.Meaning.{atom_tree}
 use Rattle.fill_tree.specs.Tree.{SourceTree, AtomTree, Atoms, col, select, constant, whole, sub}
 use Rattle.fill_tree.specs.declared.tree.Atom.{Atom}
 use Rattle.fill_tree.specs.declared.tree.Atom.TheVariants.{Const}
-use Rattle.fill_arena.specs.Contents.{EachIn}
-use Rattle.fill_arena.specs.Stands.{AtomFits, AtomStands, ConditionFits, ConditionsFit, SourceFits}
+use Rattle.fill_arena.specs.Stands.{AtomFits, AtomStands, ConditionFits, ConditionsFit, SourceFits, ConstantStands, PartStands}
 use Rattle.fill_arena.specs.declared.entry.ConditionItem.{ConditionItem}
 use Rattle.fill_arena.specs.declared.entry.Entry.{Entry}
 use Rattle.fill_arena.specs.declared.entry.SelectItem.{SelectItem}
 use Rattle.fill_arena.specs.declared.entry.SourceItem.TheVariants.{Select}
-use Rattle.fill_rank.specs.Rank.{IsBest, IsBestOf, IsLesser, atom_rank}
-use Rattle.fill_rank.specs.Sets.{ConstantStands, IsBestPart, IsConstantOf, PartStands}
-use Rattle.fill_rank.proofs.Best.{best_lesser, atom_rank-total, atom_rank-exact}
-use Rattle.fill_rank.proofs.Trees.{constant_tree}
-
-pub ok_on : {A E : Type 0} (P Q : A → Type 0) (r : Result A E) → IfOk r P → ((x : A) → P x → Q x) → IfOk r Q
-ok_on P Q (Ok x) h f = f x h
-ok_on P Q (Err e) h f = h
+use Rattle.fill_arena.specs.Best.{IsBest, IsBestOf, IsLesser}
+use Rattle.fill_tree.specs.Order.{atom_rank}
+use Rattle.fill_rank.specs.Sets.{IsBestPart, IsConstantOf}
+use Rattle.fill_arena.proofs.Best.{best_lesser}
+use Rattle.fill_tree.proofs.Ranked.{atom_rank-total, atom_rank-exact}
+use Rattle.fill_arena.proofs.Trees.{constant_tree}
 
 pub constant_kept : (i : ConditionItem) (text copied : List ℕ) → i.constant ≡ Some text → copied ≡ text → IsConstantOf i (Some (Const copied))
 constant_kept i text copied is e = (text, is, constant_tree copied ∙ ap constant e)
@@ -62,21 +57,6 @@ copied_best prices P None (Some y) e h = cc
 copied_best prices P (Some x) None e h = cc
 copied_best prices P (Some x) (Some y) e h = let same : atom_tree x ≡ atom_tree y = cc in subst (IsBest (atom_rank prices) P) same h
 
-pub drop_whole : {A : Type 0} (xs : List A) → drop (length xs) xs ≡ []
-drop_whole [] = refl
-drop_whole (x ∷ xs) = drop_whole xs
-
-pub drop_here : {A : Type 0} (xs : List A) (n : ℕ) (x : A) → slice_get xs n ≡ Some x → drop n xs ≡ x ∷ drop (suc n) xs
-drop_here [] n x h = cc
-drop_here (y ∷ xs) zero x h = let e : y ≡ x = cc in ap (λ z. z ∷ xs) e
-drop_here (y ∷ xs) (suc n) x h = drop_here xs n x h
-
-pub get_dropped : {A : Type 0} (xs : List A) (n k : ℕ) → slice_get (drop n xs) k ≡ slice_get xs (n + k)
-get_dropped [] zero k = refl
-get_dropped [] (suc n) k = refl
-get_dropped (x ∷ xs) zero k = let e : k ≡ 0 + k = omega arith in ap (slice_get (x ∷ xs)) e
-get_dropped (x ∷ xs) (suc n) k = let e : suc (n + k) ≡ suc n + k = omega arith in get_dropped xs n k ∙ ap (slice_get (x ∷ xs)) e
-
 module _ (prices : Prices) (c : List Entry) (s : ℕ) where
   either : (a : AtomTree) → AtomStands c s a → ConstantStands c s a ⊎ PartStands c s a
   either (constant t) h = inl ((λ p. p), h)
@@ -86,22 +66,3 @@ module _ (prices : Prices) (c : List Entry) (s : ℕ) where
   pub atom_best : (fixed part made : Option Atom) → IsLesser (λ x y. atom_rank prices (atom_tree x) (atom_tree y)) fixed part made →
       IsBestOf atom_tree (atom_rank prices) (ConstantStands c s) fixed → IsBestOf atom_tree (atom_rank prices) (PartStands c s) part → IsBestOf atom_tree (atom_rank prices) (AtomStands c s) made
   atom_best fixed part made = best_lesser (atom_rank prices) (atom_rank-total prices) (atom_rank-exact prices) atom_tree (ConstantStands c s) (PartStands c s) (AtomStands c s) either (λ a h. h.1) (λ a h. h.1) fixed part made
-
-pub set_here : {A : Type 0} (xs : List A) (n : ℕ) (v : A) → n < length xs → slice_get (set xs n v) n ≡ Some v
-set_here [] n v lt = absurd (omega arith)
-set_here (x ∷ xs) zero v lt = refl
-set_here (x ∷ xs) (suc n) v lt = set_here xs n v (omega arith)
-
-pub set_apart : {A : Type 0} (xs : List A) (n : ℕ) (v : A) (m : ℕ) → m ≢ n → slice_get (set xs n v) m ≡ slice_get xs m
-set_apart [] n v m apart = refl
-set_apart (x ∷ xs) zero v zero apart = absurd (apart refl)
-set_apart (x ∷ xs) zero v (suc m) apart = refl
-set_apart (x ∷ xs) (suc n) v zero apart = refl
-set_apart (x ∷ xs) (suc n) v (suc m) apart = set_apart xs n v m (λ e. apart (ap suc e))
-
-pub dropped_later : {A : Type 0} (xs : List A) (n left : ℕ) → suc n ≡ left → (k : ℕ) → slice_get (drop left xs) k ≡ slice_get xs (n + 1 + k)
-dropped_later xs n left next k = let same : left + k ≡ n + 1 + k = omega arith in get_dropped xs left k ∙ ap (slice_get xs) same
-
--- what is true of each item is true of each of the last ones
-pub each_dropped : {A : Type 0} (P : A → Type 0) (xs : List A) (n : ℕ) → EachIn P xs → EachIn P (drop n xs)
-each_dropped P xs n each k x h = each (n + k) x (sym (get_dropped xs n k) ∙ h)

@@ -7,21 +7,22 @@ use Rattle.std.specs.declared.cmp.Ordering.TheVariants.{Less, Equal, Greater}
 use Rattle.fill_tree.specs.Cost.{atom_cost, condition_cost, conditions_cost}
 use Rattle.fill_tree.specs.Grammar.{HasPart, IsPart}
 use Rattle.fill_tree.specs.Meaning.{atom_tree, program_tree}
-use Rattle.fill_tree.specs.Order.{atom_cmp, atoms_cmp}
+use Rattle.fill_tree.specs.Order.{atom_cmp, atoms_cmp, rank, atom_rank, chain_rank}
 use Rattle.fill_tree.specs.Tree.{AtomTree, Atoms, constant, whole, sub, end, more}
 use Rattle.fill_tree.specs.declared.tree.Atom.{Atom}
-use Rattle.fill_tree.proofs.Ranked.{nat_cmp-add, pair-at_most}
+use Rattle.fill_tree.proofs.Ranked.{nat_cmp-add, pair-at_most, rank_total, rank_exact}
 use Rattle.fill_tree.proofs.TreeOrder.{atom_total, exact_atoms}
 use Rattle.fill_arena.specs.Stands.{AtomFits, ConditionFits, ConditionsFit}
 use Rattle.fill_arena.specs.declared.entry.ConditionItem.{ConditionItem}
 use Rattle.fill_arena.specs.declared.entry.Entry.{Entry}
 use Rattle.fill_text.specs.Orders.{AtMost}
 use Rattle.fill_tokens.specs.declared.prices.Prices.{Prices}
-use Rattle.fill_rank.specs.Rank.{rank, atom_rank, IsBest, IsBestOf, IsLesser, chain_rank}
+use Rattle.fill_arena.specs.Best.{IsBest, IsBestOf, IsLesser}
 use Rattle.fill_rank.specs.Sets.{IsBestPart, IsConstantOf, IsBestChain, AreBestRows, CostsMore, IsPut, link_cost}
-use Rattle.fill_rank.specs.declared.chain.Chain.{Chain}
+use Rattle.fill_tree.specs.declared.chain.Chain.{Chain}
 use Rattle.fill_rank.specs.declared.rows.Rows.{Rows}
-use Rattle.fill_rank.proofs.Best.{rank_total, rank_exact, at_most-itself, chains_lesser}
+use Rattle.fill_arena.proofs.Best.{at_most-itself}
+use Rattle.fill_rank.proofs.Best.{chains_lesser}
 
 -- a first atom of one property and a rest of another
 abbrev pub Starts : (AtomTree → Type 0) → (Atoms → Type 0) → Atoms → Type 0
@@ -185,10 +186,6 @@ module _ (prices : Prices) (c : List Entry) (i : ConditionItem) where
           any = chains_lesser (conditions_cost prices) (Starts ConstantOf Row) (Starts PartOf Row) LongerRow row_splits row_left row_right from_constant from_part made.any l0 q0 q1;
           mixed = chains_lesser (conditions_cost prices) (Starts ConstantOf MixedRow) (Starts PartOf Row) LongerMixed mixed_splits mixed_left mixed_right part_later part_now made.mixed l1 q2 q3;
         }
-
-pub no_row_mixed : (c : List Entry) (p : Atoms) → ¬ (HasPart p × ConditionsFit p c [])
-no_row_mixed c end h = h.0
-no_row_mixed c (more a q) h = h.1
 
 pub best_end : (prices : Prices) (c : List Entry) → IsBest (rank (conditions_cost prices) atoms_cmp) (λ p. ConditionsFit p c []) end
 best_end prices c = record { has = tt; least = least }

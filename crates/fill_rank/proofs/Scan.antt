@@ -6,30 +6,20 @@ use Rattle.std.specs.Cmp.{IsTotalOrder}
 use Rattle.std.proofs.lemmas.Bool.{cases_lt}
 use Rattle.std.proofs.lemmas.Option.{slice_get_within}
 use Rattle.std.proofs.lemmas.Map.Lookups.{CmpEqualImpliesEq}
-use Rattle.fill_tokens.specs.Place.{place_cmp}
-use Rattle.fill_tokens.specs.Prices.{place_cost}
 use Rattle.fill_tokens.specs.declared.place.Place.{Place}
-use Rattle.fill_tokens.proofs.PlaceLaws.{place_total, exact_places}
 use Rattle.fill_tokens.specs.declared.prices.Prices.{Prices}
-use Rattle.fill_arena.specs.Contents.{In, SomeIn}
+use Rattle.fill_arena.specs.Contents.{In, SomeBelow, SomeIn}
 use Rattle.fill_text.specs.Orders.{AtMost}
-use Rattle.fill_rank.specs.Rank.{IsBest, IsBestOf, IsLesser, place_rank}
-use Rattle.fill_rank.specs.Sets.{SomeBelow}
-use Rattle.fill_rank.proofs.Best.{rank_total, rank_exact, at_most-itself, at_most-trans, at_most-not_less, best_lesser}
+use Rattle.fill_arena.specs.Best.{IsBest, IsBestOf, IsLesser}
+use Rattle.fill_tree.specs.Order.{place_rank}
+use Rattle.fill_arena.proofs.Below.{below_here, below_left, below_split, same_item, some_below, some_in}
+use Rattle.fill_arena.proofs.Best.{at_most-itself, at_most-trans, at_most-not_less, best_lesser}
+use Rattle.fill_tree.proofs.Ranked.{place_rank-total, place_rank-exact}
 
 -- an item that is at most each of the first ones
 pub record BestBelow (prices : Prices) (xs : List Place) (i : ℕ) (x : Place) : Type 0 where
   pub listed : In x xs
   pub least : (k : ℕ) (p : Place) → k < i → slice_get xs k ≡ Some p → AtMost (place_rank prices x p)
-
-place_rank-total : (prices : Prices) → IsTotalOrder (place_rank prices)
-place_rank-total prices = rank_total (place_cost prices) place_cmp place_total
-
-place_rank-exact : (prices : Prices) → CmpEqualImpliesEq (place_rank prices)
-place_rank-exact prices = rank_exact (place_cost prices) place_cmp exact_places
-
-same_item : {A : Type 0} (xs : List A) (i k : ℕ) (x y : A) → slice_get xs i ≡ Some x → slice_get xs k ≡ Some y → k ≡ i → x ≡ y
-same_item {A} xs i k x y at there e = let moved : slice_get xs i ≡ Some y = subst (λ j. slice_get xs j ≡ Some y) e there in cc
 
 pub below_first : (prices : Prices) (xs : List Place) (x : Place) → slice_get xs 0 ≡ Some x → BestBelow prices xs 1 x
 below_first prices xs x at = record {
@@ -63,39 +53,18 @@ below_done prices xs i x past best = record {
   least = λ y h. let within = slice_get_within xs h.0 y h.1 in best.least h.0 y (omega arith) h.1;
 }
 
--- items that stand for sets
+-- the best of items that stand for sets
 module _ {X A : Type 0} (F : X → A → Type 0) (xs : List X) where
-  pub none_below : (a : A) → ¬ (SomeBelow 0 xs (λ x. F x a))
-  none_below a h = absurd (omega (arith, h.2))
-
-  pub below_split : (i : ℕ) (x : X) → slice_get xs i ≡ Some x → (a : A) → SomeBelow (i + 1) xs (λ y. F y a) → SomeBelow i xs (λ y. F y a) ⊎ F x a
-  below_split i x at a h = elim (cases_lt h.0 i) [
-    | inl less ↦ inl (h.0, h.1, less, h.3, h.4)
-    | inr past ↦ let lt = h.2 in inr (subst (λ y. F y a) (sym (same_item xs i h.0 x h.1 at h.3 (omega arith))) h.4)
-  ]
-
-  pub below_left : (i : ℕ) (a : A) → SomeBelow i xs (λ y. F y a) → SomeBelow (i + 1) xs (λ y. F y a)
-  below_left i a h = let lt = h.2 in (h.0, h.1, omega arith, h.3, h.4)
-
-  pub below_here : (i : ℕ) (x : X) → slice_get xs i ≡ Some x → (a : A) → F x a → SomeBelow (i + 1) xs (λ y. F y a)
-  below_here i x at a h = (i, x, omega arith, at, h)
-
-  pub some_below : (i : ℕ) → length xs ≤ i → (a : A) → SomeIn (λ y. F y a) xs → SomeBelow i xs (λ y. F y a)
-  some_below i past a h = let within = slice_get_within xs h.1.0 h.0 h.1.1 in (h.1.0, h.0, omega arith, h.1.1, h.2)
-
-  pub some_in : (i : ℕ) (a : A) → SomeBelow i xs (λ y. F y a) → SomeIn (λ y. F y a) xs
-  some_in i a h = (h.1, (h.0, h.3), h.4)
-
   module _ {T : Type 0} (tree : T → A) (R : A → A → Ordering) (total : IsTotalOrder R) (exact : CmpEqualImpliesEq R) where
     pub scan_step : (i : ℕ) (x : X) → slice_get xs i ≡ Some x → (best next r : Option T) → IsLesser (λ p q. R (tree p) (tree q)) best next r →
         IsBestOf tree R (λ a. SomeBelow i xs (λ y. F y a)) best → IsBestOf tree R (F x) next → IsBestOf tree R (λ a. SomeBelow (i + 1) xs (λ y. F y a)) r
     scan_step i x at best next r is b n =
-        best_lesser R total exact tree (λ a. SomeBelow i xs (λ y. F y a)) (F x) (λ a. SomeBelow (i + 1) xs (λ y. F y a)) (below_split i x at) (below_left i) (below_here i x at) best next r is b n
+        best_lesser R total exact tree (λ a. SomeBelow i xs (λ y. F y a)) (F x) (λ a. SomeBelow (i + 1) xs (λ y. F y a)) (below_split F xs i x at) (below_left F xs i) (below_here F xs i x at) best next r is b n
 
   module _ {T : Type 0} (tree : T → A) (R : A → A → Ordering) (S : A → Type 0) (to : (a : A) → S a → SomeIn (λ y. F y a) xs) (from : (a : A) → SomeIn (λ y. F y a) xs → S a) where
     pub scan_done : (i : ℕ) → length xs ≤ i → (best : Option T) → IsBestOf tree R (λ a. SomeBelow i xs (λ y. F y a)) best → IsBestOf tree R S best
-    scan_done i past None h = λ a s. h a (some_below i past a (to a s))
+    scan_done i past None h = λ a s. h a (some_below F xs i past a (to a s))
     scan_done i past (Some x) h = record {
-      has = from (tree x) (some_in i (tree x) h.has);
-      least = λ a s. h.least a (some_below i past a (to a s));
+      has = from (tree x) (some_in F xs i (tree x) h.has);
+      least = λ a s. h.least a (some_below F xs i past a (to a s));
     }

@@ -1,5 +1,5 @@
 -- The best rests of programs, one edge after the other from the back.
-use Rattle.std.proofs.Common.{◌≡◌, ◌≢◌, ◌⊎◌, ℕ, zero, suc, ◌+◌, ◌-◌, ◌<◌, List, [], ◌∷◌, ◌++◌, length, Option, Some, None, slice_get, inl, inr, refl, ap, sym, subst, ◌∙◌, arith}
+use Rattle.std.proofs.Common.{◌≡◌, ◌≢◌, ◌⊎◌, ◌↔◌, ℕ, ◌+◌, ◌-◌, ◌<◌, List, [], ◌∷◌, ◌++◌, length, Option, Some, None, slice_get, inl, inr, refl, ap, sym, subst, ◌∙◌, arith}
 use Rattle.std.specs.declared.cmp.Ordering.{Ordering}
 use Rattle.std.specs.declared.cmp.Ordering.TheVariants.{Less}
 use Rattle.std.specs.Ordering.{ordering_reverse}
@@ -7,22 +7,21 @@ use Rattle.std.proofs.lemmas.Bool.{cases_eq}
 use Rattle.fill_tree.specs.Chosen.{IsLeast}
 use Rattle.fill_tree.specs.Cost.{program_cost}
 use Rattle.fill_tree.specs.Meaning.{atom_tree, program_tree}
-use Rattle.fill_tree.specs.Order.{program_cmp}
+use Rattle.fill_tree.specs.Order.{program_cmp, atom_rank, chain_rank}
 use Rattle.fill_tree.specs.Tree.{AtomTree, Atoms, end, more}
 use Rattle.fill_tree.specs.declared.tree.Atom.{Atom}
 use Rattle.fill_tree.proofs.ProgramOrder.{program_antisymm}
-use Rattle.fill_arena.specs.Contents.{In, HasEdges, HasNodes}
 use Rattle.fill_arena.specs.Stands.{AtomStands, ProgramStands, Walks}
-use Rattle.fill_arena.specs.WellMade.{IsGraphOf}
+use Rattle.fill_arena.specs.WellMade.{IsFirstEdge}
 use Rattle.fill_arena.specs.declared.entry.Edge.{Edge}
 use Rattle.fill_arena.specs.declared.entry.Entry.{Entry}
-use Rattle.fill_arena.specs.declared.entry.Entry.TheVariants.{Graph}
+use Rattle.fill_arena.proofs.Edges.{in_rest, no_walk, onward, walks_back, walks_more}
 use Rattle.fill_arena.proofs.Lists.{get_pushed}
 use Rattle.fill_text.specs.Orders.{AtMost}
 use Rattle.fill_tokens.specs.declared.prices.Prices.{Prices}
-use Rattle.fill_rank.specs.Rank.{IsBest, IsLesser, atom_rank, chain_rank}
-use Rattle.fill_rank.specs.Sets.{AreBestRests, IsBestChain, IsFirstEdge, CostsMore, IsPut, link_cost}
-use Rattle.fill_rank.specs.declared.chain.Chain.{Chain}
+use Rattle.fill_arena.specs.Best.{IsBest, IsLesser}
+use Rattle.fill_rank.specs.Sets.{AreBestRests, IsBestChain, CostsMore, IsPut, link_cost}
+use Rattle.fill_tree.specs.declared.chain.Chain.{Chain}
 use Rattle.fill_rank.proofs.Best.{chains_lesser}
 use Rattle.fill_rank.proofs.Put.{Starts, as_link, best_put, dear_put}
 
@@ -31,41 +30,23 @@ same_chain cost P S to from None h = λ p s. h p (to p s)
 same_chain cost P S to from (Some x) h = (h.0, record { has = from (program_tree x.atoms) h.1.has; least = λ p s. h.1.least p (to p s) })
 
 module _ (prices : Prices) (c : List Entry) (e : Edge) (rest : List Edge) (last : ℕ) where
-  in_rest : (k : ℕ) (f : Edge) → slice_get (e ∷ rest) k ≡ Some f → (e ≡ f) ⊎ In f rest
-  in_rest zero f h = inl cc
-  in_rest (suc k) f h = inr (k, h)
-
-  walks_more : (p : Atoms) (at : ℕ) → Walks p c rest last at → Walks p c (e ∷ rest) last at
-  walks_more end at h = h
-  walks_more (more a q) at h = (h.0, (suc h.1.0, h.1.1), (h.2.0, h.2.1, walks_more q h.0.to h.2.2))
-
   module _ (first : IsFirstEdge e rest) where
-    walks_back : (p : Atoms) (at : ℕ) → at ≢ e.from → Walks p c (e ∷ rest) last at → Walks p c rest last at
-    walks_back end at apart h = h
-    walks_back (more a q) at apart h = elim (in_rest h.1.0 h.0 h.1.1) [
-      | inl same ↦ absurd (apart (sym (subst (λ f. f.from ≡ at) (sym same) h.2.0)))
-      | inr there ↦ (h.0, there, (h.2.0, h.2.1, walks_back q h.0.to (first.never_back h.0 there) h.2.2))
-    ]
-
     Along : Atoms → Type 0
     Along = Starts (AtomStands c e.atoms) (λ q. Walks q c rest last e.to)
 
-    onward : e.to ≢ e.from
-    onward same = let lt = first.onward in absurd (omega arith)
-
     walk_splits : (p : Atoms) → Walks p c (e ∷ rest) last e.from → Walks p c rest last e.from ⊎ Starts (AtomStands c e.atoms) (λ q. Walks q c rest last e.to) p
     walk_splits end h = inl h
-    walk_splits (more a q) h = elim (in_rest h.1.0 h.0 h.1.1) [
+    walk_splits (more a q) h = elim (in_rest c e rest last h.1.0 h.0 h.1.1) [
       | inl same ↦
           let stands = subst (λ f. AtomStands c f.atoms a) (sym same) h.2.1 in
           let walk = subst (λ f. Walks q c (e ∷ rest) last f.to) (sym same) h.2.2 in
-          inr (stands, walks_back q e.to onward walk)
-      | inr there ↦ inl (h.0, there, (h.2.0, h.2.1, walks_back q h.0.to (first.never_back h.0 there) h.2.2))
+          inr (stands, walks_back c e rest last first q e.to (onward c e rest last first) walk)
+      | inr there ↦ inl (h.0, there, (h.2.0, h.2.1, walks_back c e rest last first q h.0.to (first.never_back h.0 there) h.2.2))
     ]
 
     walk_along : (p : Atoms) → Starts (AtomStands c e.atoms) (λ q. Walks q c rest last e.to) p → Walks p c (e ∷ rest) last e.from
     walk_along end h = absurd h
-    walk_along (more a q) h = (e, (0, refl), (refl, h.0, walks_more q e.to h.1))
+    walk_along (more a q) h = (e, (0, refl), (refl, h.0, walks_more c e rest last q e.to h.1))
 
     pub edge_step : (old new : List (Option Chain)) (before next along made : Option Chain) (a : Atom) →
         AreBestRests prices c rest last old → slice_get old e.from ≡ Some before → slice_get old e.to ≡ Some next →
@@ -80,11 +61,11 @@ module _ (prices : Prices) (c : List Entry) (e : Edge) (rest : List Edge) (last 
             let onto = best_put (link_cost prices) (program_cost prices) adds (AtomStands c e.atoms) (λ q. Walks q c rest last e.to) (Some a) next along put
             (as_link prices (AtomStands c e.atoms) (Some a) best) (are.each e.to next to) in
             let result = chains_lesser (program_cost prices) (λ p. Walks p c rest last e.from) (Starts (AtomStands c e.atoms) (λ q. Walks q c rest last e.to)) (λ p. Walks p c (e ∷ rest) last e.from)
-            walk_splits (λ p h. walks_more p e.from h) walk_along before along made lesser (are.each e.from before at) onto in
+            walk_splits (λ p h. walks_more c e rest last p e.from h) walk_along before along made lesser (are.each e.from before at) onto in
             subst (λ m. IsBestChain (program_cost prices) (λ p. Walks p c (e ∷ rest) last m) o) (sym same)
             (subst (IsBestChain (program_cost prices) (λ p. Walks p c (e ∷ rest) last e.from)) one result)
         | inr apart ↦
-            same_chain (program_cost prices) (λ p. Walks p c rest last n) (λ p. Walks p c (e ∷ rest) last n) (λ p h. walks_back p n apart h) (λ p h. walks_more p n h) o
+            same_chain (program_cost prices) (λ p. Walks p c rest last n) (λ p. Walks p c (e ∷ rest) last n) (λ p h. walks_back c e rest last first p n apart h) (λ p h. walks_more c e rest last p n h) o
             (are.each n o (sym (others n apart) ∙ there))
       ];
     }
@@ -97,9 +78,6 @@ module _ (prices : Prices) (c : List Entry) (e : Edge) (rest : List Edge) (last 
         edge_step old old before next put.0 before a are at to best put.1 put.2 at (λ n apart. refl)
 
 -- without edges
-no_walk : (c : List Entry) (a : AtomTree) (q : Atoms) (last at : ℕ) → ¬ (Walks (more a q) c [] last at)
-no_walk c a q last at h = let there = h.1.1 in cc
-
 pub rests_start : (prices : Prices) (c : List Entry) (xs : List (Option Chain)) (x : Chain) → ((n : ℕ) (o : Option Chain) → slice_get xs n ≡ Some o → o ≡ None) →
     x.cost ≡ 0 → program_tree x.atoms ≡ end → AreBestRests prices c [] (length xs) (xs ++ Some x ∷ [])
 rests_start prices c xs x none cost tree = record {
@@ -128,31 +106,9 @@ reversed_less : (o q : Ordering) → q ≡ ordering_reverse o → AtMost o → �
 reversed_less o q e (inl h) less = cc
 reversed_less o q e (inr h) less = cc
 
-pub least_stands : (prices : Prices) (c : List Entry) (g nodes : ℕ) (edges : List Edge) (x : Chain) → slice_get c g ≡ Some (Graph nodes edges) →
+pub least_stands : (prices : Prices) (c : List Entry) (g nodes : ℕ) (edges : List Edge) (x : Chain) → ((p : Atoms) → ProgramStands c g p ↔ Walks p c edges (nodes - 1) 0) →
     IsBestChain (program_cost prices) (λ p. Walks p c edges (nodes - 1) 0) (Some x) → IsLeast prices (ProgramStands c g) (program_tree x.atoms)
-least_stands prices c g nodes edges x is best = record {
-  has = (nodes, edges, is, best.1.has);
-  least = λ q h.
-      let there = h.2 in
-      let n : h.0 ≡ nodes = cc in
-      let es : h.1 ≡ edges = cc in
-      let walk = subst (λ m. Walks q c edges (m - 1) 0) n (subst (λ xs. Walks q c xs (h.0 - 1) 0) es h.3) in
-      reversed_less (program_cmp prices (program_tree x.atoms) q) (program_cmp prices q (program_tree x.atoms)) (program_antisymm prices q (program_tree x.atoms)) (best.1.least q walk);
+least_stands prices c g nodes edges x same best = record {
+  has = (same (program_tree x.atoms)).1 best.1.has;
+  least = λ q h. reversed_less (program_cmp prices (program_tree x.atoms) q) (program_cmp prices q (program_tree x.atoms)) (program_antisymm prices q (program_tree x.atoms)) (best.1.least q ((same q).0 h));
 }
-
--- each edge is the first of those from it on
-pub first_edge : (c : List Entry) (n nodes : ℕ) (edges : List Edge) (j : ℕ) (e : Edge) (rest : List Edge) → IsGraphOf c n nodes edges → slice_get edges j ≡ Some e →
-    ((k : ℕ) → slice_get rest k ≡ slice_get edges (j + 1 + k)) → IsFirstEdge e rest
-first_edge c n nodes edges j e rest all at later = record {
-  onward = (all.each j e at).onward;
-  never_back = λ f there same.
-      let lt = all.ordered (j + 1 + there.0) j f e (sym (later there.0) ∙ there.1) at same in
-      absurd (omega arith);
-}
-
-pub the_graph : (c : List Entry) (g nodes : ℕ) (edges : List Edge) → HasNodes c g nodes → HasEdges c g edges → slice_get c g ≡ Some (Graph nodes edges)
-the_graph c g nodes edges h k =
-    let first = h.1 in
-    let second = k.1 in
-    let e : k.0 ≡ nodes = cc in
-    subst (λ n. slice_get c g ≡ Some (Graph n edges)) e k.1

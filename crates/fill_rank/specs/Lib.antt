@@ -1,3 +1,2 @@
-pub mod Known
-pub mod Rank
+pub mod Memo
 pub mod Sets

@@ -1,38 +1,19 @@
 -- What stands in a part of a set, a lookup or a graph.
-use Rattle.std.specs.Prelude.{◌≡◌, ◌≢◌, ℕ, ◌+◌, ◌<◌, ◌^◌, List, Option, Some, None, slice_get}
+use Rattle.std.specs.Prelude.{◌≡◌, ℕ, ◌+◌, ◌<◌, ◌^◌, List, Option, Some, None, slice_get}
 use Rattle.fill_tokens.specs.declared.prices.Prices.{Prices}
 use Rattle.fill_tree.specs.Cost.{conditions_cost, program_cost, atom_cost}
 use Rattle.fill_tree.specs.Grammar.{HasPart, IsPart}
 use Rattle.fill_tree.specs.Meaning.{atom_tree, program_tree}
-use Rattle.fill_tree.specs.Order.{atoms_cmp}
+use Rattle.fill_tree.specs.Order.{atoms_cmp, rank, atom_rank}
 use Rattle.fill_tree.specs.Tree.{AtomTree, Atoms, constant, more}
 use Rattle.fill_tree.specs.declared.tree.Atom.{Atom}
-use Rattle.fill_arena.specs.Contents.{In}
-use Rattle.fill_arena.specs.Stands.{AtomFits, AtomStands, ConditionFits, ConditionsFit, Walks}
-use Rattle.fill_arena.specs.declared.entry.AtomItem.{AtomItem}
+use Rattle.fill_arena.specs.Stands.{AtomFits, ConditionFits, ConditionsFit, Walks}
 use Rattle.fill_arena.specs.declared.entry.ConditionItem.{ConditionItem}
 use Rattle.fill_arena.specs.declared.entry.Edge.{Edge}
 use Rattle.fill_arena.specs.declared.entry.Entry.{Entry}
-use Rattle.fill_rank.specs.Rank.{rank, IsBest, IsBestOf, atom_rank}
-use Rattle.fill_rank.specs.declared.chain.Chain.{Chain}
+use Rattle.fill_arena.specs.Best.{IsBest, IsBestOf}
+use Rattle.fill_tree.specs.declared.chain.Chain.{Chain}
 use Rattle.fill_rank.specs.declared.rows.Rows.{Rows}
-
--- one of the first items has the property
-abbrev pub SomeBelow : {A : Type 0} → ℕ → List A → (A → Type 0) → Type 0
-SomeBelow {A} i xs P = (k : ℕ) × (x : A) × (k < i) × (slice_get xs k ≡ Some x) × P x
-
--- atoms that are no constants, and those that are
-abbrev pub PartFits : List Entry → AtomItem → AtomTree → Type 0
-PartFits c item a = IsPart a × AtomFits a c item
-
-abbrev pub PartStands : List Entry → ℕ → AtomTree → Type 0
-PartStands c s a = IsPart a × AtomStands c s a
-
-abbrev pub ConstantFits : List Entry → AtomItem → AtomTree → Type 0
-ConstantFits c item a = (¬ IsPart a) × AtomFits a c item
-
-abbrev pub ConstantStands : List Entry → ℕ → AtomTree → Type 0
-ConstantStands c s a = (¬ IsPart a) × AtomStands c s a
 
 -- the best condition of the item that is no constant is kept, and the item's constant
 abbrev pub IsBestPart : Prices → List Entry → ConditionItem → Option Atom → Type 0
@@ -73,15 +54,6 @@ link_cost prices a = prices.atom + atom_cost prices a
 abbrev pub CostsMore : Prices → Option Chain → Option Atom → Option Chain → Type 0
 CostsMore prices best atom rest = (b : Chain) × (a : Atom) × (x : Chain) × (best ≡ Some b) × (atom ≡ Some a) × (rest ≡ Some x) × (b.cost < link_cost prices (atom_tree a) + x.cost)
 
--- the edge leads to a node after its own, and none of the rest leads back to its own
-pub record IsFirstEdge (e : Edge) (rest : List Edge) : Type 0 where
-  pub onward : e.from < e.to
-  pub never_back : (f : Edge) → In f rest → f.to ≢ e.from
-
 -- for each node the best program that a walk over the edges from it to the last node has
 pub record AreBestRests (prices : Prices) (c : List Entry) (edges : List Edge) (last : ℕ) (table : List (Option Chain)) : Type 0 where
   pub each : (n : ℕ) (o : Option Chain) → slice_get table n ≡ Some o → IsBestChain (program_cost prices) (λ p. Walks p c edges last n) o
-
--- what the atoms on a walk over the edges to the last node cost is one of the machine's numbers
-abbrev pub WalksAreCheap : Prices → List Entry → List Edge → ℕ → Type 0
-WalksAreCheap prices c edges last = (p : Atoms) (at : ℕ) → Walks p c edges last at → program_cost prices p < 2 ^ 64

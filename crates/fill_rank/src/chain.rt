@@ -1,57 +1,25 @@
-//! Chains of atoms with what they cost: rows of conditions, and the ends of programs.
-ghost use Rattle.std.specs.Prelude.{◌≡◌, ◌+◌, ◌<◌, ◌↔◌, IsTrue, IfOk};
-ghost use Rattle.std.specs.declared.cmp.Ordering.TheVariants.{Less};
+//! The lesser of two chains, and chains with one atom more: rows of conditions, and the ends of programs.
+ghost use Rattle.std.specs.Prelude.{◌+◌, ◌<◌, IsTrue, IfOk};
 ghost use Rattle.fill_tree.specs.Cost.{condition_cost};
-ghost use Rattle.fill_tree.specs.Meaning.{atom_tree, program_tree};
-ghost use Rattle.fill_tree.specs.Tree.{more};
-ghost use Rattle.fill_rank.specs.Rank.{IsLesser, chain_rank};
+ghost use Rattle.fill_arena.specs.Best.{IsLesser};
+ghost use Rattle.fill_tree.specs.Order.{chain_rank};
 ghost use Rattle.fill_rank.specs.Sets.{CostsMore, IsCheap, IsPut, link_cost};
 
-use fill_text::{List, NoMemory};
-use fill_tree::{Atom, Prices, Program};
+use fill_text::NoMemory;
+use fill_tree::{Atom, Chain, Prices};
 use std::alloc::Global;
-use std::cmp::Ordering;
-
-/// Atoms and what they cost together.
-#[derive(Debug, Drop)]
-pub(crate) struct Chain {
-    pub cost: u64,
-    pub atoms: Program,
-}
-
-fn chain_before(a: &Chain, b: &Chain) -> bool
-    ensures { IsTrue result ↔ (chain_rank a.now b.now ≡ Less) }
-{
-    a.cost.cmp(&b.cost).then(a.atoms.compare(&b.atoms)) == Ordering::Less
-}
 
 /// The lesser of two chains that may be absent.
 pub(crate) fn lesser(best: Option<Chain>, next: Option<Chain>) -> Option<Chain>
     ensures { IsLesser chain_rank best next result }
 {
-    let Some(known) = best else {
+    let Some(memo) = best else {
         return next;
     };
     let Some(other) = next else {
-        return Some(known);
+        return Some(memo);
     };
-    Some(if chain_before(&other, &known) {
-        other
-    } else {
-        known
-    })
-}
-
-/// The atom and then the atoms of the rest.
-fn followed_by(alloc: Global, atom: &Atom, rest: &Program) -> Result<Program, NoMemory>
-    ensures { IfOk result (λ made. program_tree made ≡ more (atom_tree atom.now) (program_tree rest.now)) }
-{
-    let mut atoms = List::new(alloc);
-    atoms.push(atom.copy(alloc)?)?;
-    for next in rest.atoms.as_slice() {
-        atoms.push(next.copy(alloc)?)?;
-    }
-    Ok(Program { atoms })
+    Some(if other.before(&memo) { other } else { memo })
 }
 
 /// A condition before a row of conditions; none where either is absent.
@@ -71,7 +39,7 @@ pub(crate) fn put_condition(
         unreachable!()
     };
     let cost = own + row.cost;
-    let atoms = followed_by(alloc, atom, &row.atoms)?;
+    let atoms = row.atoms.with_first(alloc, atom)?;
     Ok(Some(Chain { cost, atoms }))
 }
 
@@ -92,7 +60,7 @@ pub(crate) fn put_atom(
         unreachable!()
     };
     let cost = own + prices.atom as u64 + rest.cost;
-    let atoms = followed_by(alloc, atom, &rest.atoms)?;
+    let atoms = rest.atoms.with_first(alloc, atom)?;
     Ok(Some(Chain { cost, atoms }))
 }
 

@@ -7,7 +7,7 @@
 
 mod chain;
 mod graph;
-mod known;
+mod memo;
 mod pick;
 mod rows;
 mod sets;

@@ -6,7 +6,8 @@ ghost use Rattle.fill_tokens.specs.declared.prices.Prices.{Prices};
 ghost use Rattle.fill_tree.specs.Cost.{atom_cost, source_cost};
 ghost use Rattle.fill_tree.specs.Meaning.{atom_tree, source_tree};
 ghost use Rattle.fill_arena.specs.Contents.{In};
-ghost use Rattle.fill_rank.specs.Rank.{IsBest, IsLesser, atom_rank, place_rank, source_rank};
+ghost use Rattle.fill_arena.specs.Best.{IsBest, IsLesser};
+ghost use Rattle.fill_tree.specs.Order.{atom_rank, place_rank, source_rank};
 
 use fill_tokens::{Place, Prices};
 use fill_tree::{Atom, Source};
@@ -39,50 +40,20 @@ fn place_before(a: &Place, a_cost: u64, b: &Place, b_cost: u64) -> bool
     a.compare(b) == Ordering::Less
 }
 
-/// Whether the first source is before the second.
-fn source_before(prices: &Prices, a: &Source, b: &Source) -> bool
-    requires first { source_cost prices.now (source_tree a.now) < 2 ^ 64 }
-    requires second { source_cost prices.now (source_tree b.now) < 2 ^ 64 }
-    ensures { IsTrue result ↔ (source_rank prices.now (source_tree a.now) (source_tree b.now) ≡ Less) }
-{
-    let Some(first) = a.cost(prices) else {
-        unreachable!()
-    };
-    let Some(second) = b.cost(prices) else {
-        unreachable!()
-    };
-    first.cmp(&second).then(a.compare(b)) == Ordering::Less
-}
-
 /// The lesser of two sources, of which the first may be absent.
 pub(crate) fn lesser_source(prices: &Prices, best: Option<Source>, next: Source) -> Option<Source>
     requires best { IfSome best (λ x. source_cost prices.now (source_tree x) < 2 ^ 64) }
     requires next { source_cost prices.now (source_tree next) < 2 ^ 64 }
     ensures { IsLesser (λ x y. source_rank prices.now (source_tree x) (source_tree y)) best (Some next) result }
 {
-    let Some(known) = best else {
+    let Some(memo) = best else {
         return Some(next);
     };
-    Some(if source_before(prices, &next, &known) {
-        next
-    } else {
-        known
-    })
-}
-
-/// Whether the first atom is before the second, as atoms of a program.
-fn atom_before(prices: &Prices, a: &Atom, b: &Atom) -> bool
-    requires first { atom_cost prices.now (atom_tree a.now) < 2 ^ 64 }
-    requires second { atom_cost prices.now (atom_tree b.now) < 2 ^ 64 }
-    ensures { IsTrue result ↔ (atom_rank prices.now (atom_tree a.now) (atom_tree b.now) ≡ Less) }
-{
-    let Some(first) = a.cost(prices) else {
-        unreachable!()
-    };
-    let Some(second) = b.cost(prices) else {
-        unreachable!()
-    };
-    first.cmp(&second).then(a.compare(b)) == Ordering::Less
+    match next.rank(&memo, prices) {
+        Some(Ordering::Less) => Some(next),
+        Some(_) => Some(memo),
+        None => unreachable!(),
+    }
 }
 
 /// The lesser of two atoms that may be absent.
@@ -91,15 +62,15 @@ pub(crate) fn lesser_atom(prices: &Prices, best: Option<Atom>, next: Option<Atom
     requires next { IfSome next (λ x. atom_cost prices.now (atom_tree x) < 2 ^ 64) }
     ensures { IsLesser (λ x y. atom_rank prices.now (atom_tree x) (atom_tree y)) best next result }
 {
-    let Some(known) = best else {
+    let Some(memo) = best else {
         return next;
     };
     let Some(other) = next else {
-        return Some(known);
+        return Some(memo);
     };
-    Some(if atom_before(prices, &other, &known) {
-        other
-    } else {
-        known
-    })
+    match other.rank(&memo, prices) {
+        Some(Ordering::Less) => Some(other),
+        Some(_) => Some(memo),
+        None => unreachable!(),
+    }
 }

@@ -6,9 +6,9 @@ ghost use Rattle.fill_arena.specs.declared.entry.ConditionItem.{ConditionItem};
 ghost use Rattle.fill_arena.specs.declared.entry.Entry.{Entry};
 ghost use Rattle.fill_rank.specs.Sets.{AreBestRows, IsBestPart, IsCheap, IsConstantOf};
 
-use crate::chain::{Chain, lesser, put_condition};
-use fill_text::{List, NoMemory};
-use fill_tree::{Atom, Prices, Program};
+use crate::chain::{lesser, put_condition};
+use fill_text::NoMemory;
+use fill_tree::{Atom, Chain, Prices};
 use std::alloc::Global;
 
 /// The best row of conditions, and the best of those that are not constants alone. Some items have no such row.
@@ -22,11 +22,8 @@ pub(crate) struct Rows {
 pub(crate) fn no_conditions(alloc: Global) -> Rows
     ensures { (prices : Table) (c : Items Entry) → AreBestRows prices c [] result }
 {
-    let atoms = Program {
-        atoms: List::new(alloc),
-    };
     Rows {
-        any: Some(Chain { cost: 0, atoms }),
+        any: Some(Chain::empty(alloc)),
         mixed: None,
     }
 }

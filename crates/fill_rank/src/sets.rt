@@ -6,15 +6,16 @@ ghost use Rattle.std.specs.Prelude.{◌≡◌, ◌≤◌, ◌∷◌, length, Lis
 ghost use Rattle.fill_tokens.specs.declared.prices.Prices.{Prices as Table};
 ghost use Rattle.fill_tree.specs.Meaning.{atom_tree, source_tree};
 ghost use Rattle.fill_arena.specs.Contents.{EachIn, IsAtomSet, IsPlaceSet, IsSourceSet};
-ghost use Rattle.fill_arena.specs.Stands.{AtomStands, PlaceStands, SourceFits, SourceStands};
+ghost use Rattle.fill_arena.specs.Stands.{AtomStands, PlaceStands, SourceFits, SourceStands, ConstantFits, ConstantStands, PartFits, PartStands};
 ghost use Rattle.fill_arena.specs.WellMade.{IsAtomItem, IsConditionItem, IsSelectItem, IsSourceItem};
 ghost use Rattle.fill_arena.specs.declared.entry.ConditionItem.{ConditionItem as Listed};
 ghost use Rattle.fill_arena.specs.declared.entry.Entry.{Entry};
-ghost use Rattle.fill_rank.specs.Known.{AreKnown};
-ghost use Rattle.fill_rank.specs.Rank.{IsBest, IsBestOf, atom_rank, place_rank, source_rank};
-ghost use Rattle.fill_rank.specs.Sets.{AreBestRows, ConstantFits, ConstantStands, PartFits, PartStands};
+ghost use Rattle.fill_rank.specs.Memo.{IsMemoOf};
+ghost use Rattle.fill_arena.specs.Best.{IsBest, IsBestOf};
+ghost use Rattle.fill_tree.specs.Order.{atom_rank, place_rank, source_rank};
+ghost use Rattle.fill_rank.specs.Sets.{AreBestRows};
 
-use crate::known::Known;
+use crate::memo::Memo;
 use crate::pick::{least_place, lesser_atom, lesser_source};
 use crate::rows::{Rows, no_conditions, put_in_front};
 use fill_arena::{
@@ -29,24 +30,19 @@ use std::alloc::Global;
 const FEW_ITEMS: usize = 4;
 
 /// The best place of a set.
-fn place_of(
-    prices: &Prices,
-    arena: &Arena,
-    known: &mut Known,
-    s: PlaceSet,
-) -> Result<Place, NoMemory>
+fn place_of(prices: &Prices, arena: &Arena, memo: &mut Memo, s: PlaceSet) -> Result<Place, NoMemory>
     requires set { IsPlaceSet arena.now s }
-    requires known { AreKnown prices.now arena.now known.old }
-    ensures known { OnOk result (AreKnown prices.now arena.now known.new) }
+    requires memo { IsMemoOf prices.now arena.now memo.old }
+    ensures memo { OnOk result (IsMemoOf prices.now arena.now memo.new) }
     ensures best { IfOk result (λ p. IsBest (place_rank prices.now) (PlaceStands arena.now s) p) }
 {
-    if let Some(found) = known.place(s) {
+    if let Some(found) = memo.place(s) {
         return Ok(found);
     }
     arena.keeps_made();
     prices.keep_small();
     let best = least_place(prices, arena.places(s));
-    known.keep_place(s, &best)?;
+    memo.keep_place(s, &best)?;
     Ok(best)
 }
 
@@ -56,19 +52,19 @@ fn source_of(
     alloc: Global,
     prices: &Prices,
     arena: &Arena,
-    known: &mut Known,
+    memo: &mut Memo,
     s: SourceSet,
 ) -> Result<Source, NoMemory>
     requires set { IsSourceSet arena.now s }
-    requires known { AreKnown prices.now arena.now known.old }
-    ensures known { OnOk result (AreKnown prices.now arena.now known.new) }
+    requires memo { IsMemoOf prices.now arena.now memo.old }
+    ensures memo { OnOk result (IsMemoOf prices.now arena.now memo.new) }
     ensures best { IfOk result (λ x. IsBest (source_rank prices.now) (SourceStands arena.now s) (source_tree x)) }
 {
-    if let Some(found) = known.source(s) {
+    if let Some(found) = memo.source(s) {
         return found.copy(alloc);
     }
-    let best = scan_sources(alloc, prices, arena, known, s)?;
-    known.keep_source(s, best.copy(alloc)?)?;
+    let best = scan_sources(alloc, prices, arena, memo, s)?;
+    memo.keep_source(s, best.copy(alloc)?)?;
     Ok(best)
 }
 
@@ -77,12 +73,12 @@ fn scan_sources(
     alloc: Global,
     prices: &Prices,
     arena: &Arena,
-    known: &mut Known,
+    memo: &mut Memo,
     s: SourceSet,
 ) -> Result<Source, NoMemory>
     requires set { IsSourceSet arena.now s }
-    requires known { AreKnown prices.now arena.now known.old }
-    ensures known { OnOk result (AreKnown prices.now arena.now known.new) }
+    requires memo { IsMemoOf prices.now arena.now memo.old }
+    ensures memo { OnOk result (IsMemoOf prices.now arena.now memo.new) }
     ensures best { IfOk result (λ x. IsBest (source_rank prices.now) (SourceStands arena.now s) (source_tree x)) }
 {
     arena.keeps_made();
@@ -90,7 +86,7 @@ fn scan_sources(
     let items = arena.sources(s);
     let mut best: Option<Source> = None;
     for item in items {
-        let next = source_in(alloc, prices, arena, known, s, item)?;
+        let next = source_in(alloc, prices, arena, memo, s, item)?;
         best = lesser_source(prices, best, next);
     }
     let Some(source) = best else { unreachable!() };
@@ -103,18 +99,18 @@ fn source_in(
     alloc: Global,
     prices: &Prices,
     arena: &Arena,
-    known: &mut Known,
+    memo: &mut Memo,
     set: SourceSet,
     item: &SourceItem,
 ) -> Result<Source, NoMemory>
     requires item { IsSourceItem arena.now set item.now }
-    requires known { AreKnown prices.now arena.now known.old }
-    ensures known { OnOk result (AreKnown prices.now arena.now known.new) }
+    requires memo { IsMemoOf prices.now arena.now memo.old }
+    ensures memo { OnOk result (IsMemoOf prices.now arena.now memo.new) }
     ensures best { IfOk result (λ x. IsBest (source_rank prices.now) (λ y. SourceFits y arena.now item.now) (source_tree x)) }
 {
     match item {
         SourceItem::Col(column) => Ok(Source::Col(*column)),
-        SourceItem::Select(listed) => lookup_in(alloc, prices, arena, known, set, listed),
+        SourceItem::Select(listed) => lookup_in(alloc, prices, arena, memo, set, listed),
     }
 }
 
@@ -123,16 +119,16 @@ fn lookup_in(
     alloc: Global,
     prices: &Prices,
     arena: &Arena,
-    known: &mut Known,
+    memo: &mut Memo,
     set: SourceSet,
     item: &SelectItem,
 ) -> Result<Source, NoMemory>
     requires item { IsSelectItem arena.now set item.now }
-    requires known { AreKnown prices.now arena.now known.old }
-    ensures known { OnOk result (AreKnown prices.now arena.now known.new) }
+    requires memo { IsMemoOf prices.now arena.now memo.old }
+    ensures memo { OnOk result (IsMemoOf prices.now arena.now memo.new) }
     ensures best { IfOk result (λ x. IsBest (source_rank prices.now) (λ y. SourceFits y arena.now (SourceItem.Select item.now)) (source_tree x)) }
 {
-    let rows = rows_of(alloc, prices, arena, known, set, item.conditions.as_slice())?;
+    let rows = rows_of(alloc, prices, arena, memo, set, item.conditions.as_slice())?;
     let Rows { any: _any, mixed } = rows;
     let Some(row) = mixed else { unreachable!() };
     let select = Select {
@@ -150,21 +146,21 @@ fn rows_of(
     alloc: Global,
     prices: &Prices,
     arena: &Arena,
-    known: &mut Known,
+    memo: &mut Memo,
     set: SourceSet,
     items: &[ConditionItem],
 ) -> Result<Rows, NoMemory>
     requires items { EachIn (IsConditionItem arena.now set) items.now }
     requires few { length items.now ≤ 3 }
-    requires known { AreKnown prices.now arena.now known.old }
-    ensures known { OnOk result (AreKnown prices.now arena.now known.new) }
+    requires memo { IsMemoOf prices.now arena.now memo.old }
+    ensures memo { OnOk result (IsMemoOf prices.now arena.now memo.new) }
     ensures best { IfOk result (λ rows. AreBestRows prices.now arena.now items.now rows) }
 {
     let mut rows = no_conditions(alloc);
     let mut left = items.len();
     while left > 0 {
         left -= 1;
-        rows = longer_rows(alloc, prices, arena, known, set, &items[left], rows)?;
+        rows = longer_rows(alloc, prices, arena, memo, set, &items[left], rows)?;
     }
     Ok(rows)
 }
@@ -174,15 +170,15 @@ fn longer_rows(
     alloc: Global,
     prices: &Prices,
     arena: &Arena,
-    known: &mut Known,
+    memo: &mut Memo,
     set: SourceSet,
     item: &ConditionItem,
     rows: Rows,
 ) -> Result<Rows, NoMemory>
     requires item { IsConditionItem arena.now set item.now }
     requires rows { (is : Items Listed) × EachIn (IsConditionItem arena.now set) (item.now ∷ is) × (length (item.now ∷ is) ≤ 3) × AreBestRows prices.now arena.now is rows }
-    requires known { AreKnown prices.now arena.now known.old }
-    ensures known { OnOk result (AreKnown prices.now arena.now known.new) }
+    requires memo { IsMemoOf prices.now arena.now memo.old }
+    ensures memo { OnOk result (IsMemoOf prices.now arena.now memo.new) }
     ensures best { IfOk result (λ made. (is : Items Listed) → AreBestRows prices.now arena.now is rows → AreBestRows prices.now arena.now (item.now ∷ is) made) }
 {
     let constant = match &item.constant {
@@ -190,7 +186,7 @@ fn longer_rows(
         None => None,
     };
     let part = match item.atoms {
-        Some(atoms) => part_of(alloc, prices, arena, known, atoms)?,
+        Some(atoms) => part_of(alloc, prices, arena, memo, atoms)?,
         None => None,
     };
     arena.keeps_made();
@@ -213,19 +209,19 @@ fn part_of(
     alloc: Global,
     prices: &Prices,
     arena: &Arena,
-    known: &mut Known,
+    memo: &mut Memo,
     s: AtomSet,
 ) -> Result<Option<Atom>, NoMemory>
     requires set { IsAtomSet arena.now s }
-    requires known { AreKnown prices.now arena.now known.old }
-    ensures known { OnOk result (AreKnown prices.now arena.now known.new) }
+    requires memo { IsMemoOf prices.now arena.now memo.old }
+    ensures memo { OnOk result (IsMemoOf prices.now arena.now memo.new) }
     ensures best { IfOk result (λ o. IsBestOf atom_tree (atom_rank prices.now) (PartStands arena.now s) o) }
 {
-    if let Some(found) = known.part(s) {
+    if let Some(found) = memo.part(s) {
         return copy_of(alloc, found);
     }
-    let best = scan_parts(alloc, prices, arena, known, s)?;
-    known.keep_part(s, copy_of(alloc, &best)?)?;
+    let best = scan_parts(alloc, prices, arena, memo, s)?;
+    memo.keep_part(s, copy_of(alloc, &best)?)?;
     Ok(best)
 }
 
@@ -234,12 +230,12 @@ fn scan_parts(
     alloc: Global,
     prices: &Prices,
     arena: &Arena,
-    known: &mut Known,
+    memo: &mut Memo,
     s: AtomSet,
 ) -> Result<Option<Atom>, NoMemory>
     requires set { IsAtomSet arena.now s }
-    requires known { AreKnown prices.now arena.now known.old }
-    ensures known { OnOk result (AreKnown prices.now arena.now known.new) }
+    requires memo { IsMemoOf prices.now arena.now memo.old }
+    ensures memo { OnOk result (IsMemoOf prices.now arena.now memo.new) }
     ensures best { IfOk result (λ o. IsBestOf atom_tree (atom_rank prices.now) (PartStands arena.now s) o) }
 {
     arena.keeps_made();
@@ -247,7 +243,7 @@ fn scan_parts(
     let items = arena.atoms(s);
     let mut best: Option<Atom> = None;
     for item in items {
-        let next = part_in(alloc, prices, arena, known, s, item)?;
+        let next = part_in(alloc, prices, arena, memo, s, item)?;
         best = lesser_atom(prices, best, next);
     }
     Ok(best)
@@ -259,24 +255,24 @@ fn part_in(
     alloc: Global,
     prices: &Prices,
     arena: &Arena,
-    known: &mut Known,
+    memo: &mut Memo,
     set: AtomSet,
     item: &AtomItem,
 ) -> Result<Option<Atom>, NoMemory>
     requires item { IsAtomItem arena.now set item.now }
-    requires known { AreKnown prices.now arena.now known.old }
-    ensures known { OnOk result (AreKnown prices.now arena.now known.new) }
+    requires memo { IsMemoOf prices.now arena.now memo.old }
+    ensures memo { OnOk result (IsMemoOf prices.now arena.now memo.new) }
     ensures best { IfOk result (λ o. IsBestOf atom_tree (atom_rank prices.now) (λ a. PartFits arena.now item.now a) o) }
 {
     match item {
         AtomItem::Const(_) => Ok(None),
         AtomItem::Whole(sources) => Ok(Some(Atom::Whole(source_of(
-            alloc, prices, arena, known, *sources,
+            alloc, prices, arena, memo, *sources,
         )?))),
         AtomItem::Sub(sources, lefts, rights) => {
-            let source = source_of(alloc, prices, arena, known, *sources)?;
-            let left = place_of(prices, arena, known, *lefts)?;
-            let right = place_of(prices, arena, known, *rights)?;
+            let source = source_of(alloc, prices, arena, memo, *sources)?;
+            let left = place_of(prices, arena, memo, *lefts)?;
+            let right = place_of(prices, arena, memo, *rights)?;
             Ok(Some(Atom::Sub(source, left, right)))
         }
     }
@@ -311,18 +307,18 @@ fn scan_atoms(
     alloc: Global,
     prices: &Prices,
     arena: &Arena,
-    known: &mut Known,
+    memo: &mut Memo,
     s: AtomSet,
 ) -> Result<Atom, NoMemory>
     requires set { IsAtomSet arena.now s }
-    requires known { AreKnown prices.now arena.now known.old }
-    ensures known { OnOk result (AreKnown prices.now arena.now known.new) }
+    requires memo { IsMemoOf prices.now arena.now memo.old }
+    ensures memo { OnOk result (IsMemoOf prices.now arena.now memo.new) }
     ensures best { IfOk result (λ a. IsBest (atom_rank prices.now) (AtomStands arena.now s) (atom_tree a)) }
 {
     arena.keeps_made();
     prices.keep_small();
     let constant = constant_of(prices, arena, s)?;
-    let part = scan_parts(alloc, prices, arena, known, s)?;
+    let part = scan_parts(alloc, prices, arena, memo, s)?;
     let Some(atom) = lesser_atom(prices, constant, part) else {
         unreachable!()
     };
@@ -336,21 +332,21 @@ pub(crate) fn atom_of(
     alloc: Global,
     prices: &Prices,
     arena: &Arena,
-    known: &mut Known,
+    memo: &mut Memo,
     s: AtomSet,
 ) -> Result<Atom, NoMemory>
     requires set { IsAtomSet arena.now s }
-    requires known { AreKnown prices.now arena.now known.old }
-    ensures known { OnOk result (AreKnown prices.now arena.now known.new) }
+    requires memo { IsMemoOf prices.now arena.now memo.old }
+    ensures memo { OnOk result (IsMemoOf prices.now arena.now memo.new) }
     ensures best { IfOk result (λ a. IsBest (atom_rank prices.now) (AtomStands arena.now s) (atom_tree a)) }
 {
     if arena.atoms(s).len() <= FEW_ITEMS {
-        return scan_atoms(alloc, prices, arena, known, s);
+        return scan_atoms(alloc, prices, arena, memo, s);
     }
-    if let Some(found) = known.atom(s) {
+    if let Some(found) = memo.atom(s) {
         return found.copy(alloc);
     }
-    let best = scan_atoms(alloc, prices, arena, known, s)?;
-    known.keep_atom(s, best.copy(alloc)?)?;
+    let best = scan_atoms(alloc, prices, arena, memo, s)?;
+    memo.keep_atom(s, best.copy(alloc)?)?;
     Ok(best)
 }

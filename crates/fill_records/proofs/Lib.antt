@@ -1,4 +1,5 @@
 pub mod Fields
 pub mod Few
+pub mod Firsts
 pub mod Runs
 pub mod Texts

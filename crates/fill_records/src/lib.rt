@@ -7,6 +7,6 @@ mod record;
 mod utf8;
 
 pub use laws::records_are_few;
-pub use reading::read_records;
+pub use reading::{first_records, read_records};
 pub use record::Record;
 pub use utf8::{first_bad, is_text};

@@ -26,14 +26,21 @@ pub fn read_records(alloc: Global, bytes: &[u8], most: usize) -> Result<List<Rec
         match reader.read_byte_record(&mut row) {
             Ok(true) => records.push(Record { row })?,
             Ok(false) => break,
-            Err(error) => return Err(want_of_memory(error)),
+            Err(error) => return Err(out_of_memory(error)),
         }
     }
     Ok(records)
 }
 
+/// The first of the records, no more than `most`.
+pub fn first_records(records: &[Record], most: usize) -> &[Record]
+    ensures { result.now ≡ take most records.now }
+{
+    &records[..records.len().min(most)]
+}
+
 /// What an error of reading bytes in memory tells. They can always be read, so one of their source is memory's too.
-fn want_of_memory(error: Error) -> NoMemory
+fn out_of_memory(error: Error) -> NoMemory
     requires { IsOfMemory (error_kind error) }
 {
     match error.into_kind() {

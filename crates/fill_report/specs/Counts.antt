@@ -28,5 +28,5 @@ abbrev pub CountRows : Ground → List Example → ℕ → Counts → Type 0
 CountRows g examples n c = (states : List RowState) × AreRowStates g examples n states × AreCounts c states
 
 -- what is known of how many rows of the sheet have each state, where these examples are present
-abbrev pub AreKnown : Ground → List Example → Option Counts → Type 0
-AreKnown g examples known = IfSome known (CountRows g examples (length g.sheet.rows))
+abbrev pub IsMemoOf : Ground → List Example → Option Counts → Type 0
+IsMemoOf g examples memo = IfSome memo (CountRows g examples (length g.sheet.rows))

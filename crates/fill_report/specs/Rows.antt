@@ -9,17 +9,17 @@ use Rattle.fill_space.specs.declared.ground.Ground.{Ground}
 use Rattle.fill_session.specs.Answers.{AnswerIs}
 use Rattle.fill_session.specs.declared.answer.Answer.{Answer}
 use Rattle.fill_session.specs.declared.answer.State.{State}
-use Rattle.fill_session.specs.declared.answer.State.TheVariants as known
+use Rattle.fill_session.specs.declared.answer.State.TheVariants as memo
 use Rattle.fill_report.specs.declared.rows.RowState.{RowState}
 use Rattle.fill_report.specs.declared.rows.RowState.TheVariants as state
 
 -- what is told of a row whose answer is known so and has this text
 abbrev pub told_state : State → Option (List ℕ) → RowState
-told_state known.Given text = state.Given
-told_state known.Sure None = state.Nothing
-told_state known.Sure (Some text) = state.Sure
-told_state known.Doubt None = state.NothingInDoubt
-told_state known.Doubt (Some text) = state.Doubt
+told_state memo.Given text = state.Given
+told_state memo.Sure None = state.Nothing
+told_state memo.Sure (Some text) = state.Sure
+told_state memo.Doubt None = state.NothingInDoubt
+told_state memo.Doubt (Some text) = state.Doubt
 
 -- the state of the row of an answer
 abbrev pub row_state : Answer → RowState

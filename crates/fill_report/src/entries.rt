@@ -3,7 +3,7 @@ ghost use Rattle.std.specs.Prelude.{◌≡◌, ◌↔◌, ◌≤◌, IsErrOf, Is
 ghost use Rattle.fill_edge.specs.Outside.{Rose};
 ghost use Rattle.fill_script.specs.Entries.{IsEntry};
 ghost use Rattle.fill_session.specs.Timeline.{timeline};
-ghost use Rattle.fill_report.specs.Counts.{AreKnown};
+ghost use Rattle.fill_report.specs.Counts.{IsMemoOf};
 ghost use Rattle.fill_report.specs.Entries.{EditWrites, EntryBegins, EntryWrites, QueryBegins, QueryWrites, TaskBegins};
 ghost use Rattle.fill_report.specs.Output.{Leaves};
 ghost use Rattle.fill_report.specs.Tasks.{AsksSome, change};
@@ -62,12 +62,12 @@ fn write_query<O: Sink>(
     alloc: Global,
     session: &Session,
     query: Query,
-    known: &mut Option<Counts>,
+    memo: &mut Option<Counts>,
     out: &mut O,
 ) -> Result<bool, Halt>
     requires some { AsksSome query }
-    requires known { AreKnown session.now.spaces.ground session.now.examples known.old }
-    ensures known { AreKnown session.now.spaces.ground session.now.examples known.new }
+    requires memo { IsMemoOf session.now.spaces.ground session.now.examples memo.old }
+    ensures memo { IsMemoOf session.now.spaces.ground session.now.examples memo.new }
     ensures leaves { Leaves (QueryWrites session.now.spaces.ground session.now.examples query)
         (QueryBegins session.now.spaces.ground session.now.examples query) result (O.written out.old) (O.written out.new) 0 0 }
     ensures fault { IsErrOf result Halt.Fault → Rose (O.faults out.old) (O.faults out.new) }
@@ -76,8 +76,8 @@ fn write_query<O: Sink>(
     match query {
         Query::Programs => write_branches(alloc, session.branches(), out),
         Query::Switch => write_made(switch_record(alloc, session), false, out),
-        Query::Fill => write_rows(alloc, session, known, out),
-        Query::Count => write_made(count_record(alloc, session, known), false, out),
+        Query::Fill => write_rows(alloc, session, memo, out),
+        Query::Count => write_made(count_record(alloc, session, memo), false, out),
         Query::Answer { row } => write_answer(alloc, session, row, out),
         Query::Object { row } => write_object(alloc, session, row, out),
         Query::Best { branch, k } => write_best(alloc, session, branch, k, out),
@@ -91,13 +91,13 @@ pub(crate) fn write_entry<O: Sink, L: Ledger>(
     alloc: Global,
     session: &mut Session,
     entry: &Entry,
-    known: &mut Option<Counts>,
+    memo: &mut Option<Counts>,
     out: &mut O,
     steps: &mut Steps<L>,
 ) -> Result<bool, Halt>
     requires proper { IsEntry entry.now }
-    requires known { AreKnown session.old.spaces.ground session.old.examples known.old }
-    ensures known { AreKnown session.new.spaces.ground session.new.examples known.new }
+    requires memo { IsMemoOf session.old.spaces.ground session.old.examples memo.old }
+    ensures memo { IsMemoOf session.new.spaces.ground session.new.examples memo.new }
     ensures ground { session.new.spaces.ground ≡ session.old.spaces.ground }
     ensures leaves { Leaves (λ w. EntryWrites session.old.spaces.ground (timeline session.old) entry.now w (timeline session.new))
         (EntryBegins session.old.spaces.ground (timeline session.old) entry.now) result (O.written out.old) (O.written out.new) steps.old steps.new }
@@ -106,13 +106,13 @@ pub(crate) fn write_entry<O: Sink, L: Ledger>(
 {
     match task_of(entry) {
         Task::Change(edit) => {
-            *known = None;
+            *memo = None;
             write_edit(alloc, session, edit, out, steps)
         }
         Task::Go(way) => {
-            *known = None;
+            *memo = None;
             write_move(alloc, session, way, out)
         }
-        Task::Ask(query) => write_query(alloc, session, query, known, out),
+        Task::Ask(query) => write_query(alloc, session, query, memo, out),
     }
 }

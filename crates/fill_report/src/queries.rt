@@ -3,7 +3,7 @@ ghost use Rattle.std.specs.Prelude.{◌≡◌, ◌≤◌, length, IfOk, IsErrOf,
 ghost use Rattle.fill_edge.specs.Outside.{Rose};
 ghost use Rattle.fill_tree.specs.Switch.{switch_tree};
 ghost use Rattle.fill_session.specs.Outcome.{is_row};
-ghost use Rattle.fill_report.specs.Counts.{AreKnown};
+ghost use Rattle.fill_report.specs.Counts.{IsMemoOf};
 ghost use Rattle.fill_report.specs.Entries.{FillBegins, IsSwitchRecord, QueryBegins, QueryWrites};
 ghost use Rattle.fill_report.specs.Output.{Leaves};
 ghost use Rattle.fill_report.specs.Records.{guard_field, no_row_record, shown_record, shown_records, switch_field};
@@ -109,11 +109,11 @@ pub(crate) fn switch_record(alloc: Global, session: &Session) -> Result<Record, 
 pub(crate) fn write_rows<O: Sink>(
     alloc: Global,
     session: &Session,
-    known: &mut Option<Counts>,
+    memo: &mut Option<Counts>,
     out: &mut O,
 ) -> Result<bool, Halt>
-    requires { AreKnown session.now.spaces.ground session.now.examples known.old }
-    ensures known { AreKnown session.now.spaces.ground session.now.examples known.new }
+    requires { IsMemoOf session.now.spaces.ground session.now.examples memo.old }
+    ensures memo { IsMemoOf session.now.spaces.ground session.now.examples memo.new }
     ensures leaves { Leaves (QueryWrites session.now.spaces.ground session.now.examples query.Fill) (FillBegins session.now.spaces.ground session.now.examples)
         result (O.written out.old) (O.written out.new) 0 0 }
     ensures fault { IsErrOf result Halt.Fault → Rose (O.faults out.old) (O.faults out.new) }
@@ -132,7 +132,7 @@ pub(crate) fn write_rows<O: Sink>(
             Err(halt) => return Err(halt),
         }
     }
-    *known = Some(counts);
+    *memo = Some(counts);
     Ok(false)
 }
 

@@ -86,10 +86,10 @@ fn write_entries<O: Sink, L: Ledger>(
     ensures fault { IsErrOf result Halt.Fault → Rose (O.faults out.old) (O.faults out.new) }
     ensures later { O.faults out.old ≤ O.faults out.new }
 {
-    let mut known = None;
+    let mut memo = None;
     let mut refused = false;
     for entry in entries {
-        match write_entry(alloc, session, entry, &mut known, out, steps) {
+        match write_entry(alloc, session, entry, &mut memo, out, steps) {
             Ok(one) => refused = refused || one,
             Err(halt) => return Err(halt),
         }

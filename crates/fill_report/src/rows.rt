@@ -2,7 +2,7 @@
 ghost use Rattle.std.specs.Prelude.{◌≡◌, ◌≤◌, ◌<◌, ◌+◌, ◌++◌, ◌∷◌, [], List, length, IfOk, OnOk};
 ghost use Rattle.fill_doubt.specs.Shapes.{ShapesStand};
 ghost use Rattle.fill_session.specs.Answers.{AnswerIs};
-ghost use Rattle.fill_report.specs.Counts.{AreCounts, AreKnown, CountRows, IsWithin};
+ghost use Rattle.fill_report.specs.Counts.{AreCounts, IsMemoOf, CountRows, IsWithin};
 ghost use Rattle.fill_report.specs.Entries.{IsCountRecord};
 ghost use Rattle.fill_report.specs.Rows.{IsRowRecord, row_record, row_state, state_name};
 ghost use Rattle.fill_report.specs.declared.rows.RowState.{RowState};
@@ -168,20 +168,20 @@ fn count_states(alloc: Global, session: &Session) -> Result<Counts, NoMemory>
 }
 
 /// How many rows of the sheet have each state, which are counted unless that is known.
-fn known_counts(
+fn row_counts(
     alloc: Global,
     session: &Session,
-    known: &mut Option<Counts>,
+    memo: &mut Option<Counts>,
 ) -> Result<Counts, NoMemory>
-    requires { AreKnown session.now.spaces.ground session.now.examples known.old }
-    ensures known { AreKnown session.now.spaces.ground session.now.examples known.new }
+    requires { IsMemoOf session.now.spaces.ground session.now.examples memo.old }
+    ensures memo { IsMemoOf session.now.spaces.ground session.now.examples memo.new }
     ensures counts { IfOk result (CountRows session.now.spaces.ground session.now.examples (length session.now.spaces.ground.sheet.rows)) }
 {
-    if let Some(counts) = *known {
+    if let Some(counts) = *memo {
         return Ok(counts);
     }
     let counts = count_states(alloc, session)?;
-    *known = Some(counts);
+    *memo = Some(counts);
     Ok(counts)
 }
 
@@ -189,13 +189,13 @@ fn known_counts(
 pub(crate) fn count_record(
     alloc: Global,
     session: &Session,
-    known: &mut Option<Counts>,
+    memo: &mut Option<Counts>,
 ) -> Result<Record, NoMemory>
-    requires { AreKnown session.now.spaces.ground session.now.examples known.old }
-    ensures known { AreKnown session.now.spaces.ground session.now.examples known.new }
+    requires { IsMemoOf session.now.spaces.ground session.now.examples memo.old }
+    ensures memo { IsMemoOf session.now.spaces.ground session.now.examples memo.new }
     ensures made { IfOk result (IsCountRecord session.now.spaces.ground session.now.examples) }
 {
-    let counts = known_counts(alloc, session, known)?;
+    let counts = row_counts(alloc, session, memo)?;
     Record::of(alloc, b"count")?
         .with_number(counts.given)?
         .with_number(counts.sure)?

@@ -1,8 +1,7 @@
 -- One line after another.
-use Rattle.std.proofs.Common.{◌≡◌, ℕ, ◌<◌, ◌≤◌, min, List, ◌++◌, length, take, Ok, Err, Result, true, false, leb, nat_lt, refl, arith}
-use Rattle.std.proofs.lemmas.Bool.{leb-true, leb-false}
+use Rattle.std.proofs.Common.{◌≡◌, ℕ, ◌<◌, List, ◌++◌, length, take, Ok, Err, Result, nat_lt, refl, arith}
 use Rattle.std.proofs.lemmas.Bool.Decides.{nat_tests}
-use Rattle.std.proofs.lemmas.List.{take_all, take-take, length-take}
+use Rattle.std.proofs.lemmas.List.{take-take, length-take}
 use Rattle.fill_script.specs.Script.{script_of}
 use Rattle.fill_script.specs.declared.error.ScriptError.{ScriptError}
 use Rattle.fill_script.specs.declared.script.Entry.{Entry}
@@ -11,20 +10,6 @@ use Rattle.fill_script.specs.declared.script.Entry.{Entry}
 abbrev pub after_entries : List Entry → Result (List Entry) ScriptError → Result (List Entry) ScriptError
 after_entries done (Err e) = Err e
 after_entries done (Ok rest) = Ok (done ++ rest)
-
--- the first items, by how many there are
-pub take-min : {A : Type 0} (xs : List A) (most : ℕ) → take (min (length xs) most) xs ≡ take most xs
-take-min xs most = elim (leb most (length xs)) as (λ b. leb most (length xs) ≡ b → take (min (length xs) most) xs ≡ take most xs) [
-  | true ↦ λ is.
-      let le = leb-true most (length xs) is in
-      let all : min (length xs) most ≡ most = omega arith in
-      rw all refl
-  | false ↦ λ is.
-      let lt = leb-false most (length xs) is in
-      let le : length xs ≤ most = omega arith in
-      let same : length xs ≤ min (length xs) most = omega arith in
-      rw (take_all (min (length xs) most) xs same, take_all most xs le) refl
-] refl
 
 same_test : (a b n : ℕ) → (n < a → n < b) → (n < b → n < a) → nat_lt n a ≡ nat_lt n b
 same_test a b n there back = grind (arith, nat_tests)

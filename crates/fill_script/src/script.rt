@@ -1,5 +1,5 @@
 //! Scripts.
-ghost use Rattle.std.specs.Prelude.{◌≡◌, ◌≢◌, ◌≤◌, length, position, take, Ok, Err, IfOk, IfErr};
+ghost use Rattle.std.specs.Prelude.{◌≡◌, ◌≢◌, ◌≤◌, length, position, Ok, Err, IfOk, IfErr};
 ghost use Rattle.fill_script.specs.Line.{is_begin};
 ghost use Rattle.fill_script.specs.Script.{IsScript, read_script, script_in, script_of, profile_of};
 
@@ -7,7 +7,7 @@ use crate::ScriptError;
 use crate::entries::entries_of;
 use crate::line::is_begin;
 use crate::opening::Opening;
-use fill_records::{Record, read_records};
+use fill_records::{Record, first_records, read_records};
 use fill_text::{List, Name};
 use fill_tree::{Constants, Edit, Profile, Settings};
 use std::alloc::Global;
@@ -98,7 +98,7 @@ impl Script {
         ensures ok { IfOk result (λ script. script_of records.now ≡ Ok script) }
         ensures err { IfErr result (λ e. e ≢ ScriptError.NoMemory → script_of records.now ≡ Err e) }
     {
-        let lines = first_lines(records);
+        let lines = first_records(records, MOST_LINES);
         Script::of_lines(alloc, lines, records.len() > MOST_LINES)
     }
 
@@ -161,13 +161,6 @@ fn profile_of(number: u8) -> Profile
     } else {
         Profile::FIRST
     }
-}
-
-/// The records that can be a session's lines.
-fn first_lines(records: &[Record]) -> &[Record]
-    ensures { result.now ≡ take 1000 records.now }
-{
-    &records[..records.len().min(MOST_LINES)]
 }
 
 /// The place of the line `begin`.

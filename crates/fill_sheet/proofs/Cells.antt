@@ -1,27 +1,15 @@
 -- Pieces of lists: the records of the rows, and the cell of a row and a column.
 use Rattle.std.proofs.Common.{◌≡◌, ℕ, zero, suc, ◌+◌, ◌-◌, ◌<◌, ◌≤◌, ◌==◌, min, List, length, take, drop, Some, IsSome, Contains, slice_get, position, get_or, leb, true, false, refl, sym, ◌∙◌, arith}
-use Rattle.std.proofs.lemmas.List.{drop-take, take_all, drop_all, length-take}
+use Rattle.std.proofs.lemmas.List.{drop-take, drop_all, length-take}
 use Rattle.std.proofs.lemmas.Bool.{leb-true, leb-false, lt-ltb}
 use Rattle.std.proofs.lemmas.Bool.Decides.{nat_tests}
 use Rattle.std.proofs.lemmas.List.Quantifiers.{position-Some}
 use Rattle.std.proofs.lemmas.List.Sums.{fails_before_first}
 use Rattle.std.proofs.lemmas.Option.{slice_get_read}
+use Rattle.fill_records.proofs.Firsts.{take-min}
 use Rattle.fill_sheet.specs.Sheet.{IsSheet}
 use Rattle.std.specs.List.{position_or_len}
 use Rattle.fill_text.specs.Data.{RowData, SheetData, nth, cell_at}
-
-take-min : {A : Type 0} (xs : List A) (most : ℕ) → take (min (length xs) most) xs ≡ take most xs
-take-min xs most = elim (leb most (length xs)) as (λ b. leb most (length xs) ≡ b → take (min (length xs) most) xs ≡ take most xs) [
-  | true ↦ λ is.
-      let le = leb-true most (length xs) is in
-      let all : min (length xs) most ≡ most = omega arith in
-      rw all refl
-  | false ↦ λ is.
-      let lt = leb-false most (length xs) is in
-      let le : length xs ≤ most = omega arith in
-      let same : length xs ≤ min (length xs) most = omega arith in
-      rw (take_all (min (length xs) most) xs same, take_all most xs le) refl
-] refl
 
 drop-min : {A : Type 0} (xs : List A) (most : ℕ) → drop (min (length xs) most) xs ≡ drop most xs
 drop-min xs most = elim (leb most (length xs)) as (λ b. leb most (length xs) ≡ b → drop (min (length xs) most) xs ≡ drop most xs) [

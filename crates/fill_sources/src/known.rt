@@ -1,22 +1,22 @@
 //! The texts that are known on a row.
-ghost use Rattle.std.specs.Prelude.{◌≡◌, ◌<◌, ◌≤◌, ℕ, List, length, Some, slice_get, IfOk, OnOk};
+ghost use Rattle.std.specs.Prelude.{◌≡◌, ◌<◌, List as Listed, length, Some, slice_get, IfOk, OnOk};
 ghost use Rattle.fill_arena.specs.Contents.{Extends};
 ghost use Rattle.fill_arena.specs.declared.entry.Entry.{Entry};
-ghost use Rattle.fill_sources.specs.Gives.{ArePlacesAt, AreSourcesOf, IsOnRow};
+ghost use Rattle.fill_sources.specs.Gives.{IsOnRow};
 ghost use Rattle.fill_sources.specs.Found.{AreFound, AreRecalled, PlacesStand};
 ghost use Rattle.fill_sources.specs.Origins.{texts_in};
+ghost use Rattle.fill_sources.specs.Readers.{AddsAtoms, IsReadable, ReadsSpot};
 ghost use Rattle.fill_sources.specs.Sets.{AreKnown, texts_of};
 
 use crate::found::find_texts;
 use crate::memo::{Memo, TextPlaces};
 use crate::memory::PlaceMemory;
-use crate::places::places_at;
+use crate::parts::put_readers;
 use crate::row::{Look, OnRow};
-use crate::sources::sources_at;
 use crate::spots::Spot;
 use crate::texts::Texts;
-use fill_arena::{Arena, PlaceSet, SourceSet};
-use fill_text::{NoMemory, Text};
+use fill_arena::{Arena, AtomItem};
+use fill_text::{List, NoMemory, Text};
 use fill_tokens::TokenSet;
 use std::alloc::Global;
 
@@ -27,7 +27,7 @@ fn recall_places(
     token_set: TokenSet,
     memory: &PlaceMemory,
 ) -> Result<Vec<TextPlaces>, NoMemory>
-    ensures { IfOk result (λ places. (c : List Entry) → PlacesStand c memory.now → AreRecalled token_set c (texts_in texts.now) places.items) }
+    ensures { IfOk result (λ places. (c : Listed Entry) → PlacesStand c memory.now → AreRecalled token_set c (texts_in texts.now) places.items) }
 {
     let named = texts.named.as_slice();
     let mut places = Vec::with_capacity(alloc, named.len())?;
@@ -49,7 +49,7 @@ fn keep_text(
     places: &TextPlaces,
     memory: &mut PlaceMemory,
 )
-    ensures { (c : List Entry) → AreFound token_set c text.now places.now.found.items → PlacesStand c memory.old → PlacesStand c memory.new }
+    ensures { (c : Listed Entry) → AreFound token_set c text.now places.now.found.items → PlacesStand c memory.old → PlacesStand c memory.new }
 {
     if places.is_new {
         memory.keep(alloc, text, token_set, places.found.as_slice());
@@ -67,7 +67,7 @@ impl<'a> Known<'a> {
     /// Finds the texts, and what earlier rows found of them. It makes no set.
     pub fn new(alloc: Global, on: &OnRow<'a>, memory: &PlaceMemory) -> Result<Known<'a>, NoMemory>
         requires { IsOnRow on.now }
-        ensures { IfOk result (λ known. (c : List Entry) → PlacesStand c memory.now → AreKnown on.now c known) }
+        ensures { IfOk result (λ known. (c : Listed Entry) → PlacesStand c memory.now → AreKnown on.now c known) }
     {
         let texts = find_texts(alloc, on)?;
         let places = recall_places(alloc, &texts, on.settings.profile.tokens, memory)?;
@@ -79,7 +79,7 @@ impl<'a> Known<'a> {
 
     /// Keeps the sets of places that were made for this row.
     pub fn keep_places(&self, alloc: Global, on: &OnRow<'a>, memory: &mut PlaceMemory)
-        ensures { (c : List Entry) → AreKnown on.now c self.now → PlacesStand c memory.old → PlacesStand c memory.new }
+        ensures { (c : Listed Entry) → AreKnown on.now c self.now → PlacesStand c memory.old → PlacesStand c memory.new }
     {
         let named = self.texts.named.as_slice();
         let places = self.memo.places.as_slice();
@@ -109,18 +109,21 @@ impl<'a> Known<'a> {
         self.texts.named[k].text
     }
 
-    /// The set of the sources that give the text of this number.
-    pub fn sources(
+    /// Puts the items of exactly the atoms that read this many characters at the spot: whole texts of sources, and pieces of
+    /// them between places.
+    pub fn put_readers(
         &mut self,
         alloc: Global,
         on: &OnRow<'a>,
         arena: &mut Arena,
-        k: usize,
-    ) -> Result<SourceSet, NoMemory>
+        spot: Spot,
+        width: usize,
+        items: &mut List<AtomItem>,
+    ) -> Result<(), NoMemory>
         requires on { IsOnRow on.now }
         requires known { AreKnown on.now arena.old self.old }
-        requires within { k < length (texts_of self.old) }
-        ensures ok { IfOk result (λ s. (v : List ℕ) → slice_get (texts_of self.new) k ≡ Some v → AreSourcesOf on.now arena.new v s) }
+        requires within { IsReadable (texts_of self.old) spot width }
+        ensures adds { OnOk result (AddsAtoms arena.new items.old items.new (ReadsSpot on.now (texts_of self.old) spot width)) }
         ensures known { OnOk result (AreKnown on.now arena.new self.new) }
         ensures texts { texts_of self.new ≡ texts_of self.old }
         ensures kept { Extends arena.old arena.new }
@@ -130,35 +133,14 @@ impl<'a> Known<'a> {
             on,
             texts: &self.texts,
         };
-        match sources_at(&look, &mut self.memo, arena, on.settings.depth, k) {
-            Ok(Some(made)) => Ok(made),
-            Ok(None) => unreachable!(),
-            Err(e) => Err(e),
-        }
-    }
-
-    /// The set of the places whose value in that text is `at`; none where no place has it.
-    pub fn places(
-        &mut self,
-        alloc: Global,
-        on: &OnRow<'a>,
-        arena: &mut Arena,
-        k: usize,
-        at: usize,
-    ) -> Result<Option<PlaceSet>, NoMemory>
-        requires on { IsOnRow on.now }
-        requires known { AreKnown on.now arena.old self.old }
-        requires within { (v : List ℕ) × (slice_get (texts_of self.old) k ≡ Some v) × (at ≤ length v) }
-        ensures ok { IfOk result (λ made. (v : List ℕ) → slice_get (texts_of self.new) k ≡ Some v → ArePlacesAt on.now arena.new v at made) }
-        ensures known { OnOk result (AreKnown on.now arena.new self.new) }
-        ensures texts { texts_of self.new ≡ texts_of self.old }
-        ensures kept { Extends arena.old arena.new }
-    {
-        let look = Look {
-            alloc,
-            on,
-            texts: &self.texts,
-        };
-        places_at(&look, &mut self.memo, arena, Spot { text: k, at })
+        put_readers(
+            &look,
+            &mut self.memo,
+            arena,
+            on.settings.depth,
+            spot,
+            width,
+            items,
+        )
     }
 }

@@ -22,3 +22,4 @@ mod texts;
 pub use known::Known;
 pub use memory::PlaceMemory;
 pub use row::OnRow;
+pub use spots::Spot;

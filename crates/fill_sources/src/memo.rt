@@ -70,7 +70,7 @@ fn make_room(
     Ok(())
 }
 
-/// So many positions of which nothing was found.
+/// This many positions of which nothing was found.
 #[tactic(auto, using(crate::proofs::Finding::each_same))]
 fn blanks(alloc: Global, count: usize) -> Result<Vec<Found>, NoMemory>
     ensures { IfOk result (λ made. EachIn (λ f. f ≡ NotYet) made.items) }

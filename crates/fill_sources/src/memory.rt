@@ -101,7 +101,7 @@ impl PlaceMemory {
         self.make_room(alloc, text.len());
         match put_kept(alloc, &mut self.texts, text, token_set, found) {
             Ok(()) => {}
-            Err(NoMemory) => self.texts = BTreeMap::new(alloc),
+            Err(NoMemory) => *self = PlaceMemory::new(alloc),
         }
     }
 

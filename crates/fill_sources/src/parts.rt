@@ -72,7 +72,7 @@ fn put_between(
 
 /// Puts what reads this many characters at the spot.
 #[cycle(sources)]
-fn put_readers<'a>(
+pub(crate) fn put_readers<'a>(
     look: &Look<'_, 'a>,
     memo: &mut Memo<'a>,
     arena: &mut Arena,

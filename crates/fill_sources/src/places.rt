@@ -1,8 +1,7 @@
 //! The places of the positions of known texts.
-ghost use Rattle.std.specs.Prelude.{◌≡◌, ℕ, List as Listed, All, AllPairs, Some, slice_get, IfOk, OnOk};
+ghost use Rattle.std.specs.Prelude.{◌≡◌, ℕ, List as Listed, AllPairs, Some, slice_get, IfOk, OnOk};
 ghost use Rattle.std.specs.declared.cmp.Ordering.TheVariants.{Less};
 ghost use Rattle.fill_tokens.specs.Place.{place_cmp};
-ghost use Rattle.fill_tokens.specs.PlaceGrammar.{IsPlace};
 ghost use Rattle.fill_tokens.specs.TokenSet.{IsPlaceOf};
 ghost use Rattle.fill_tokens.specs.Value.{HasValue};
 ghost use Rattle.fill_text.specs.Lists.{Lists};
@@ -44,7 +43,6 @@ fn list_places(look: &Look<'_, '_>, memo: &mut Memo<'_>, h: Spot) -> Result<List
 /// The set of these places; none where there is none.
 fn place_set(arena: &mut Arena, places: &[Place]) -> Result<Option<PlaceSet>, NoMemory>
     requires rising { AllPairs (λ p q. place_cmp p q ≡ Less) places.now }
-    requires grammar { All IsPlace places.now }
     ensures made { IfOk result (λ made. (on : Row) (v : Listed ℕ) (k : ℕ) → Lists place_cmp (λ p. IsPlaceOf on.settings.profile.tokens p × HasValue p v k) places.now →
         Lasts arena.new (λ d. ArePlacesAt on d v k made)) }
     ensures kept { Extends arena.old arena.new }

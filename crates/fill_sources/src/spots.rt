@@ -11,10 +11,10 @@ use std::alloc::Global;
 
 /// A position of a known text.
 #[derive(Clone, Copy)]
-pub(crate) struct Spot {
+pub struct Spot {
     /// The number of the text.
-    pub(crate) text: usize,
-    pub(crate) at: usize,
+    pub text: usize,
+    pub at: usize,
 }
 
 /// Puts the spots of the text of a number at which the characters stand.

@@ -28,7 +28,10 @@ placed_once_in m b rule items n o p q = placed_once rule (m.fits b) (m.weight b)
 module _ {I : Type 0} (fits fits' : List I → Type 0) (weight weight' : List I → ℕ → Type 0) (f : (l : List I) → fits l ↔ fits' l) (w : (l : List I) (n : ℕ) → weight l n ↔ weight' l n) where
   prefers_alike : (rule : Placing) (bs : List (List I)) (x : I) (k : ℕ) (b : List I) → Prefers rule fits weight bs x k b → Prefers rule fits' weight' bs x k b
   prefers_alike First bs x k b p = λ j c l h t. p j c l h ((f (c ++ x ∷ [])).1 t)
-  prefers_alike Lightest bs x k b p = (p.0, (w (b ++ x ∷ []) p.0).0 p.1, λ j c v h t g. p.2 j c v h ((f (c ++ x ∷ [])).1 t) ((w (c ++ x ∷ []) v).1 g))
+  prefers_alike Lightest bs x k b p =
+      λ j c ne h t.
+      let q = p j c ne h ((f (c ++ x ∷ [])).1 t) in
+      (q.0, q.1, (w (b ++ x ∷ []) q.0).0 q.2, (w (c ++ x ∷ []) q.1).0 q.3, λ u g. q.4 u ((w (c ++ x ∷ []) u).1 g))
 
   goes_alike : (rule : Placing) (bs : List (List I)) (x : I) (k : ℕ) (b : List I) → GoesTo rule fits weight bs x k b → GoesTo rule fits' weight' bs x k b
   goes_alike rule bs x k b g = record { here = g.here; fitting = (f (b ++ x ∷ [])).0 g.fitting; preferred = prefers_alike rule bs x k b g.preferred }

@@ -1,7 +1,7 @@
 -- placing gives one list of branches, and no item before the last one placed opened a ninth
 use Rattle.std.proofs.Common.{◌≡◌, ℕ, zero, suc, ◌<◌, ◌≤◌, ◌++◌, ⊎_elim, List, [], ◌∷◌, length, set, take, Some, refl, sym, ap, ◌∙◌, subst, arith, length-set}
 use Rattle.std.specs.Prelude.{slice_get}
-use Rattle.std.proofs.lemmas.Bool.{cases_lt}
+use Rattle.std.proofs.lemmas.Bool.{cases_lt, cases_eq}
 use Rattle.std.proofs.lemmas.List.{length_push}
 use Rattle.fill_split.specs.declared.rule.Placing.{Placing}
 use Rattle.fill_split.specs.declared.rule.Placing.TheVariants.{First, Lightest}
@@ -13,14 +13,19 @@ prefers_once : {I : Type 0} (rule : Placing) (fits : List I → Type 0) (weight 
 prefers_once First fits weight bs x k n b c hb hc fb fc p q =
     ⊎_elim (λ l. absurd (q k b l hb fb)) (λ l. ⊎_elim (λ m. absurd (p n c m hc fc)) (λ m. omega arith) (cases_lt n k)) (cases_lt k n)
 prefers_once Lightest fits weight bs x k n b c hb hc fb fc p q =
-    let less = p.2 n c q.0 hc fc q.1 in
-    let more = q.2 k b p.0 hb fb p.1 in
-    let less_now = less.0 in
-    let more_now = more.0 in
     ⊎_elim
-    (λ l. let e = more.1 l in absurd (omega arith))
-    (λ l. ⊎_elim (λ m. let e = less.1 m in absurd (omega arith)) (λ m. omega arith) (cases_lt n k))
-    (cases_lt k n)
+    (λ same. same)
+    (λ other.
+    let less = p n c (λ e. other (sym e)) hc fc in
+    let more = q k b other hb fb in
+    let no_more = less.4 more.0 more.2 in
+    let no_less = more.4 less.0 less.2 in
+    let a = no_more.0 in
+    ⊎_elim
+    (λ l. let e = no_less.1 l in absurd (omega arith))
+    (λ l. let e : n < k = omega (arith, l, other) in let r = no_more.1 e in let d = no_less.0 in absurd (omega arith))
+    (cases_lt k n))
+    (cases_eq k n)
 
 module _ {I : Type 0} (rule : Placing) (fits : List I → Type 0) (weight : List I → ℕ → Type 0) where
   follows_once : (bs : List (List I)) (x : I) (n m : List (List I)) → Follows rule fits weight bs x n → Follows rule fits weight bs x m → n ≡ m

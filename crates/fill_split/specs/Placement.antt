@@ -1,13 +1,14 @@
 -- the branches of a list of items under a rule
-use Rattle.std.specs.Prelude.{◌≡◌, ℕ, ◌<◌, ◌≤◌, ◌⊎◌, List, [], ◌∷◌, ◌++◌, Some, slice_get, slice_set, length}
+use Rattle.std.specs.Prelude.{◌≡◌, ◌≢◌, ℕ, ◌<◌, ◌≤◌, ◌⊎◌, List, [], ◌∷◌, ◌++◌, Some, slice_get, slice_set, length}
 use Rattle.fill_split.specs.declared.rule.Placing.{Placing}
 use Rattle.fill_split.specs.declared.rule.Placing.TheVariants.{First, Lightest}
 
--- of the branches that fit together with the item, the rule takes b at place k: the first of them, or of those whose weight together with the item is least the first
+-- of the branches that fit together with the item, the rule takes b at place k: the first of them, or of those whose weight together with the item is least the first. Where no other one fits, nothing is said of weights
 abbrev pub Prefers : {I : Type 0} → Placing → (List I → Type 0) → (List I → ℕ → Type 0) → List (List I) → I → ℕ → List I → Type 0
 Prefers {I} First fits weight bs x k b = (j : ℕ) (c : List I) → j < k → slice_get bs j ≡ Some c → fits (c ++ x ∷ []) → ⊥
 Prefers {I} Lightest fits weight bs x k b =
-    (w : ℕ) × weight (b ++ x ∷ []) w × ((j : ℕ) (c : List I) (v : ℕ) → slice_get bs j ≡ Some c → fits (c ++ x ∷ []) → weight (c ++ x ∷ []) v → (w ≤ v) × (j < k → w < v))
+    (j : ℕ) (c : List I) → j ≢ k → slice_get bs j ≡ Some c → fits (c ++ x ∷ []) →
+    (w : ℕ) × (v : ℕ) × weight (b ++ x ∷ []) w × weight (c ++ x ∷ []) v × ((u : ℕ) → weight (c ++ x ∷ []) u → (w ≤ u) × (j < k → w < u))
 
 -- the item goes to the branch b at place k
 pub record GoesTo {I : Type 0} (rule : Placing) (fits : List I → Type 0) (weight : List I → ℕ → Type 0) (bs : List (List I)) (x : I) (k : ℕ) (b : List I) : Type 0 where
@@ -40,8 +41,3 @@ pub record OpensNinth {I : Type 0} (rule : Placing) (fits : List I → Type 0) (
   pub placed : Placed rule fits weight items branches
   pub eight : length branches ≡ 8
   pub none : NoneFits fits branches x
-
--- what a list weighs under the rule: nothing where the first branch is taken
-abbrev pub Loads : {I : Type 0} → Placing → (List I → ℕ → Type 0) → List I → ℕ → Type 0
-Loads First weight l n = n ≡ 0
-Loads Lightest weight l n = weight l n

@@ -1,11 +1,10 @@
 //! The branch that an item goes to.
-ghost use Rattle.std.specs.Prelude.{◌≡◌, ◌⊎◌, ◌+◌, ◌<◌, ◌≤◌, List as Listed, [], ◌∷◌, Some, length, IfOk, IfSome, IsTrue, MatchOption};
+ghost use Rattle.std.specs.Prelude.{◌≡◌, ◌+◌, ◌<◌, ◌≤◌, List as Listed, [], ◌∷◌, length, IfOk, IfSome, MatchOption};
 ghost use Rattle.fill_split.specs.Keeping.{Keeps, KeepsMarks};
-ghost use Rattle.fill_split.specs.Placement.{NoneFits, Loads};
+ghost use Rattle.fill_split.specs.Placement.{NoneFits};
 ghost use Rattle.fill_split.specs.Standing.{KeptStand};
-ghost use Rattle.fill_split.specs.Choices.{IsChosen};
+ghost use Rattle.fill_split.specs.Choices.{IsChosen, IsLighter, Weighs};
 ghost use Rattle.fill_split.specs.declared.folds.Fold.{Fold};
-ghost use Rattle.fill_split.specs.declared.find.Choice.{Choice};
 
 use crate::folds::Fold;
 use crate::maker::Maker;
@@ -13,49 +12,66 @@ use crate::rule::Placing;
 use fill_edge::{Ledger, Steps};
 use fill_text::NoMemory;
 
-/// A branch that fits together with an item: what stands for both, and what they weigh under the rule.
+/// A branch that fits together with an item: what stands for both, and what they weigh, once that was asked.
 #[derive(Clone, Copy)]
 pub struct Choice<K: Copy> {
     pub branch: usize,
     pub kept: K,
-    pub load: u64,
+    pub weight: Option<u64>,
 }
 
-/// What the items that the value stands for weigh under the rule.
-fn load<M: Maker>(maker: &mut M, rule: Placing, kept: M::Kept) -> Result<u64, NoMemory>
-    requires { (l : Listed M.Item) × M.stands maker.old kept l }
+/// What the items that a choice is for weigh.
+fn weighed<M: Maker>(maker: &mut M, choice: Choice<M::Kept>) -> Result<u64, NoMemory>
+    requires { (l : Listed M.Item) × M.stands maker.old choice.kept l }
     ensures same { maker.new ≡ maker.old }
-    ensures load { IfOk result (λ n. (l : Listed M.Item) → M.stands maker.old kept l → Loads rule (M.weight (M.base maker.old)) l n) }
+    ensures weight { IfOk result (λ w. Weighs (M.stands maker.old) (M.weight (M.base maker.old)) choice w) }
 {
-    match rule {
-        Placing::First => Ok(0),
-        Placing::Lightest => maker.weight(kept),
+    match choice.weight {
+        Some(weight) => Ok(weight),
+        None => maker.weight(choice.kept),
     }
 }
 
-/// The lighter choice, or the best so far where they weigh the same.
-fn lighter<K: Copy>(best: Option<Choice<K>>, next: Choice<K>) -> Choice<K>
-    ensures { MatchOption best (result ≡ next)
-        (λ b. ((b.load ≤ next.load) × (result ≡ b)) ⊎ ((next.load < b.load) × (result ≡ next))) }
+/// The lighter of the best choice so far and the next one, and the best so far where they weigh the same. Where there is none
+/// so far, it is the next one, and no weight is asked.
+fn lighter<M: Maker>(
+    maker: &mut M,
+    best: Option<Choice<M::Kept>>,
+    next: Choice<M::Kept>,
+) -> Result<Choice<M::Kept>, NoMemory>
+    requires best { IfSome best (λ c. (l : Listed M.Item) × M.stands maker.old c.kept l) }
+    requires next { (l : Listed M.Item) × M.stands maker.old next.kept l }
+    ensures same { maker.new ≡ maker.old }
+    ensures lighter { IfOk result (λ after. MatchOption best (after ≡ next)
+        (λ b. IsLighter (M.stands maker.old) (M.weight (M.base maker.old)) b next after)) }
 {
-    match best {
-        Some(best) => { if best.load <= next.load { best } else { next } }
-        None => next,
+    let best = match best {
+        Some(best) => best,
+        None => return Ok(next),
+    };
+    let least = match weighed(maker, best) {
+        Ok(least) => least,
+        Err(want) => return Err(want),
+    };
+    let weight = match weighed(maker, next) {
+        Ok(weight) => weight,
+        Err(want) => return Err(want),
+    };
+    if weight < least {
+        Ok(Choice {
+            weight: Some(weight),
+            ..next
+        })
+    } else {
+        Ok(Choice {
+            weight: Some(least),
+            ..best
+        })
     }
 }
 
-/// Whether no choice can be lighter.
-fn is_settled<K: Copy>(best: Option<Choice<K>>) -> bool
-    ensures { IsTrue result → ((b : Choice K) × (best ≡ Some b) × (b.load ≡ 0)) }
-{
-    match best {
-        Some(best) => best.load == 0,
-        None => false,
-    }
-}
-
-/// The branch that one more item goes to under the rule, and what stands for both. The search ends at a choice that weighs
-/// nothing.
+/// The branch that one more item goes to under the rule, and what stands for both. A weight is asked only once a second
+/// branch fits.
 pub fn find<M: Maker, L: Ledger>(
     maker: &mut M,
     rule: Placing,
@@ -78,26 +94,24 @@ pub fn find<M: Maker, L: Ledger>(
 {
     let mut best = None;
     for i in 0..branches.len() {
-        if is_settled(best) {
-            return Ok(best);
-        }
-        let joined = match maker.join(branches[i].kept, single, steps) {
-            Ok(Some(joined)) => joined,
+        let kept = match maker.join(branches[i].kept, single, steps) {
+            Ok(Some(kept)) => kept,
             Ok(None) => continue,
             Err(want) => return Err(want),
         };
-        let load = match load(maker, rule, joined) {
-            Ok(load) => load,
+        let next = Choice {
+            branch: i,
+            kept,
+            weight: None,
+        };
+        match rule {
+            Placing::First => return Ok(Some(next)),
+            Placing::Lightest => {}
+        }
+        best = match lighter(maker, best, next) {
+            Ok(choice) => Some(choice),
             Err(want) => return Err(want),
         };
-        best = Some(lighter(
-            best,
-            Choice {
-                branch: i,
-                kept: joined,
-                load,
-            },
-        ));
     }
     Ok(best)
 }

@@ -44,7 +44,7 @@ zip_push P (a ∷ xs) [] x y h k = absurd h
 zip_push P (a ∷ xs) (b ∷ ys) x y h k = (h.0, zip_push P xs ys x y h.1 k)
 
 module _ (Makes : List (List ℕ) → List ℕ → Type 0) (Refuses : List (List ℕ) → ℕ → Type 0) where
-  -- so many records are done, and the others are left; the texts of what is done were written or stand in the buffer
+  -- the first n records are done, and the others are left; the texts of what is done were written or stand in the buffer
   pub record Done (n : ℕ) (rows more : Rows) (old new : Option (List ℕ)) (before now : List ℕ) : Type 0 where
     pub done : Rows
     pub texts : List (List ℕ)

@@ -1,8 +1,7 @@
 -- What decides whether records are a table.
-use Rattle.std.proofs.Common.{◌≡◌, ℕ, ◌<◌, ◌≤◌, min, List, length, take, true, false, leb, Option, None, Some, Ok, Err, nat_lt, get_or, refl, arith}
-use Rattle.std.proofs.lemmas.Bool.{leb-true, leb-false}
+use Rattle.std.proofs.Common.{◌≡◌, ℕ, ◌<◌, ◌≤◌, List, length, take, true, false, Option, None, Some, Ok, Err, nat_lt, get_or, refl, arith}
 use Rattle.std.proofs.lemmas.Bool.Decides.{nat_tests}
-use Rattle.std.proofs.lemmas.List.{take_all, take-take, length-take, length-map}
+use Rattle.std.proofs.lemmas.List.{take-take, length-take, length-map}
 use Rattle.std.proofs.lemmas.List.Elements.{All-map, All-nil}
 use Rattle.std.proofs.lemmas.List.FromFn.{length-map-range_with_len}
 use Rattle.fill_records.specs.Texts.{first_bad, text_in}
@@ -11,19 +10,6 @@ use Rattle.fill_tables.specs.Keys.{IsKey}
 use Rattle.fill_tables.specs.Tables.{IsTable}
 use Rattle.fill_tables.specs.declared.error.TableError.TheVariants.{TooManyRows, NotUtf8}
 use Rattle.fill_tables.proofs.Fields.{width_of-narrow}
-
-pub take-min : {A : Type 0} (xs : List A) (most : ℕ) → take (min (length xs) most) xs ≡ take most xs
-take-min xs most = elim (leb most (length xs)) as (λ b. leb most (length xs) ≡ b → take (min (length xs) most) xs ≡ take most xs) [
-  | true ↦ λ is.
-      let le = leb-true most (length xs) is in
-      let all : min (length xs) most ≡ most = omega arith in
-      rw all refl
-  | false ↦ λ is.
-      let lt = leb-false most (length xs) is in
-      let le : length xs ≤ most = omega arith in
-      let same : length xs ≤ min (length xs) most = omega arith in
-      rw (take_all (min (length xs) most) xs same, take_all most xs le) refl
-] refl
 
 -- the bad field that is looked for
 abbrev pub bad_in : List (List (List ℕ)) → Option (ℕ × ℕ)

@@ -1,5 +1,5 @@
 //! What is read of a table's records.
-ghost use Rattle.std.specs.Prelude.{◌≡◌, ◌<◌, ◌≤◌, map, take, All, IfOk};
+ghost use Rattle.std.specs.Prelude.{◌≡◌, ◌<◌, ◌≤◌, map, All, IfOk};
 ghost use Rattle.fill_records.specs.Texts.{IsText, text_in};
 ghost use Rattle.fill_tables.specs.Reading.{columns_to, kept, row_of, width_of};
 
@@ -12,13 +12,6 @@ pub(crate) const LIMIT: usize = 2_000;
 
 /// How many fields of a record are kept.
 const KEPT: usize = 1_000;
-
-/// The records of a file that can be a table's.
-pub(crate) fn first_records(records: &[Record]) -> &[Record]
-    ensures { result.now ≡ take 2000 records.now }
-{
-    &records[..records.len().min(LIMIT)]
-}
 
 /// How many fields of a record are kept.
 fn kept(fields: &Record) -> u32

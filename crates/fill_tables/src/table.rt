@@ -7,8 +7,8 @@ ghost use Rattle.fill_tables.specs.Tables.{IsTable, with_key};
 
 use crate::TableError;
 use crate::order::order_by;
-use crate::reading::{LIMIT, columns_to, first_records, rows_of, width_of};
-use fill_records::{Record, first_bad, read_records};
+use crate::reading::{LIMIT, columns_to, rows_of, width_of};
+use fill_records::{Record, first_bad, first_records, read_records};
 use fill_text::{List, Name, NoMemory, Text};
 use std::alloc::Global;
 use std::marker::Model;
@@ -66,7 +66,7 @@ impl Table {
         ensures name { IfOk result (λ table. table.name ≡ name) }
         ensures shape { IfOk result IsTable }
     {
-        let kept = first_records(records);
+        let kept = first_records(records, LIMIT);
         let width = width_of(kept);
         let columns = columns_to(alloc, width)?;
         if let Some((number, column)) = first_bad(kept, 1, &columns) {

@@ -3,11 +3,20 @@
 use Rattle.std.proofs.Common.{◌≡◌, ◌⊎◌, ℕ, ◌+◌, ◌<◌, inl, inr, refl, ap, sym, ◌∙◌, arith}
 use Rattle.std.specs.declared.cmp.Ordering.{Ordering}
 use Rattle.std.specs.declared.cmp.Ordering.TheVariants.{Less, Equal, Greater}
+use Rattle.std.specs.Cmp.{IsTotalOrder}
 use Rattle.std.specs.Ordering.{nat_cmp, ordering_then}
 use Rattle.std.proofs.lemmas.Bool.Decides.{nat_tests}
-use Rattle.std.proofs.lemmas.Map.Lookups.{exact_unsigned}
+use Rattle.std.proofs.lemmas.Cmp.{nat_cmp_total, on_total, then_total}
+use Rattle.std.proofs.lemmas.Map.Lookups.{CmpEqualImpliesEq, exact_unsigned}
 use Rattle.fill_text.specs.Orders.{AtMost}
+use Rattle.fill_tokens.specs.Place.{place_cmp}
+use Rattle.fill_tokens.specs.Prices.{place_cost}
+use Rattle.fill_tokens.specs.declared.prices.Prices.{Prices}
 use Rattle.fill_tokens.proofs.OrderingLemmas.{then_first, then_second}
+use Rattle.fill_tokens.proofs.PlaceLaws.{place_total, exact_places}
+use Rattle.fill_tree.specs.Cost.{source_cost, atom_cost, conditions_cost}
+use Rattle.fill_tree.specs.Order.{source_cmp, atom_cmp, atoms_cmp, rank, place_rank, source_rank, atom_rank, row_rank}
+use Rattle.fill_tree.proofs.TreeOrder.{source_total, exact_sources, atom_total, exact_atoms, atoms_total, exact_atom_lists}
 
 -- by the costs, and then as the second order says
 abbrev pub ranked : ℕ → ℕ → Ordering → Ordering
@@ -83,3 +92,35 @@ pair-at_most c d e f o r (inr first) (inr second) =
     let h = ranked-equal_is c d o first in
     let k = ranked-equal_is e f r second in
     inr (pair-alike c d e f o r h.0 k.0 ∙ ap (λ x. ordering_then x r) h.1 ∙ k.1)
+
+-- an order by the cost first is total where the second order is
+module _ {A : Type 0} (cost : A → ℕ) (cmp : A → A → Ordering) where
+  pub rank_total : IsTotalOrder cmp → IsTotalOrder (rank cost cmp)
+  rank_total total = then_total (on_total cost nat_cmp_total) total
+
+  pub rank_exact : CmpEqualImpliesEq cmp → CmpEqualImpliesEq (rank cost cmp)
+  rank_exact exact x y h = exact x y (then_second (nat_cmp (cost x) (cost y)) _ h)
+
+pub place_rank-total : (prices : Prices) → IsTotalOrder (place_rank prices)
+place_rank-total prices = rank_total (place_cost prices) place_cmp place_total
+
+pub place_rank-exact : (prices : Prices) → CmpEqualImpliesEq (place_rank prices)
+place_rank-exact prices = rank_exact (place_cost prices) place_cmp exact_places
+
+pub source_rank-total : (prices : Prices) → IsTotalOrder (source_rank prices)
+source_rank-total prices = rank_total (source_cost prices) source_cmp source_total
+
+pub source_rank-exact : (prices : Prices) → CmpEqualImpliesEq (source_rank prices)
+source_rank-exact prices = rank_exact (source_cost prices) source_cmp exact_sources
+
+pub atom_rank-total : (prices : Prices) → IsTotalOrder (atom_rank prices)
+atom_rank-total prices = rank_total (atom_cost prices) atom_cmp atom_total
+
+pub atom_rank-exact : (prices : Prices) → CmpEqualImpliesEq (atom_rank prices)
+atom_rank-exact prices = rank_exact (atom_cost prices) atom_cmp exact_atoms
+
+pub row_rank-total : (prices : Prices) → IsTotalOrder (row_rank prices)
+row_rank-total prices = rank_total (conditions_cost prices) atoms_cmp atoms_total
+
+pub row_rank-exact : (prices : Prices) → CmpEqualImpliesEq (row_rank prices)
+row_rank-exact prices = rank_exact (conditions_cost prices) atoms_cmp exact_atom_lists

@@ -5,9 +5,13 @@ use Rattle.std.specs.declared.cmp.Ordering.TheVariants.{Less, Equal, Greater}
 use Rattle.std.specs.Ordering.{nat_cmp, ordering_then}
 use Rattle.std.specs.Cmp.Lexicographic.{slice_cmp}
 use Rattle.fill_tokens.specs.Place.{place_cmp}
+use Rattle.fill_tokens.specs.Prices.{place_cost}
+use Rattle.fill_tokens.specs.declared.place.Place.{Place}
 use Rattle.fill_tokens.specs.declared.prices.Prices.{Prices}
-use Rattle.fill_tree.specs.Cost.{program_cost}
+use Rattle.fill_tree.specs.Cost.{source_cost, atom_cost, conditions_cost, program_cost}
+use Rattle.fill_tree.specs.Meaning.{program_tree}
 use Rattle.fill_tree.specs.Tree.{SourceTree, AtomTree, Atoms, col, select, constant, whole, sub, end, more}
+use Rattle.fill_tree.specs.declared.chain.Chain.{Chain}
 
 -- by character numbers from the left, a proper prefix first
 abbrev pub text_cmp : List ℕ → List ℕ → Ordering
@@ -39,6 +43,28 @@ abbrev mutual
   atoms_cmp end (more b bs) = Less
   atoms_cmp (more a cs) end = Greater
   atoms_cmp (more a cs) (more b bs) = ordering_then (atom_cmp a b) (atoms_cmp cs bs)
+
+-- by the cost, and then by the order of what costs the same
+abbrev pub rank : {A : Type 0} → (A → ℕ) → (A → A → Ordering) → A → A → Ordering
+rank cost cmp x y = ordering_then (nat_cmp (cost x) (cost y)) (cmp x y)
+
+abbrev pub place_rank : Prices → Place → Place → Ordering
+place_rank prices = rank (place_cost prices) place_cmp
+
+abbrev pub source_rank : Prices → SourceTree → SourceTree → Ordering
+source_rank prices = rank (source_cost prices) source_cmp
+
+-- as atoms of a program; atoms that are no constants are in the same order as conditions
+abbrev pub atom_rank : Prices → AtomTree → AtomTree → Ordering
+atom_rank prices = rank (atom_cost prices) atom_cmp
+
+-- rows of conditions of a lookup
+abbrev pub row_rank : Prices → Atoms → Atoms → Ordering
+row_rank prices = rank (conditions_cost prices) atoms_cmp
+
+-- chains by the costs that they carry
+abbrev pub chain_rank : Chain → Chain → Ordering
+chain_rank x y = ordering_then (nat_cmp x.cost y.cost) (atoms_cmp (program_tree x.atoms) (program_tree y.atoms))
 
 -- programs by cost, by a table of prices, and then by their atoms
 abbrev pub program_cmp : Prices → Atoms → Atoms → Ordering

@@ -2,6 +2,7 @@
 ghost use Rattle.std.specs.Prelude.{◌≡◌, IfOk, map};
 ghost use Rattle.fill_tree.specs.Meaning.{source_tree, select_tree, atom_tree, program_tree};
 ghost use Rattle.fill_tree.specs.Switch.{case_tree, switch_tree};
+ghost use Rattle.fill_tree.specs.Tree.{more};
 
 use crate::guard::{Case, Switch};
 use crate::tree::{Atom, Program, Select, Source};
@@ -74,6 +75,18 @@ impl Program {
         Ok(Program {
             atoms: copy_atoms(alloc, self.atoms.as_slice())?,
         })
+    }
+
+    /// A program of the atom and then the atoms of this one.
+    pub fn with_first(&self, alloc: Global, atom: &Atom) -> Result<Program, NoMemory>
+        ensures { IfOk result (λ longer. program_tree longer ≡ more (atom_tree atom.now) (program_tree self.now)) }
+    {
+        let mut atoms = List::new(alloc);
+        atoms.push(atom.copy(alloc)?)?;
+        for next in self.atoms.as_slice() {
+            atoms.push(next.copy(alloc)?)?;
+        }
+        Ok(Program { atoms })
     }
 }
 

@@ -5,6 +5,7 @@
 //! from Examples" (PVLDB 5(8), 2012), section 4.
 #![tactic(auto)]
 
+mod chain;
 mod copy;
 mod cost;
 mod grammar;
@@ -15,6 +16,7 @@ mod profile;
 mod tree;
 mod user;
 
+pub use chain::Chain;
 pub use fill_tokens::{Place, Prices, Seq, Token, TokenSet};
 pub use grammar::{has_part, in_grammar, is_input, is_part};
 pub use guard::{Case, Guard, Literal, Switch};

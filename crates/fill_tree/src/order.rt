@@ -1,9 +1,9 @@
 //! The total order of trees, and which of two programs is before the other.
-ghost use Rattle.std.specs.Prelude.{◌≡◌, ◌<◌, ◌^◌, ◌↔◌, IsTrue, map};
+ghost use Rattle.std.specs.Prelude.{◌≡◌, ◌⊎◌, ◌<◌, ◌≤◌, ◌^◌, ◌↔◌, IsTrue, IfSome, IfNone, map};
 ghost use Rattle.fill_tree.specs.Tree.{atoms_of};
-ghost use Rattle.fill_tree.specs.Cost.{program_cost};
+ghost use Rattle.fill_tree.specs.Cost.{source_cost, atom_cost, program_cost};
 ghost use Rattle.fill_tree.specs.Meaning.{source_tree, select_tree, atom_tree, program_tree};
-ghost use Rattle.fill_tree.specs.Order.{Before, source_cmp, atom_cmp, atoms_cmp};
+ghost use Rattle.fill_tree.specs.Order.{Before, source_cmp, atom_cmp, atoms_cmp, source_rank, atom_rank};
 
 use crate::tree::{Atom, Program, Select, Source};
 use fill_tokens::Prices;
@@ -21,6 +21,15 @@ impl Source {
             (Source::Select(_), Source::Col(_)) => Ordering::Greater,
             (Source::Select(a), Source::Select(b)) => a.compare(b),
         }
+    }
+
+    /// The order by the cost, and then as in [`Source::compare`]. None where a cost is above the greatest `u64`.
+    pub fn rank(&self, other: &Source, prices: &Prices) -> Option<Ordering>
+        ensures some { IfSome result (λ order. order ≡ source_rank prices.now (source_tree self.now) (source_tree other.now)) }
+        ensures none { IfNone result ((2 ^ 64 ≤ source_cost prices.now (source_tree self.now)) ⊎ (2 ^ 64 ≤ source_cost prices.now (source_tree other.now))) }
+    {
+        let by_cost = self.cost(prices)?.cmp(&other.cost(prices)?);
+        Some(by_cost.then(self.compare(other)))
     }
 }
 
@@ -56,6 +65,16 @@ impl Atom {
                 a.compare(d).then(b.compare(e)).then(c.compare(f))
             }
         }
+    }
+
+    /// The order of atoms of a program by the cost, and then as in [`Atom::compare`]. None where a cost is above the
+    /// greatest `u64`.
+    pub fn rank(&self, other: &Atom, prices: &Prices) -> Option<Ordering>
+        ensures some { IfSome result (λ order. order ≡ atom_rank prices.now (atom_tree self.now) (atom_tree other.now)) }
+        ensures none { IfNone result ((2 ^ 64 ≤ atom_cost prices.now (atom_tree self.now)) ⊎ (2 ^ 64 ≤ atom_cost prices.now (atom_tree other.now))) }
+    {
+        let by_cost = self.cost(prices)?.cmp(&other.cost(prices)?);
+        Some(by_cost.then(self.compare(other)))
     }
 }
 

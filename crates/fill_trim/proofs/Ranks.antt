@@ -1,5 +1,5 @@
 -- Marked nodes, numbered in order.
-use Rattle.std.proofs.Common.{◌≡◌, ℕ, zero, suc, ◌+◌, ◌<◌, ◌≤◌, inl, inr, Bool, true, false, List, [], ◌∷◌, ◌++◌, length, get_or, set, Some, slice_get, refl, sym, ap, ◌∙◌, arith, length-set}
+use Rattle.std.proofs.Common.{◌≡◌, ℕ, zero, suc, ◌+◌, ◌*◌, ◌<◌, ◌≤◌, inl, inr, Bool, true, false, List, [], ◌∷◌, ◌++◌, length, get_or, set, Some, slice_get, refl, sym, ap, ◌∙◌, arith, length-set}
 use Rattle.std.proofs.lemmas.Bool.{cases_lt}
 use Rattle.std.proofs.lemmas.List.{get_or-set_same}
 use Rattle.std.proofs.lemmas.Option.{slice_get-get_or, get_or_from_slice_get}
@@ -57,12 +57,13 @@ rank_onto (true ∷ bs) (suc m) h = let r = rank_onto bs m (omega arith) in (suc
 rank_onto (false ∷ bs) m h = let r = rank_onto bs m h in (suc r.0, r.1, r.2)
 
 -- one more rank
-pub ranks_more : (ranks now : List ℕ) (bs : List Bool) (i count : ℕ) → now ≡ ranks ++ count ∷ [] → length ranks ≡ i → count ≡ rank bs i → ((n : ℕ) → n < i → slice_get ranks n ≡ Some (rank bs n)) → (n : ℕ) → n < i + 1 → slice_get now n ≡ Some (rank bs n)
-ranks_more ranks now bs i count e long is each n h = rw e (elim (cases_lt n i) [
-  | inl l ↦ get_left ranks (count ∷ []) n (omega arith) ∙ each n l
+pub ranks_more : (ranks now : List ℕ) (bs : List Bool) (i count : ℕ) → now ≡ ranks ++ count ∷ [] → length ranks ≡ i → count ≡ rank bs (i * 32) → ((k : ℕ) → k < i → slice_get ranks k ≡ Some (rank bs (k * 32)))
+    → (k : ℕ) → k < i + 1 → slice_get now k ≡ Some (rank bs (k * 32))
+ranks_more ranks now bs i count e long is each k h = rw e (elim (cases_lt k i) [
+  | inl l ↦ get_left ranks (count ∷ []) k (omega arith) ∙ each k l
   | inr l ↦
-      let same : n ≡ length ranks = omega arith in
-      rw same (get_last ranks count ∙ ap Some (is ∙ ap (rank bs) (sym long)))
+      let same : k ≡ length ranks = omega arith in
+      rw same (get_last ranks count ∙ ap Some (is ∙ ap (λ n. rank bs (n * 32)) (sym long)))
 ])
 
 -- a mark read with a default

@@ -1,5 +1,5 @@
 -- Marks of nodes, and what is left of a graph where only marked nodes stay.
-use Rattle.std.specs.Prelude.{◌≡◌, ◌↔◌, ℕ, zero, suc, ◌-◌, ◌<◌, ◌&&◌, Bool, true, false, cond, List, [], ◌∷◌, length, get_or, set, Some, slice_get}
+use Rattle.std.specs.Prelude.{◌≡◌, ◌↔◌, ℕ, zero, suc, ◌+◌, ◌-◌, ◌*◌, ◌/◌, ◌<◌, ◌&&◌, Bool, true, false, cond, List, [], ◌∷◌, length, get_or, set, Some, slice_get}
 use Rattle.fill_arena.specs.WellMade.{Path}
 use Rattle.fill_arena.specs.declared.entry.Edge.{Edge}
 use Rattle.fill_trim.specs.Trim.{HasWalk}
@@ -31,10 +31,10 @@ rank (b ∷ bs) zero = 0
 rank (true ∷ bs) (suc n) = suc (rank bs n)
 rank (false ∷ bs) (suc n) = rank bs n
 
--- the number of marked nodes before each node, and at last that of all of them
+-- the number of marked nodes before each 32nd node
 pub record AreRanks (marks : List Bool) (ranks : List ℕ) : Type 0 where
-  pub long : length ranks ≡ suc (length marks)
-  pub each : (n : ℕ) → n < suc (length marks) → slice_get ranks n ≡ Some (rank marks n)
+  pub long : length ranks ≡ length marks / 32 + 1
+  pub each : (k : ℕ) → k < length ranks → slice_get ranks k ≡ Some (rank marks (k * 32))
 
 -- the edge between the numbers that its nodes have among the marked ones
 abbrev pub renumbered : List Bool → Edge → Edge

@@ -1,6 +1,7 @@
 -- Graphs of which only the nodes on walks from the first node to the last one are left.
 use Rattle.std.specs.Prelude.{◌≡◌, ◌↔◌, ℕ, ◌-◌, ◌<◌, List, [], ◌∷◌, length, Some, slice_get}
 use Rattle.fill_arena.specs.Contents.{SomeIn, EachIn}
+use Rattle.fill_arena.specs.Order.{IsTopological}
 use Rattle.fill_arena.specs.WellMade.{Path}
 use Rattle.fill_arena.specs.declared.entry.Edge.{Edge}
 use Rattle.fill_trim.specs.declared.trim.Trimmed.{Trimmed}
@@ -13,7 +14,7 @@ HasWalk (s ∷ rest) edges from to = SomeIn (λ e. (e.from ≡ from) × (e.atoms
 -- edges that lead on, within the nodes, those into a node before those out of it
 pub record AreEdges (nodes : ℕ) (edges : List Edge) : Type 0 where
   pub onward : EachIn (λ e. (e.from < e.to) × (e.to < nodes)) edges
-  pub ordered : (j k : ℕ) (e f : Edge) → slice_get edges j ≡ Some e → slice_get edges k ≡ Some f → e.to ≡ f.from → j < k
+  pub ordered : IsTopological edges
 
 -- what is left: each node is on a walk from the first node to the last one, these walks have the same sets as before, each
 -- edge has the set of an edge of before, and no path is longer than one of before

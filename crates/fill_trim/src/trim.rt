@@ -1,5 +1,5 @@
 //! Taking out the nodes that lie on no walk.
-ghost use Rattle.std.specs.Prelude.{◌≡◌, ◌<◌, ◌++◌, [], ◌∷◌, length, Some, IfOk, OnOk, MatchOption};
+ghost use Rattle.std.specs.Prelude.{◌≡◌, ◌<◌, ◌≤◌, ◌++◌, [], ◌∷◌, length, Some, IfOk, OnOk, MatchOption};
 ghost use Rattle.fill_arena.specs.Contents.{EachIn};
 ghost use Rattle.fill_arena.specs.declared.entry.Edge.{Edge};
 ghost use Rattle.fill_trim.specs.Marks.{AreRanks, HasNoWalk, edges_left, rank};
@@ -32,6 +32,8 @@ pub fn trim(alloc: Global, nodes: usize, edges: &[Edge]) -> Result<Option<Trimme
     }
     let leading = leading_to_last(alloc, nodes, edges)?;
     keep_common(kept.as_mut_slice(), leading.as_slice());
+    // Its room is for what comes now.
+    drop(leading);
     Ok(Some(renumber(alloc, kept.as_slice(), edges)?))
 }
 
@@ -43,35 +45,59 @@ fn renumber(alloc: Global, kept: &[bool], edges: &[Edge]) -> Result<Trimmed, NoM
     let ranks = ranks(alloc, kept)?;
     let edges = kept_edges(alloc, kept, ranks.as_slice(), edges)?;
     Ok(Trimmed {
-        nodes: ranks[kept.len()] as usize,
+        nodes: rank(kept, ranks.as_slice(), kept.len()),
         edges,
     })
 }
 
-/// How many nodes before each one are kept, and how many of all: in 32 bits, since a product has many nodes.
-fn ranks(alloc: Global, kept: &[bool]) -> Result<Vec<u32>, NoMemory>
+/// How many nodes before each 32nd one are kept. A product has many nodes, so those between are counted where they are asked.
+fn ranks(alloc: Global, kept: &[bool]) -> Result<Vec<usize>, NoMemory>
     ensures { IfOk result (λ ranks. AreRanks kept.now ranks.items) }
 {
-    let Ok(_most) = u32::try_from(kept.len()) else {
-        return Err(NoMemory);
-    };
-    let mut ranks = Vec::with_capacity(alloc, kept.len().saturating_add(1))?;
-    let mut count: u32 = 0;
-    for stays in kept {
+    let stretches = kept.len() / 32;
+    let mut ranks = Vec::with_capacity(alloc, stretches + 1)?;
+    let mut count = 0;
+    for k in 0..stretches {
         ranks.push(count)?;
-        if *stays {
-            count += 1;
-        }
+        count = count_on(kept, k * 32, k * 32 + 32, count);
     }
     ranks.push(count)?;
     Ok(ranks)
+}
+
+/// How many nodes before a node are kept.
+fn rank(kept: &[bool], ranks: &[usize], node: usize) -> usize
+    requires ranks { AreRanks kept.now ranks.now }
+    requires within { node ≤ length kept.now }
+    ensures { result ≡ rank kept.now node }
+{
+    let k = node / 32;
+    let before = ranks[k];
+    count_on(kept, k * 32, node, before)
+}
+
+/// How many nodes before the second node are kept, told how many before the first one are.
+fn count_on(kept: &[bool], from: usize, to: usize, before: usize) -> usize
+    requires order { from ≤ to }
+    requires within { to ≤ length kept.now }
+    requires before { before ≡ rank kept.now from }
+    ensures { result ≡ rank kept.now to }
+{
+    let mut count = before;
+    for node in from..to {
+        let stays = kept[node];
+        if stays {
+            count += 1;
+        }
+    }
+    count
 }
 
 /// The edges between kept nodes, in order, with the new numbers of their nodes.
 fn kept_edges(
     alloc: Global,
     kept: &[bool],
-    ranks: &[u32],
+    ranks: &[usize],
     edges: &[Edge],
 ) -> Result<List<Edge>, NoMemory>
     requires ranks { AreRanks kept.now ranks.now }
@@ -89,7 +115,7 @@ fn kept_edges(
 fn push_kept(
     made: &mut List<Edge>,
     kept: &[bool],
-    ranks: &[u32],
+    ranks: &[usize],
     edge: Edge,
 ) -> Result<(), NoMemory>
     requires ranks { AreRanks kept.now ranks.now }
@@ -104,8 +130,8 @@ fn push_kept(
         return Ok(());
     }
     made.push(Edge {
-        from: ranks[edge.from] as usize,
-        to: ranks[edge.to] as usize,
+        from: rank(kept, ranks, edge.from),
+        to: rank(kept, ranks, edge.to),
         atoms: edge.atoms,
     })
 }

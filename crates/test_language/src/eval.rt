@@ -281,26 +281,23 @@ fn values_of_a_switch(rt: HostRuntime) -> Result<(), Fail> {
     Ok(())
 }
 
-/// Whether the switch reads inputs alone, and the first other column that it reads.
-fn reads(alloc: Global, sheet: &Sheet) -> Result<(bool, Option<u32>), Fail> {
+/// Whether the switch reads inputs alone.
+fn reads_inputs(alloc: Global, sheet: &Sheet) -> Result<bool, Fail> {
     let switch = read_switch(alloc, SWITCH, Notation::All)?;
-    Ok((
-        switch_reads_inputs(&switch, sheet),
-        first_other_column(&switch, sheet),
-    ))
+    Ok(switch_reads_inputs(&switch, sheet))
 }
 
 #[test]
 fn columns_that_a_switch_reads(rt: HostRuntime) -> Result<(), Fail> {
     let sheet = Sheet::read(rt.alloc(), b"k,k\n", false, &[1], None)?;
-    assert_eq!(rt; reads(rt.alloc(), &sheet)?, (true, None));
+    assert_eq!(rt; reads_inputs(rt.alloc(), &sheet)?, true);
     Ok(())
 }
 
 #[test]
 fn other_columns_that_a_switch_reads(rt: HostRuntime) -> Result<(), Fail> {
     let sheet = Sheet::read(rt.alloc(), b"k,k\n", false, &[2], None)?;
-    assert_eq!(rt; reads(rt.alloc(), &sheet)?, (false, Some(1)));
+    assert_eq!(rt; reads_inputs(rt.alloc(), &sheet)?, false);
     Ok(())
 }
 

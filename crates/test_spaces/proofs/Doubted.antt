@@ -40,14 +40,14 @@ step atoms = record { from = 0; to = 1; atoms = atoms }
 abbrev next : ℕ → Edge
 next atoms = record { from = 1; to = 2; atoms = atoms }
 
--- each edge leads from its place to the node after it
-placed : (a b j : ℕ) (e : Edge) → slice_get (step a ∷ next b ∷ []) j ≡ Some e → (e.from ≡ j) × (e.to ≡ suc j) × (j ≤ 1)
-placed a b zero e at = let same : step a ≡ e = cc in (sym (ap (λ (f : Edge). f.from) same), sym (ap (λ (f : Edge). f.to) same), omega arith)
-placed a b (suc zero) e at = let same : next b ≡ e = cc in (sym (ap (λ (f : Edge). f.from) same), sym (ap (λ (f : Edge). f.to) same), omega arith)
+-- each edge leads to the node after its first one, which is node 1 at the most
+placed : (a b j : ℕ) (e : Edge) → slice_get (next b ∷ step a ∷ []) j ≡ Some e → (e.to ≡ suc e.from) × (e.from ≤ 1)
+placed a b zero e at = let same : next b ≡ e = cc in subst (λ (f : Edge). (f.to ≡ suc f.from) × (f.from ≤ 1)) same (refl, omega arith)
+placed a b (suc zero) e at = let same : step a ≡ e = cc in subst (λ (f : Edge). (f.to ≡ suc f.from) × (f.from ≤ 1)) same (refl, omega arith)
 placed a b (suc (suc k)) e at = absurd cc
 
 -- no path goes further than two edges
-short : (a b from to : ℕ) (path : List Edge) → Path (step a ∷ next b ∷ []) from path to → length path ≤ 2
+short : (a b from to : ℕ) (path : List Edge) → Path (next b ∷ step a ∷ []) from path to → length path ≤ 2
 short a b from to [] h = omega arith
 short a b from to (e ∷ []) h = omega arith
 short a b from to (e ∷ f ∷ []) h = omega arith
@@ -57,36 +57,32 @@ short a b from to (e ∷ f ∷ g ∷ rest) h =
     let three = placed a b h.2.2.0.0 g h.2.2.0.1 in
     let on : f.from ≡ e.to = h.2.1 in
     let further : g.from ≡ f.to = h.2.2.1 in
-    absurd (omega (arith, one.1, two.0, two.1, three.0, three.2, on, further))
+    absurd (omega (arith, one.0, two.0, three.1, on, further))
 
-from_first : (a b m : ℕ) → m < 3 → (path : List Edge) × Path (step a ∷ next b ∷ []) 0 path m
+from_first : (a b m : ℕ) → m < 3 → (path : List Edge) × Path (next b ∷ step a ∷ []) 0 path m
 from_first a b zero lt = ([], refl)
-from_first a b (suc zero) lt = (step a ∷ [], ((0, refl), refl, refl))
-from_first a b (suc (suc zero)) lt = (step a ∷ next b ∷ [], ((0, refl), refl, ((1, refl), refl, refl)))
+from_first a b (suc zero) lt = (step a ∷ [], ((1, refl), refl, refl))
+from_first a b (suc (suc zero)) lt = (step a ∷ next b ∷ [], ((1, refl), refl, ((0, refl), refl, refl)))
 from_first a b (suc (suc (suc k))) lt = absurd (omega arith)
 
-to_last : (a b m : ℕ) → m < 3 → (path : List Edge) × Path (step a ∷ next b ∷ []) m path 2
-to_last a b zero lt = (step a ∷ next b ∷ [], ((0, refl), refl, ((1, refl), refl, refl)))
-to_last a b (suc zero) lt = (next b ∷ [], ((1, refl), refl, refl))
+to_last : (a b m : ℕ) → m < 3 → (path : List Edge) × Path (next b ∷ step a ∷ []) m path 2
+to_last a b zero lt = (step a ∷ next b ∷ [], ((1, refl), refl, ((0, refl), refl, refl)))
+to_last a b (suc zero) lt = (next b ∷ [], ((0, refl), refl, refl))
 to_last a b (suc (suc zero)) lt = ([], refl)
 to_last a b (suc (suc (suc k))) lt = absurd (omega arith)
 
-pub sample_graph : (c : List Entry) (a b : ℕ) → IsAtomSet c a → IsAtomSet c b → IsGraphOf c (length c) 3 (step a ∷ next b ∷ [])
+pub sample_graph : (c : List Entry) (a b : ℕ) → IsAtomSet c a → IsAtomSet c b → IsGraphOf c (length c) 3 (next b ∷ step a ∷ [])
 sample_graph c a b live there =
     let first = slice_get_within c a (kind.Atoms live.0) live.1 in
     let second = slice_get_within c b (kind.Atoms there.0) there.1 in
     let P = IsEdge c (length c) 3 in
     record {
       some = omega arith;
-      each = each_cons P (step a) (next b ∷ []) (record { onward = omega arith; within = omega arith; atoms = (live, first) })
-          (each_cons P (next b) [] (record { onward = omega arith; within = omega arith; atoms = (there, second) }) (each_nil P));
+      each = each_cons P (next b) (step a ∷ []) (record { onward = omega arith; within = omega arith; atoms = (there, second) })
+          (each_cons P (step a) [] (record { onward = omega arith; within = omega arith; atoms = (live, first) }) (each_nil P));
       from_first = from_first a b;
       to_last = to_last a b;
       short = λ from to path h. let few = short a b from to path h in omega arith;
-      ordered = λ j k e f at further same.
-          let one = placed a b j e at in
-          let other = placed a b k f further in
-          omega (arith, one.1, other.0, same);
     }
 
 -- the lookup by the whole of column 1

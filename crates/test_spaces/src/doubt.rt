@@ -162,20 +162,20 @@ fn atoms(
     Ok(arena.intern_atoms(items)?)
 }
 
-/// One edge after the other.
+/// The edges of two steps, the second one first: an arena takes them in any order.
 fn edges(alloc: Global, first: AtomSet, second: AtomSet) -> Result<List<Edge>, NoMemory>
-    ensures { IfOk result (λ made. made ≡ (record { from = 0; to = 1; atoms = first }) ∷ (record { from = 1; to = 2; atoms = second }) ∷ []) }
+    ensures { IfOk result (λ made. made ≡ (record { from = 1; to = 2; atoms = second }) ∷ (record { from = 0; to = 1; atoms = first }) ∷ []) }
 {
     let mut edges = List::new(alloc);
-    edges.push(Edge {
-        from: 0,
-        to: 1,
-        atoms: first,
-    })?;
     edges.push(Edge {
         from: 1,
         to: 2,
         atoms: second,
+    })?;
+    edges.push(Edge {
+        from: 0,
+        to: 1,
+        atoms: first,
     })?;
     Ok(edges)
 }

@@ -1,7 +1,7 @@
 //! Programs.
 ghost use Rattle.std.specs.Prelude.{true, false, map, option_map};
 ghost use Rattle.fill_tree.specs.Meaning.{atom_tree, program_tree};
-ghost use Rattle.fill_print.specs.Grammar.{NoAtom, SomeAtom, WholeProgram};
+ghost use Rattle.fill_print.specs.Grammar.{SomeAtom, WholeProgram};
 ghost use Rattle.fill_print.specs.Programs.{AtomStep, ProgramAtom, ProgramAtoms, ProgramFront};
 ghost use Rattle.fill_print.specs.Reading.{Reads};
 ghost use Rattle.fill_print.specs.Tokens.{tokens_of};
@@ -9,7 +9,7 @@ ghost use Rattle.fill_print.specs.Tokens.{tokens_of};
 use crate::notation::Notation;
 use crate::read::bytes::{after, word};
 use crate::read::error::ReadError;
-use crate::read::sources::{constant, part};
+use crate::read::sources::{constant, no_atom, part};
 use fill_text::List;
 use fill_tree::{Atom, Program};
 use std::alloc::Global;
@@ -24,14 +24,6 @@ fn program_atom(alloc: Global, bytes: &[u8], notation: Notation) -> Result<(Atom
         Some(_rest) => constant(alloc, bytes, false),
         None => part(alloc, bytes, notation, DEPTH),
     }
-}
-
-/// No atom, and the bytes after the bracket.
-fn no_atom(bytes: &[u8]) -> Result<(Option<Atom>, &[u8]), ReadError>
-    ensures { Reads (λ x. option_map atom_tree x.0) (λ x. x.1.now) NoAtom bytes.now result }
-{
-    let rest = word(bytes, b")")?;
-    Ok((None, rest))
 }
 
 fn some_atom(

@@ -39,6 +39,14 @@ pub(crate) fn constant(
     Ok((Atom::Const(text), rest))
 }
 
+/// No atom and no condition, and the bytes after the bracket.
+pub(crate) fn no_atom(bytes: &[u8]) -> Result<(Option<Atom>, &[u8]), ReadError>
+    ensures { Reads (λ x. option_map atom_tree x.0) (λ x. x.1.now) NoAtom bytes.now result }
+{
+    let rest = word(bytes, b")")?;
+    Ok((None, rest))
+}
+
 /// A source in which lookups stand at most `depth` deep inside each other, and the bytes after it.
 #[cycle(sources)]
 fn source(
@@ -142,20 +150,12 @@ fn next_condition(
         return later_condition(alloc, bytes, notation, depth, room == 1);
     }
     if room == 0 {
-        return no_condition(bytes);
+        return no_atom(bytes);
     }
     match after(bytes, b',') {
         Some(_rest) => later_condition(alloc, bytes, notation, depth, false),
-        None => no_condition(bytes),
+        None => no_atom(bytes),
     }
-}
-
-/// No condition, and the bytes after the bracket.
-fn no_condition(bytes: &[u8]) -> Result<(Option<Atom>, &[u8]), ReadError>
-    ensures { Reads (λ x. option_map atom_tree x.0) (λ x. x.1.now) NoAtom bytes.now result }
-{
-    let rest = word(bytes, b")")?;
-    Ok((None, rest))
 }
 
 #[cycle(sources)]

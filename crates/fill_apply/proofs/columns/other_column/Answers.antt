@@ -1,7 +1,7 @@
 use Rattle.std.proofs.Common.{[], ◌∷◌, All, Contains, refl, subst, sym, ◌∙◌}
 use Rattle.std.proofs.lemmas.Bool.{false≢true}
 use Rattle.std.proofs.lemmas.List.Elements.{All-nil}
-use Rattle.fill_eval.specs.Columns.{literal_columns}
+use Rattle.fill_apply.specs.Columns.{literal_columns}
 use Rattle.fill_apply.proofs.FirstOthers.{one_column, one_in, two_columns, two_in}
 use Rattle.fill_apply.proofs.columns.other_column.Goals as goal
 

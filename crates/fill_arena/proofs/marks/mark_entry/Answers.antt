@@ -7,4 +7,4 @@ pub mark_atoms-requires : goal.mark_atoms-requires
 mark_atoms-requires c = rw c.in-Atoms.is at c.requires
 
 pub mark_edges-requires : goal.mark_edges-requires
-mark_edges-requires c = rw c.in-Graph.is at c.requires
+mark_edges-requires c = rw c.as_slice.ensures (rw c.in-Graph.is at c.requires)

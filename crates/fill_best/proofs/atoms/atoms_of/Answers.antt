@@ -4,9 +4,8 @@ use Rattle.fill_tree.specs.Order.{atom_cmp}
 use Rattle.fill_tree.specs.Tree.{AtomTree}
 use Rattle.fill_tree.proofs.TreeOrder.{atom_total, exact_atoms}
 use Rattle.fill_arena.specs.Contents.{SomeIn}
-use Rattle.fill_arena.specs.Stands.{AtomStands}
+use Rattle.fill_arena.specs.Stands.{AtomStands, ConstantFits, PartStands}
 use Rattle.fill_arena.specs.declared.entry.Entry.TheVariants.{Atoms}
-use Rattle.fill_rank.specs.Sets.{ConstantFits, PartStands}
 use Rattle.fill_best.specs.Cheapest.{AreCheapest}
 use Rattle.fill_best.specs.declared.costed.Costed.{Costed}
 use Rattle.fill_best.proofs.Standing.{part_or_constant, constant_stands}
@@ -28,13 +27,13 @@ returns-clause-first c =
     c.in_ok-kept.ensures.first (c.in_ok-put_constants.ensures arena) in
     subst (λ (v : Vec (Costed AtomTree) Global). AreCheapest (atom_cost c.args.prices.now) atom_cmp (AtomStands arena s) c.args.limit v.items) (sym c.in_ok-found.ensures.ok) first
 
-pub returns-clause-known : goal.returns-clause-known
-returns-clause-known c =
+pub returns-clause-memo : goal.returns-clause-memo
+returns-clause-memo c =
     let arena = c.args.arena.now in
     let s = c.args.s in
     let items = c.atoms-2.result.now in
     let first = takes_after (atom_cost c.args.prices.now) atom_cmp atom_total exact_atoms c.args.limit (PartStands arena s) (λ a. SomeIn (λ i. ConstantFits arena i a) items) (AtomStands arena s)
     c.in_ok-kept.kept.items c.put_constants.new.kept.items (λ a h. h.1) (constant_stands arena s items c.atoms-2.ensures) (part_or_constant arena s items c.atoms-2.ensures)
     c.in_ok-kept.ensures.first (c.in_ok-put_constants.ensures arena) in
-    c.in_ok-keep_atoms.ensures c.args.prices.now arena c.args.limit c.in_ok-kept.ensures.known
+    c.in_ok-keep_atoms.ensures c.args.prices.now arena c.args.limit c.in_ok-kept.ensures.memo
     (subst (λ (v : Vec (Costed AtomTree) Global). AreCheapest (atom_cost c.args.prices.now) atom_cmp (AtomStands arena s) c.args.limit v.items) (sym (c.in_ok-clone-2.ensures.cases ∙ c.in_ok-found.ensures.ok)) first)

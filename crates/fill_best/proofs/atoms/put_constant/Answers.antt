@@ -4,8 +4,8 @@ use Rattle.fill_tree.specs.Order.{atom_cmp}
 use Rattle.fill_tree.specs.Tree.{constant}
 use Rattle.fill_tree.proofs.TreeOrder.{atom_total, exact_atoms}
 use Rattle.fill_arena.specs.declared.entry.AtomItem.TheVariants.{Const}
-use Rattle.fill_rank.specs.Sets.{ConstantFits}
-use Rattle.fill_rank.proofs.Pieces.{ok_on}
+use Rattle.fill_arena.specs.Stands.{ConstantFits}
+use Rattle.fill_arena.proofs.Items.{ok_on}
 use Rattle.fill_best.specs.Cheapest.{TakesIn}
 use Rattle.fill_best.proofs.Standing.{constant_fits_it, fits_constant, no_constant_else}
 use Rattle.fill_best.proofs.Takes.{takes_none, takes_same}

@@ -3,7 +3,7 @@ use Rattle.fill_arena.specs.Contents.{SomeIn}
 use Rattle.fill_tree.specs.Cost.{atom_cost}
 use Rattle.fill_tree.specs.Order.{atom_cmp}
 use Rattle.fill_tree.proofs.TreeOrder.{atom_total, exact_atoms}
-use Rattle.fill_rank.specs.Sets.{ConstantFits}
+use Rattle.fill_arena.specs.Stands.{ConstantFits}
 use Rattle.fill_best.proofs.Takes.{scan_none, scan_more, scan_done}
 use Rattle.fill_best.proofs.atoms.put_constants.Goals as goal
 

@@ -2,7 +2,8 @@ use Rattle.std.proofs.Common.{List}
 use Rattle.fill_tree.specs.Cost.{atom_cost}
 use Rattle.fill_tree.specs.Order.{atom_cmp}
 use Rattle.fill_arena.specs.declared.entry.Entry.{Entry}
-use Rattle.fill_rank.specs.Sets.{ConstantFits, SomeBelow}
+use Rattle.fill_arena.specs.Contents.{SomeBelow}
+use Rattle.fill_arena.specs.Stands.{ConstantFits}
 use Rattle.fill_best.specs.Cheapest.{TakesIn}
 use Rattle.fill_best.proofs.atoms.put_constants.Given as goal
 

@@ -3,23 +3,21 @@ use Rattle.fill_tree.specs.Cost.{program_cost}
 use Rattle.fill_tree.specs.Order.{atoms_cmp, program_cmp}
 use Rattle.fill_tree.specs.Tree.{Atoms}
 use Rattle.fill_arena.specs.Stands.{ProgramStands, Walks}
-use Rattle.fill_arena.specs.declared.entry.Entry.TheVariants.{Graph}
 use Rattle.fill_arena.proofs.Scan.{here}
 use Rattle.fill_best.specs.Cheapest.{AreCheapest}
 use Rattle.fill_best.specs.First.{AreFirst}
 use Rattle.fill_best.specs.Rests.{AreFirstRests}
 use Rattle.fill_best.specs.declared.costed.Costed.{Costed}
-use Rattle.fill_arena.proofs.Costs.{rest_present}
-use Rattle.fill_rank.proofs.Cheap.{walks_cheap}
-use Rattle.fill_rank.proofs.Pieces.{drop_whole, drop_here, dropped_later, get_dropped, ok_on}
-use Rattle.fill_rank.proofs.Walk.{first_edge, the_graph}
+use Rattle.fill_arena.proofs.Items.{drop_whole, drop_here, dropped_later, get_dropped, ok_on}
+use Rattle.fill_arena.proofs.Edges.{walks_cheap}
+use Rattle.fill_arena.proofs.Sorted.{first_edge, sorted_graph, sorted_present, stands_sorted}
 use Rattle.fill_best.proofs.Walking.{first_stand}
 use Rattle.fill_best.proofs.graph.best.Goals as goal
 
 pub no_edges-requires : goal.no_edges-requires
 no_edges-requires c =
-    let edges = c.edges-edges.result.now in
-    (c.keeps_made.ensures c.args.g (Graph c.nodes.result edges) (the_graph c.args.arena.now c.args.g c.nodes.result edges c.nodes.ensures c.edges-edges.ensures)).some
+    let edges = c.sorted_edges-edges.result.now in
+    (sorted_graph c.args.arena.now c.args.g c.nodes.result edges c.nodes.ensures c.sorted_edges-edges.ensures c.keeps_made.ensures).graph.some
 
 pub loop-left-init : goal.loop-left-init
 loop-left-init c =
@@ -27,46 +25,46 @@ loop-left-init c =
     let rests = c.in_ok-rests.rests.items in
     record {
       within = omega arith;
-      known = c.new-known.ensures c.args.prices.now arena c.args.k;
+      memo = c.new-memo.ensures c.args.prices.now arena c.args.k;
       nodes = refl;
-      first = subst (λ xs. AreFirstRests c.args.prices.now arena xs (length rests - 1) c.args.k rests) (sym (drop_whole c.edges-edges.result.now))
+      first = subst (λ xs. AreFirstRests c.args.prices.now arena xs (length rests - 1) c.args.k rests) (sym (drop_whole c.sorted_edges-edges.result.now))
           (subst (λ n. AreFirstRests c.args.prices.now arena [] (n - 1) c.args.k rests) (sym c.in_ok-rests.ensures.length) (c.in_ok-rests.ensures.first c.args.prices.now arena c.args.k c.requires.some));
     }
 
 pub take_edge-requires-clause-set : goal.take_edge-requires-clause-set
 take_edge-requires-clause-set c =
-    let edges = c.edges-edges.result.now in
-    let made = c.keeps_made.ensures c.args.g (Graph c.nodes.result edges) (the_graph c.args.arena.now c.args.g c.nodes.result edges c.nodes.ensures c.edges-edges.ensures) in
+    let edges = c.sorted_edges-edges.result.now in
+    let made = sorted_graph c.args.arena.now c.args.g c.nodes.result edges c.nodes.ensures c.sorted_edges-edges.ensures c.keeps_made.ensures in
     let n = c.loop-left.left - 1 in
     let within = c.loop-left.invariant.within in
     let e = c.index-edges-left.result in
-    (made.each n e (here edges n e (omega (arith, c.loop-left-test.true)) c.index-edges-left.is)).atoms.0
+    (made.graph.each n e (here edges n e (omega (arith, c.loop-left-test.true)) c.index-edges-left.is)).atoms.0
 
 pub take_edge-requires-clause-onward : goal.take_edge-requires-clause-onward
 take_edge-requires-clause-onward c =
-    let edges = c.edges-edges.result.now in
-    let made = c.keeps_made.ensures c.args.g (Graph c.nodes.result edges) (the_graph c.args.arena.now c.args.g c.nodes.result edges c.nodes.ensures c.edges-edges.ensures) in
+    let edges = c.sorted_edges-edges.result.now in
+    let made = sorted_graph c.args.arena.now c.args.g c.nodes.result edges c.nodes.ensures c.sorted_edges-edges.ensures c.keeps_made.ensures in
     let n = c.loop-left.left - 1 in
     let within = c.loop-left.invariant.within in
     let e = c.index-edges-left.result in
-    let edge = made.each n e (here edges n e (omega (arith, c.loop-left-test.true)) c.index-edges-left.is) in
+    let edge = made.graph.each n e (here edges n e (omega (arith, c.loop-left-test.true)) c.index-edges-left.is) in
     omega (arith, edge.onward, edge.within, c.loop-left.invariant.nodes, c.in_ok-rests.ensures.length)
 
 pub take_edge-requires-clause-within : goal.take_edge-requires-clause-within
 take_edge-requires-clause-within c =
-    let edges = c.edges-edges.result.now in
-    let made = c.keeps_made.ensures c.args.g (Graph c.nodes.result edges) (the_graph c.args.arena.now c.args.g c.nodes.result edges c.nodes.ensures c.edges-edges.ensures) in
+    let edges = c.sorted_edges-edges.result.now in
+    let made = sorted_graph c.args.arena.now c.args.g c.nodes.result edges c.nodes.ensures c.sorted_edges-edges.ensures c.keeps_made.ensures in
     let n = c.loop-left.left - 1 in
     let within = c.loop-left.invariant.within in
     let e = c.index-edges-left.result in
-    let edge = made.each n e (here edges n e (omega (arith, c.loop-left-test.true)) c.index-edges-left.is) in
+    let edge = made.graph.each n e (here edges n e (omega (arith, c.loop-left-test.true)) c.index-edges-left.is) in
     omega (arith, edge.within, c.loop-left.invariant.nodes, c.in_ok-rests.ensures.length)
 
 pub loop-left-preserved : goal.loop-left-preserved
 loop-left-preserved c =
     let arena = c.args.arena.now in
-    let edges = c.edges-edges.result.now in
-    let made = c.keeps_made.ensures c.args.g (Graph c.nodes.result edges) (the_graph arena c.args.g c.nodes.result edges c.nodes.ensures c.edges-edges.ensures) in
+    let edges = c.sorted_edges-edges.result.now in
+    let made = sorted_graph arena c.args.g c.nodes.result edges c.nodes.ensures c.sorted_edges-edges.ensures c.keeps_made.ensures in
     let left = c.loop-left.left in
     let n = left - 1 in
     let within = c.loop-left.invariant.within in
@@ -79,42 +77,40 @@ loop-left-preserved c =
     let last = length c.in_ok-rests.rests.items - 1 in
     record {
       within = omega arith;
-      known = c.in_ok-take_edge.ensures.known;
+      memo = c.in_ok-take_edge.ensures.memo;
       nodes = c.take_edge.ensures.length ∙ c.loop-left.invariant.nodes;
       first = subst (λ xs. AreFirstRests c.args.prices.now arena xs last c.args.k c.take_edge.new.rests.items) (sym cut) (c.in_ok-take_edge.ensures.first (drop left edges) last first c.loop-left.invariant.first);
     }
 
 pub index_mut-requires : goal.index_mut-requires
 index_mut-requires c =
-    let edges = c.edges-edges.result.now in
-    let made = c.keeps_made.ensures c.args.g (Graph c.nodes.result edges) (the_graph c.args.arena.now c.args.g c.nodes.result edges c.nodes.ensures c.edges-edges.ensures) in
-    omega (arith, made.some, c.loop-left.invariant.nodes, c.in_ok-rests.ensures.length, c.loop-left.rests.ok.0)
+    let edges = c.sorted_edges-edges.result.now in
+    let made = sorted_graph c.args.arena.now c.args.g c.nodes.result edges c.nodes.ensures c.sorted_edges-edges.ensures c.keeps_made.ensures in
+    omega (arith, made.graph.some, c.loop-left.invariant.nodes, c.in_ok-rests.ensures.length, c.loop-left.rests.ok.0)
 
 pub returns : goal.returns
 returns c =
     let arena = c.args.arena.now in
     let k = c.args.k in
-    let edges = c.edges-edges.result.now in
+    let edges = c.sorted_edges-edges.result.now in
     let nodes = c.nodes.result in
-    let is = the_graph arena c.args.g nodes edges c.nodes.ensures c.edges-edges.ensures in
-    let made = c.keeps_made.ensures c.args.g (Graph nodes edges) is in
+    let made = sorted_graph arena c.args.g nodes edges c.nodes.ensures c.sorted_edges-edges.ensures c.keeps_made.ensures in
     let rests = c.loop-left.rests.items in
     let first = c.index_mut.result.now in
-    let there = here rests 0 first (omega (arith, made.some, c.loop-left.invariant.nodes, c.in_ok-rests.ensures.length)) c.index_mut.ensures.value in
+    let there = here rests 0 first (omega (arith, made.graph.some, c.loop-left.invariant.nodes, c.in_ok-rests.ensures.length)) c.index_mut.ensures.value in
     let none : c.loop-left.left ≡ 0 = omega (arith, c.loop-left-test.false) in
     let best = c.loop-left.invariant.first.each 0 first there in
     let all = subst (λ n. AreCheapest (program_cost c.args.prices.now) atoms_cmp (λ p. Walks p arena (drop n edges) (length c.in_ok-rests.rests.items - 1) 0) k first.items) none best in
     let whole = subst (λ n. AreCheapest (program_cost c.args.prices.now) atoms_cmp (λ p. Walks p arena edges (n - 1) 0) k first.items) c.in_ok-rests.ensures.length all in
     let taken = subst (λ (v : Vec (Costed Atoms) Global). AreCheapest (program_cost c.args.prices.now) atoms_cmp (λ p. Walks p arena edges (nodes - 1) 0) k v.items) (sym c.replace.ensures.value) whole in
-    let stand = first_stand c.args.prices.now arena c.args.g nodes k edges c.replace.result.items is taken in
+    let stand = first_stand c.args.prices.now arena c.args.g nodes k edges c.replace.result.items (stands_sorted arena c.args.g nodes edges c.nodes.ensures c.sorted_edges-edges.ensures) taken in
     ok_on _ _ c.programs_of.result c.programs_of.ensures (λ programs same. subst (AreFirst (program_cmp c.args.prices.now) (ProgramStands arena c.args.g) k) (sym same) stand)
 
 pub take_edge-requires-clause-cheap : goal.take_edge-requires-clause-cheap
 take_edge-requires-clause-cheap c =
     let arena = c.args.arena.now in
-    let edges = c.edges-edges.result.now in
+    let edges = c.sorted_edges-edges.result.now in
     let nodes = c.nodes.result in
-    let is = the_graph arena c.args.g nodes edges c.nodes.ensures c.edges-edges.ensures in
     let left = c.loop-left.left in
     let n = left - 1 in
     let within = c.loop-left.invariant.within in
@@ -129,5 +125,5 @@ take_edge-requires-clause-cheap c =
       c.loop-left.invariant.first,
       walks_cheap c.args.prices.now arena (e ∷ drop left edges) edges last
           (λ k f h. (n + k, sym (get_dropped edges n k) ∙ subst (λ l. slice_get l k ≡ Some f) (sym cut) h))
-          (λ p from walk. rest_present c.args.prices.now c.keep_small.ensures arena c.keeps_made.ensures c.args.g nodes edges last from p is walk),
+          (λ p from walk. sorted_present arena c.args.g nodes edges c.nodes.ensures c.sorted_edges-edges.ensures c.keeps_made.ensures c.args.prices.now c.keep_small.ensures last from p walk),
     )

@@ -8,7 +8,7 @@ use Rattle.fill_arena.specs.Stands.{AtomStands, Walks}
 use Rattle.fill_arena.specs.declared.entry.Edge.{Edge}
 use Rattle.fill_arena.specs.declared.entry.Entry.{Entry}
 use Rattle.fill_arena.proofs.Scan.{here}
-use Rattle.fill_rank.proofs.Pieces.{set_here, set_apart}
+use Rattle.fill_arena.proofs.Items.{set_here, set_apart}
 use Rattle.fill_best.specs.Cheapest.{AreCheapest}
 use Rattle.fill_best.specs.declared.costed.Costed.{Costed}
 use Rattle.fill_best.proofs.Walking.{edge_cheap, edge_step}

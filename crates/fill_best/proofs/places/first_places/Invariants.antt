@@ -1,7 +1,7 @@
 use Rattle.std.proofs.Common.{◌≡◌}
 use Rattle.fill_tokens.specs.Place.{place_cmp}
 use Rattle.fill_tokens.specs.Prices.{place_cost}
-use Rattle.fill_rank.specs.Sets.{SomeBelow}
+use Rattle.fill_arena.specs.Contents.{SomeBelow}
 use Rattle.fill_best.specs.Cheapest.{TakesIn}
 use Rattle.fill_best.proofs.places.first_places.Given as goal
 

@@ -14,7 +14,7 @@ use Rattle.fill_best.proofs.places.places_of.Goals as goal
 pub returns-in-Some-clause-first : goal.returns-in-Some-clause-first
 returns-in-Some-clause-first c =
     subst (λ (v : Vec (Costed Place) Global). AreCheapest (place_cost c.args.prices.now) place_cmp (PlaceStands c.args.arena.now c.args.s) c.args.limit v.items) (sym c.in_ok-clone.ensures.cases)
-    (c.in-Some.ensures c.args.prices.now c.args.arena.now c.args.limit c.requires.known)
+    (c.in-Some.ensures c.args.prices.now c.args.arena.now c.args.limit c.requires.memo)
 
 pub returns-clause-first : goal.returns-clause-first
 returns-clause-first c =
@@ -25,13 +25,13 @@ returns-clause-first c =
     (place_stands arena c.args.s places c.places-2.ensures) (stands_place arena c.args.s places c.places-2.ensures) c.in_ok-first_places.ensures in
     subst (λ (v : Vec (Costed Place) Global). AreCheapest (place_cost c.args.prices.now) place_cmp (PlaceStands arena c.args.s) c.args.limit v.items) (sym c.in_ok-found.ensures.ok) first
 
-pub returns-clause-known : goal.returns-clause-known
-returns-clause-known c =
+pub returns-clause-memo : goal.returns-clause-memo
+returns-clause-memo c =
     let arena = c.args.arena.now in
     let places = c.places-2.result.now in
     let found = c.in_ok-first_places.field-0 in
     let first = cheapest_same (place_cost c.args.prices.now) place_cmp place_total exact_places c.args.limit (λ p. In p places) (PlaceStands arena c.args.s) found.items
     (place_stands arena c.args.s places c.places-2.ensures) (stands_place arena c.args.s places c.places-2.ensures) c.in_ok-first_places.ensures in
-    c.in_ok-keep_places.ensures c.args.prices.now arena c.args.limit c.requires.known
+    c.in_ok-keep_places.ensures c.args.prices.now arena c.args.limit c.requires.memo
     (subst (λ (v : Vec (Costed Place) Global). AreCheapest (place_cost c.args.prices.now) place_cmp (PlaceStands arena c.args.s) c.args.limit v.items)
     (sym (c.in_ok-clone-2.ensures.cases ∙ c.in_ok-found.ensures.ok)) first)

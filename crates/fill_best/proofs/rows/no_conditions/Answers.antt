@@ -5,7 +5,7 @@ use Rattle.fill_tree.specs.Order.{atoms_cmp}
 use Rattle.fill_tree.specs.Tree.{end}
 use Rattle.fill_tree.proofs.TreeOrder.{atoms_total, exact_atom_lists}
 use Rattle.fill_arena.specs.Stands.{ConditionsFit}
-use Rattle.fill_rank.proofs.Put.{no_row_mixed}
+use Rattle.fill_arena.proofs.Stand.{no_row_mixed}
 use Rattle.fill_best.specs.Cheapest.{AreCheapest}
 use Rattle.fill_best.proofs.Conditions.{only_end, free}
 use Rattle.fill_best.proofs.Takes.{cheapest_none, cheapest_one}

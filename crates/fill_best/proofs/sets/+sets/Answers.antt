@@ -11,16 +11,15 @@ use Rattle.fill_tree.specs.Order.{source_cmp, atom_cmp, atoms_cmp}
 use Rattle.fill_tree.specs.Tree.{SourceTree, AtomTree, Atoms, more}
 use Rattle.fill_tree.proofs.TreeOrder.{source_total, exact_sources, atom_total, exact_atoms}
 use Rattle.fill_arena.specs.Contents.{EachIn}
-use Rattle.fill_arena.specs.Stands.{ConditionsFit, PlaceStands, SourceFits, SourceStands}
+use Rattle.fill_arena.specs.Stands.{ConditionsFit, PlaceStands, SourceFits, SourceStands, PartFits, PartStands}
 use Rattle.fill_arena.specs.WellMade.{IsAtomItem, IsConditionItem}
 use Rattle.fill_arena.specs.declared.entry.AtomItem.TheVariants as atom
 use Rattle.fill_arena.specs.declared.entry.ConditionItem.{ConditionItem}
 use Rattle.fill_arena.specs.declared.entry.Entry.{Entry}
 use Rattle.fill_arena.specs.declared.entry.Entry.TheVariants as kind
 use Rattle.fill_arena.proofs.Scan.{here}
-use Rattle.fill_rank.specs.Sets.{PartFits, PartStands}
-use Rattle.fill_rank.proofs.Pieces.{each_dropped, drop_whole, drop_here, ok_on}
-use Rattle.fill_rank.proofs.Stand.{atom_items, items_atom, source_items, items_source}
+use Rattle.fill_arena.proofs.Items.{each_dropped, drop_whole, drop_here, ok_on}
+use Rattle.fill_arena.proofs.Stand.{atom_items, items_atom, source_items, items_source}
 use Rattle.fill_best.specs.Cheapest.{AreCheapest, TakesIn}
 use Rattle.fill_best.specs.Costs.{by_cost, linked}
 use Rattle.fill_best.specs.First.{AreFirst, IsMade}
@@ -37,9 +36,9 @@ pub sources_of-returns-clause-first : goal.sources_of-returns-clause-first
 sources_of-returns-clause-first t c =
     subst (λ (v : Vec (Costed SourceTree) Global). AreCheapest (source_cost c.args.prices.now) source_cmp (SourceStands c.args.arena.now c.args.s) c.args.limit v.items) (sym c.in_ok-found.ensures.ok) c.in_ok-scan_sources.ensures.first
 
-pub sources_of-returns-clause-known : goal.sources_of-returns-clause-known
-sources_of-returns-clause-known t c =
-    c.in_ok-keep_sources.ensures c.args.prices.now c.args.arena.now c.args.limit c.in_ok-scan_sources.ensures.known
+pub sources_of-returns-clause-memo : goal.sources_of-returns-clause-memo
+sources_of-returns-clause-memo t c =
+    c.in_ok-keep_sources.ensures c.args.prices.now c.args.arena.now c.args.limit c.in_ok-scan_sources.ensures.memo
     (subst (λ (v : Vec (Costed SourceTree) Global). AreCheapest (source_cost c.args.prices.now) source_cmp (SourceStands c.args.arena.now c.args.s) c.args.limit v.items)
     (sym (c.in_ok-clone-2.ensures.cases ∙ c.in_ok-found.ensures.ok)) c.in_ok-scan_sources.ensures.first)
 
@@ -47,9 +46,9 @@ pub parts_of-returns-clause-first : goal.parts_of-returns-clause-first
 parts_of-returns-clause-first t c =
     subst (λ (v : Vec (Costed AtomTree) Global). AreCheapest (atom_cost c.args.prices.now) atom_cmp (PartStands c.args.arena.now c.args.s) c.args.limit v.items) (sym c.in_ok-found.ensures.ok) c.in_ok-scan_parts.ensures.first
 
-pub parts_of-returns-clause-known : goal.parts_of-returns-clause-known
-parts_of-returns-clause-known t c =
-    c.in_ok-keep_parts.ensures c.args.prices.now c.args.arena.now c.args.limit c.in_ok-scan_parts.ensures.known
+pub parts_of-returns-clause-memo : goal.parts_of-returns-clause-memo
+parts_of-returns-clause-memo t c =
+    c.in_ok-keep_parts.ensures c.args.prices.now c.args.arena.now c.args.limit c.in_ok-scan_parts.ensures.memo
     (subst (λ (v : Vec (Costed AtomTree) Global). AreCheapest (atom_cost c.args.prices.now) atom_cmp (PartStands c.args.arena.now c.args.s) c.args.limit v.items)
     (sym (c.in_ok-clone-2.ensures.cases ∙ c.in_ok-found.ensures.ok)) c.in_ok-scan_parts.ensures.first)
 
@@ -60,7 +59,7 @@ scan_sources-put_source-requires t c =
     let x = c.item-item.result in
     let first = c.loop-item.invariant.first in
     let item = (c.keeps_made.ensures c.args.s (kind.Sources items) c.sources-items.ensures).each i x (here items i x c.loop-item-test.true c.item-item.is) in
-    (search rules, (item, (c.requires.some, (first.rising, (first.few, c.loop-item.invariant.known)))))
+    (search rules, (item, (c.requires.some, (first.rising, (first.few, c.loop-item.invariant.memo)))))
 
 pub scan_sources-loop-item-preserved : goal.scan_sources-loop-item-preserved
 scan_sources-loop-item-preserved t c =
@@ -68,7 +67,7 @@ scan_sources-loop-item-preserved t c =
     let i = c.loop-item.item-index in
     let x = c.item-item.result in
     record {
-      known = c.in_ok-put_source.ensures.known;
+      memo = c.in_ok-put_source.ensures.memo;
       first = scan_more (source_cost c.args.prices.now) source_cmp source_total exact_sources c.args.limit (λ y s. SourceFits s c.args.arena.now y) items i x c.new-kept.result.items c.loop-item.kept.items c.put_source.new.kept.items
           (here items i x c.loop-item-test.true c.item-item.is) c.loop-item.invariant.first c.in_ok-put_source.ensures.first;
     }
@@ -90,7 +89,7 @@ scan_parts-put_parts-requires t c =
     let x = c.item-item.result in
     let first = c.loop-item.invariant.first in
     let item = (c.keeps_made.ensures c.args.s (kind.Atoms items) c.atoms-items.ensures).each i x (here items i x c.loop-item-test.true c.item-item.is) in
-    (search rules, (item, (c.requires.some, (first.rising, (first.few, c.loop-item.invariant.known)))))
+    (search rules, (item, (c.requires.some, (first.rising, (first.few, c.loop-item.invariant.memo)))))
 
 pub scan_parts-loop-item-preserved : goal.scan_parts-loop-item-preserved
 scan_parts-loop-item-preserved t c =
@@ -98,7 +97,7 @@ scan_parts-loop-item-preserved t c =
     let i = c.loop-item.item-index in
     let x = c.item-item.result in
     record {
-      known = c.in_ok-put_parts.ensures.known;
+      memo = c.in_ok-put_parts.ensures.memo;
       first = scan_more (atom_cost c.args.prices.now) atom_cmp atom_total exact_atoms c.args.limit (λ y a. PartFits c.args.arena.now y a) items i x c.new-kept.result.items c.loop-item.kept.items c.put_parts.new.kept.items
           (here items i x c.loop-item-test.true c.item-item.is) c.loop-item.invariant.first c.in_ok-put_parts.ensures.first;
     }
@@ -116,7 +115,7 @@ scan_parts-returns-clause-first t c =
 pub rows_of-loop-left-init : goal.rows_of-loop-left-init
 rows_of-loop-left-init t c = record {
   within = omega arith;
-  known = c.requires.known;
+  memo = c.requires.memo;
   first = subst (λ xs. AreFirstRows c.args.prices.now c.args.arena.now xs c.args.limit c.in_ok-rows.rows) (sym (drop_whole c.args.items.now)) (c.in_ok-rows.ensures c.args.prices.now c.args.arena.now);
 }
 
@@ -136,7 +135,7 @@ rows_of-longer_rows-requires t c =
     let few_here : length (x ∷ drop c.loop-left.left items) ≤ 3 = subst (λ (l : List ConditionItem). length l ≤ 3) cut short in
     let rows : (is : List ConditionItem) × EachIn P (x ∷ is) × (length (x ∷ is) ≤ 3) × AreFirstRows c.args.prices.now c.args.arena.now is c.args.limit c.loop-left.rows =
     (drop c.loop-left.left items, older, few_here, c.loop-left.invariant.first) in
-    (search rules, (c.requires.items n x at, (rows, (c.requires.some, c.loop-left.invariant.known))))
+    (search rules, (c.requires.items n x at, (rows, (c.requires.some, c.loop-left.invariant.memo))))
 
 pub rows_of-loop-left-preserved : goal.rows_of-loop-left-preserved
 rows_of-loop-left-preserved t c =
@@ -150,7 +149,7 @@ rows_of-loop-left-preserved t c =
     let cut : drop n items ≡ x ∷ drop c.loop-left.left items = drop_here items n x at ∙ ap (λ m. x ∷ drop m items) next in
     record {
       within = omega arith;
-      known = c.in_ok-rows-2.ensures.known;
+      memo = c.in_ok-rows-2.ensures.memo;
       first = subst (λ xs. AreFirstRows c.args.prices.now arena xs c.args.limit c.in_ok-rows-2.rows) (sym cut) (c.in_ok-rows-2.ensures.first (drop c.loop-left.left items) c.loop-left.invariant.first);
     }
 
@@ -181,7 +180,7 @@ pub put_lookups-rows_of-requires : goal.put_lookups-rows_of-requires
 put_lookups-rows_of-requires t c =
     let older = subst (EachIn (IsConditionItem c.args.arena.now c.args.set)) (sym c.as_slice.ensures) c.requires.item.older in
     let few = subst (λ (l : List ConditionItem). length l ≤ 3) (sym c.as_slice.ensures) c.requires.item.few in
-    (search rules, (older, (few, (c.requires.some, c.requires.known))))
+    (search rules, (older, (few, (c.requires.some, c.requires.memo))))
 
 mixed_rows : (prices : Prices) (arena : List Entry) (k : ℕ) (given listed : List ConditionItem) (kept taken : List (Costed Atoms)) → taken ≡ kept → listed ≡ given →
     AreCheapest (conditions_cost prices) atoms_cmp (λ p. HasPart p × ConditionsFit p arena listed) k kept → AreCheapest (conditions_cost prices) atoms_cmp (λ p. HasPart p × ConditionsFit p arena given) k taken

@@ -1,10 +1,10 @@
 use Rattle.std.proofs.Common.{◌+◌, ◌*◌, ◌≤◌, length, drop}
 use Rattle.fill_tree.specs.Cost.{source_cost, atom_cost}
 use Rattle.fill_tree.specs.Order.{source_cmp, atom_cmp}
-use Rattle.fill_arena.specs.Stands.{SourceFits}
-use Rattle.fill_rank.specs.Sets.{PartFits, SomeBelow}
+use Rattle.fill_arena.specs.Stands.{SourceFits, PartFits}
+use Rattle.fill_arena.specs.Contents.{SomeBelow}
 use Rattle.fill_best.specs.Cheapest.{TakesIn}
-use Rattle.fill_best.specs.Known.{AreKnown}
+use Rattle.fill_best.specs.Memo.{IsMemoOf}
 use Rattle.fill_best.specs.Rows.{AreFirstRows}
 use Rattle.fill_best.proofs.sets.+sets.Given as goal
 
@@ -40,20 +40,20 @@ decreases-put_parts l = 16 * l.set + 3
 
 abbrev pub invariant-scan_sources-loop-item : goal.invariant-scan_sources-loop-item
 invariant-scan_sources-loop-item l = record {
-  known : AreKnown l.prices l.arena l.limit l.known;
+  memo : IsMemoOf l.prices l.arena l.limit l.memo;
   first : TakesIn (source_cost l.prices) source_cmp (λ x. SomeBelow l.item-index l.items (λ y. SourceFits x l.arena y)) l.limit l.initial.kept.items l.kept.items;
 }
 
 abbrev pub invariant-scan_parts-loop-item : goal.invariant-scan_parts-loop-item
 invariant-scan_parts-loop-item l = record {
-  known : AreKnown l.prices l.arena l.limit l.known;
+  memo : IsMemoOf l.prices l.arena l.limit l.memo;
   first : TakesIn (atom_cost l.prices) atom_cmp (λ a. SomeBelow l.item-index l.items (λ y. PartFits l.arena y a)) l.limit l.initial.kept.items l.kept.items;
 }
 
 abbrev pub invariant-rows_of-loop-left : goal.invariant-rows_of-loop-left
 invariant-rows_of-loop-left l = record {
   within : l.left ≤ length l.items;
-  known : AreKnown l.prices l.arena l.limit l.known;
+  memo : IsMemoOf l.prices l.arena l.limit l.memo;
   first : AreFirstRows l.prices l.arena (drop l.left l.items) l.limit l.rows;
 }
 

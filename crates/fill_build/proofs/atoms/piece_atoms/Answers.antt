@@ -2,7 +2,9 @@ use Rattle.std.proofs.Common.{ℕ, List, refl, sym, subst, ◌∙◌, get_or}
 use Rattle.std.proofs.lemmas.Option.{slice_get-get_or}
 use Rattle.fill_arena.proofs.Lists.{extends_on, extends_same}
 use Rattle.fill_sources.specs.Sets.{texts_of}
-use Rattle.fill_build.specs.Pieces.{AddsAtoms, IsReadable, ReadsHit}
+use Rattle.fill_sources.specs.Readers.{AddsAtoms, IsReadable, ReadsSpot}
+use Rattle.fill_sources.specs.declared.spots.Spot.{Spot}
+use Rattle.fill_build.specs.Hits.{spot_of}
 use Rattle.fill_build.specs.declared.hits.Hit.{Hit}
 use Rattle.fill_build.proofs.Readers.{items_start, items_more, items_end, readable}
 use Rattle.fill_build.proofs.atoms.piece_atoms.Goals as goal
@@ -20,23 +22,28 @@ put_readers-requires-clause-within c =
     let none : Hit = record { text = 0; at = 0; run = 0 } in
     let hit = get_or c.args.hits.now c.loop-i.i none in
     let at = slice_get-get_or c.args.hits.now c.loop-i.i none c.loop-i-test.true in
-    subst (λ (ts : List (List ℕ)). IsReadable ts hit c.args.piece.now.width) (sym c.loop-i.invariant.texts)
-    (readable c.args.on.now (texts_of c.args.known.now) c.args.piece.now c.args.hits.now c.requires.piece c.requires.hits c.loop-i.i hit at)
+    let width = c.args.piece.now.width in
+    let there = readable c.args.on.now (texts_of c.args.known.now) c.args.piece.now c.args.hits.now c.requires.piece c.requires.hits c.loop-i.i hit at in
+    subst (λ (s : Spot). IsReadable (texts_of c.loop-i.known) s width) (sym c.spot-spot.ensures)
+    (subst (λ (ts : List (List ℕ)). IsReadable ts (spot_of hit) width) (sym c.loop-i.invariant.texts) there)
 
 pub loop-i-preserved : goal.loop-i-preserved
 loop-i-preserved c =
     let none : Hit = record { text = 0; at = 0; run = 0 } in
     let hit = get_or c.args.hits.now c.loop-i.i none in
     let at = slice_get-get_or c.args.hits.now c.loop-i.i none c.loop-i-test.true in
-    let put =
-    subst (λ (ts : List (List ℕ)). AddsAtoms c.loop-i.arena c.put_readers.new.arena c.loop-i.items c.put_readers.new.items (ReadsHit c.args.on.now ts hit c.args.piece.now.width))
-    c.loop-i.invariant.texts c.in_ok-put_readers.ensures.adds in
+    let on = c.args.on.now in
+    let width = c.args.piece.now.width in
+    let arena = c.put_readers.new.arena in
+    let old = c.loop-i.items in
+    let new = c.put_readers.new.items in
+    let spot = subst (λ (s : Spot). AddsAtoms arena old new (ReadsSpot on (texts_of c.loop-i.known) s width)) c.spot-spot.ensures c.in_ok-put_readers.ensures.adds in
+    let put = subst (λ (ts : List (List ℕ)). AddsAtoms arena old new (ReadsSpot on ts (spot_of hit) width)) c.loop-i.invariant.texts spot in
     record {
       kept = extends_on _ _ _ c.loop-i.invariant.kept c.put_readers.ensures.kept;
       known = c.in_ok-put_readers.ensures.known;
       texts = c.put_readers.ensures.texts ∙ c.loop-i.invariant.texts;
-      items = items_more c.args.on.now (texts_of c.args.known.now) c.args.piece.now c.args.hits.now c.loop-i.arena c.put_readers.new.arena c.put_readers.ensures.kept c.loop-i.i hit at
-          c.loop-i.items c.put_readers.new.items c.loop-i.invariant.items put;
+      items = items_more on (texts_of c.args.known.now) c.args.piece.now c.args.hits.now c.loop-i.arena arena c.put_readers.ensures.kept c.loop-i.i hit at old new c.loop-i.invariant.items put;
     }
 
 pub returns-clause-items : goal.returns-clause-items

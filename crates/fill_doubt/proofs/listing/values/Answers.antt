@@ -8,10 +8,10 @@ use Rattle.fill_doubt.proofs.listing.values.Goals as goal
 pub atoms_of-requires-clause-row : goal.atoms_of-requires-clause-row
 atoms_of-requires-clause-row c = record { first = c.requires.first; last = c.requires.last; distinguish = c.keeps_keys.ensures; made = c.keeps_made.ensures }
 
-pub atoms_of-requires-clause-known : goal.atoms_of-requires-clause-known
-atoms_of-requires-clause-known c =
+pub atoms_of-requires-clause-memo : goal.atoms_of-requires-clause-memo
+atoms_of-requires-clause-memo c =
     let on : OnRow = record { alloc = c.args.alloc; arena = c.args.arena; row = c.args.row; sheet = c.args.sheet; tables = c.args.tables } in
-    c.new-known.ensures on (c.new.ensures c.args.arena.now)
+    c.new-memo.ensures on (c.new.ensures c.args.arena.now)
 
 pub sorted-requires : goal.sorted-requires
 sorted-requires c = subst (λ (xs : List Piece). EachIn IsWithin xs) (sym c.as_slice.ensures.value) c.in_ok-found.ensures.within

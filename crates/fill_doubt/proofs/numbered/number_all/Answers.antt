@@ -10,9 +10,9 @@ pub loop-i-init : goal.loop-i-init
 loop-i-init c =
     let start : NumberedTexts = record { texts = c.new.result; none = c.args.found.now.none } in
     record {
-      known = λ on are. are;
+      memo = λ on are. are;
       gains = below_start (λ x o. o ≡ Some x.now) c.args.found.now.texts.items (NumberedHave start);
-      numbered = numbered_none c.args.known.now.texts.items start c.new.ensures.items;
+      numbered = numbered_none c.args.memo.now.texts.items start c.new.ensures.items;
     }
 
 pub loop-i-preserved : goal.loop-i-preserved
@@ -22,7 +22,7 @@ loop-i-preserved c =
     let lt : c.loop-i.i < length xs.items = (let n = xs.ok.0 in let l = c.len-i-end.ensures in let t = c.loop-i-test.true in omega arith) in
     let start : NumberedTexts = record { texts = c.new.result; none = c.args.found.now.none } in
     record {
-      known = λ on are. c.in_ok-put_numbered.ensures.known on (c.loop-i.invariant.known on are);
+      memo = λ on are. c.in_ok-put_numbered.ensures.memo on (c.loop-i.invariant.memo on are);
       gains = below_more (λ y o. o ≡ Some y.now) xs.items (NumberedHave start) (NumberedHave c.loop-i.made) (NumberedHave c.put_numbered.new.made) c.loop-i.i x
           (here xs.items c.loop-i.i x lt c.index.ensures) c.loop-i.invariant.gains c.in_ok-put_numbered.ensures.gains;
       numbered = c.in_ok-put_numbered.ensures.numbered c.loop-i.invariant.numbered;

@@ -10,7 +10,7 @@ returns-in-Ok-clause-gains c = have_pushed (λ x. x.text.now) c.args.made.now.te
 
 pub returns-in-Ok-clause-numbered : goal.returns-in-Ok-clause-numbered
 returns-in-Ok-clause-numbered c = λ are.
-    let old = c.args.known.now.texts.items in
+    let old = c.args.memo.now.texts.items in
     let texts = c.number_for.new.self.texts.items in
     let x : Numbered = record { text = c.args.text; number = c.in_ok-number.number } in
     let more : NumberedTexts = record { texts = c.push.new.self; none = c.args.made.now.none } in

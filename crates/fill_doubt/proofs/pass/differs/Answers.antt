@@ -1,7 +1,7 @@
 use Rattle.std.proofs.Common.{◌≡◌, ◌-◌, ℕ, length, drop, List, Option, refl, sym, ap, subst, ◌∙◌, arith}
 use Rattle.std.proofs.lemmas.Bool.{false≢true}
 use Rattle.fill_arena.proofs.Scan.{here}
-use Rattle.fill_doubt.specs.Known.{EdgeAnswers}
+use Rattle.fill_doubt.specs.Memo.{EdgeAnswers}
 use Rattle.std.proofs.Common.{◌+◌}
 use Rattle.fill_doubt.specs.Walks.{AreLaid, KeepsLengths}
 use Rattle.fill_doubt.proofs.Flags.{fine_on, match_false, match_true, written}
@@ -12,7 +12,7 @@ pub loop-i-init : goal.loop-i-init
 loop-i-init c =
     let h = c.in_ok-lengths.ensures in
     record {
-      known = c.requires.known;
+      memo = c.requires.memo;
       long = h.long;
       laid = laid_start (EdgeAnswers c.args.on.now) c.args.edges.now c.args.text.now c.in_ok-lengths.lengths.items h.first h.others;
       all = record { agree = λ k e l g. absurd (omega arith) };
@@ -21,7 +21,7 @@ loop-i-init c =
 pub follow_edge-requires-clause-atoms : goal.follow_edge-requires-clause-atoms
 follow_edge-requires-clause-atoms c =
     let x = c.index-edges-i.result in
-    (c.requires.edges.1.each c.loop-i.i x (here c.args.edges.now c.loop-i.i x c.loop-i-test.true c.index-edges-i.is)).atoms.0
+    (c.requires.edges.1.graph.each c.loop-i.i x (here c.args.edges.now c.loop-i.i x c.loop-i-test.true c.index-edges-i.is)).atoms.0
 
 pub follow_edge-requires-clause-from : goal.follow_edge-requires-clause-from
 follow_edge-requires-clause-from c =
@@ -35,7 +35,7 @@ pub follow_edge-requires-clause-to : goal.follow_edge-requires-clause-to
 follow_edge-requires-clause-to c =
     let x = c.index-edges-i.result in
     let at = here c.args.edges.now c.loop-i.i x c.loop-i-test.true c.index-edges-i.is in
-    let w = (c.requires.edges.1.each c.loop-i.i x at).within in
+    let w = (c.requires.edges.1.graph.each c.loop-i.i x at).within in
     let size = ap length c.as_mut_slice.ensures.value in
     let long = c.loop-i.invariant.long in
     omega arith
@@ -77,7 +77,7 @@ loop-i-preserved c =
     let keeps = subst (λ (ls : List (Option ℕ)). KeepsLengths ls new) c.as_mut_slice.ensures.value c.in_ok-follow_edge.ensures.keeps in
     let all = all_more G edges text old new c.loop-i.i x at keeps c.loop-i.invariant.all agrees in
     record {
-      known = c.in_ok-follow_edge.ensures.known;
+      memo = c.in_ok-follow_edge.ensures.memo;
       long = ap length is ∙ (let k = c.loop-i.lengths.ok.0 in let l = c.loop-i.invariant.long in omega arith);
       laid = subst (λ (ls : List (Option ℕ)). AreLaid G edges text ls) (sym is) laid;
       all = subst (λ (ls : List (Option ℕ)). AllAgree G edges text ls (c.loop-i.i + 1)) (sym is) all;

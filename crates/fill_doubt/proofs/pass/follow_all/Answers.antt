@@ -2,7 +2,7 @@ use Rattle.std.proofs.Common.{None, Some, inl, inr, refl, sym, ◌∙◌}
 use Rattle.std.proofs.lemmas.Bool.{false≢true}
 use Rattle.fill_doubt.proofs.Flags.{match_map}
 use Rattle.fill_doubt.proofs.Laid.{laid_short}
-use Rattle.fill_doubt.specs.Known.{EdgeAnswers}
+use Rattle.fill_doubt.specs.Memo.{EdgeAnswers}
 use Rattle.fill_doubt.proofs.pass.follow_all.Goals as goal
 
 pub follow_pieces-requires-clause-short : goal.follow_pieces-requires-clause-short

@@ -1,6 +1,6 @@
 use Rattle.std.proofs.Common.{rules, ◌≡◌, ℕ, get_or, Some, None, slice_get, sym, ap, ◌∙◌, subst, refl}
 use Rattle.std.proofs.lemmas.Option.{slice_get-get_or, slice_get_within}
-use Rattle.fill_doubt.specs.Known.{EdgeAnswers}
+use Rattle.fill_doubt.specs.Memo.{EdgeAnswers}
 use Rattle.fill_doubt.specs.Walks.{IsAt}
 use Rattle.fill_doubt.proofs.Laid.{laid_more, keeps_set, short_set}
 use Rattle.fill_doubt.proofs.Tables.{set_same}

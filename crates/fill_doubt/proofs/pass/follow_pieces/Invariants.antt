@@ -4,7 +4,7 @@ use Rattle.fill_arena.specs.declared.entry.Edge.{Edge}
 use Rattle.fill_eval.specs.Piece.{piece_text}
 use Rattle.fill_eval.specs.declared.piece.Piece.{Piece}
 use Rattle.fill_doubt.specs.Answers.{PiecesHave}
-use Rattle.fill_doubt.specs.Known.{EdgeAnswers}
+use Rattle.fill_doubt.specs.Memo.{EdgeAnswers}
 use Rattle.fill_doubt.specs.Walks.{Agrees, AreLaid, IsAt, KeepsLengths}
 use Rattle.fill_doubt.specs.declared.row.OnRow.{OnRow}
 use Rattle.fill_doubt.proofs.pass.follow_pieces.Given as goal

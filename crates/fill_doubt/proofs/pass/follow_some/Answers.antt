@@ -1,5 +1,5 @@
 use Rattle.std.proofs.Common.{None, Some, inl, inr, refl}
-use Rattle.fill_doubt.specs.Known.{EdgeAnswers}
+use Rattle.fill_doubt.specs.Memo.{EdgeAnswers}
 use Rattle.fill_doubt.proofs.Flags.{match_false}
 use Rattle.fill_doubt.proofs.Laid.{laid_short}
 use Rattle.fill_doubt.proofs.pass.follow_some.Goals as goal

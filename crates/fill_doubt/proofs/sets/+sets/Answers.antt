@@ -9,7 +9,7 @@ use Rattle.fill_eval.specs.declared.piece.Piece.{Piece}
 use Rattle.fill_doubt.specs.Answers.{PiecesHave, TextsHave}
 use Rattle.fill_doubt.specs.Gives.{ArePiecesOf, AreWholes}
 use Rattle.fill_doubt.specs.Numbered.{AreNumbered, NumberedHave}
-use Rattle.fill_doubt.specs.Known.{PartAnswers, PartItemAnswers, RowAnswers, SourceAnswers, SourceItemAnswers}
+use Rattle.fill_doubt.specs.Memo.{PartAnswers, PartItemAnswers, RowAnswers, SourceAnswers, SourceItemAnswers}
 use Rattle.fill_doubt.specs.Rows.{AreFound, RowText, RowsHave}
 use Rattle.fill_doubt.specs.declared.conditions.Cells.{Cells}
 use Rattle.fill_doubt.proofs.Flags.{if_ok, on_ok}
@@ -20,7 +20,7 @@ use Rattle.fill_doubt.proofs.sets.+sets.Goals as goal
 
 pub scan_sources-loop-item-init : goal.scan_sources-loop-item-init
 scan_sources-loop-item-init n c = record {
-  known = c.requires.known;
+  memo = c.requires.memo;
   gains = below_start (λ i. SourceItemAnswers c.args.on.now i) c.sources-items.result.now (TextsHave c.new-found.result);
 }
 
@@ -29,7 +29,7 @@ scan_sources-put_source-requires n c =
     let items = c.sources-items.result.now in
     let i = c.loop-item.item-index in
     let x = c.item-item.result in
-    (search rules, ((c.keeps_made.ensures c.args.s (Sources items) c.sources-items.ensures).each i x (here items i x c.loop-item-test.true c.item-item.is), (c.requires.row, c.loop-item.invariant.known)))
+    (search rules, ((c.keeps_made.ensures c.args.s (Sources items) c.sources-items.ensures).each i x (here items i x c.loop-item-test.true c.item-item.is), (c.requires.row, c.loop-item.invariant.memo)))
 
 pub scan_sources-loop-item-preserved : goal.scan_sources-loop-item-preserved
 scan_sources-loop-item-preserved n c =
@@ -37,7 +37,7 @@ scan_sources-loop-item-preserved n c =
     let i = c.loop-item.item-index in
     let x = c.item-item.result in
     record {
-      known = c.in_ok-put_source.ensures.known;
+      memo = c.in_ok-put_source.ensures.memo;
       gains = below_more (λ y. SourceItemAnswers c.args.on.now y) items (TextsHave c.new-found.result) (TextsHave c.loop-item.found) (TextsHave c.put_source.new.found) i x
           (here items i x c.loop-item-test.true c.item-item.is) c.loop-item.invariant.gains c.in_ok-put_source.ensures.gains;
     }
@@ -54,7 +54,7 @@ scan_sources-returns-clause-exact n c =
 
 pub scan_parts-loop-item-init : goal.scan_parts-loop-item-init
 scan_parts-loop-item-init n c = record {
-  known = c.requires.known;
+  memo = c.requires.memo;
   within = c.new-found.ensures.within;
   gains = below_start (λ i. PartItemAnswers c.args.on.now i) c.atoms-items.result.now (PiecesHave c.new-found.result);
 }
@@ -64,7 +64,7 @@ scan_parts-put_part-requires n c =
     let items = c.atoms-items.result.now in
     let i = c.loop-item.item-index in
     let x = c.item-item.result in
-    (search rules, ((c.keeps_made.ensures c.args.s (Atoms items) c.atoms-items.ensures).each i x (here items i x c.loop-item-test.true c.item-item.is), (c.requires.row, (c.loop-item.invariant.known, c.loop-item.invariant.within))))
+    (search rules, ((c.keeps_made.ensures c.args.s (Atoms items) c.atoms-items.ensures).each i x (here items i x c.loop-item-test.true c.item-item.is), (c.requires.row, (c.loop-item.invariant.memo, c.loop-item.invariant.within))))
 
 pub scan_parts-loop-item-preserved : goal.scan_parts-loop-item-preserved
 scan_parts-loop-item-preserved n c =
@@ -72,7 +72,7 @@ scan_parts-loop-item-preserved n c =
     let i = c.loop-item.item-index in
     let x = c.item-item.result in
     record {
-      known = c.in_ok-put_part.ensures.known;
+      memo = c.in_ok-put_part.ensures.memo;
       within = c.in_ok-put_part.ensures.within;
       gains = below_more (λ y. PartItemAnswers c.args.on.now y) items (PiecesHave c.new-found.result) (PiecesHave c.loop-item.found) (PiecesHave c.put_part.new.found) i x
           (here items i x c.loop-item-test.true c.item-item.is) c.loop-item.invariant.gains (c.in_ok-put_part.ensures.all refl);
@@ -89,14 +89,14 @@ scan_parts-returns-clause-exact n c =
     (gains_alike old new (λ o. SomeIn (λ y. PartItemAnswers on y o) items) (PartAnswers on c.args.s) (parts_listed on c.requires.row c.args.s items c.atoms-items.ensures) all)
 
 pub conditions_of-loop-i-init : goal.conditions_of-loop-i-init
-conditions_of-loop-i-init n c = record { known = c.requires.known; joined = joined_start c.args.on.now c.requires.row c.args.items.now c.new-made.result.items c.new-made.ensures.items }
+conditions_of-loop-i-init n c = record { memo = c.requires.memo; joined = joined_start c.args.on.now c.requires.row c.args.items.now c.new-made.result.items c.new-made.ensures.items }
 
 pub conditions_of-condition_of-requires : goal.conditions_of-condition_of-requires
 conditions_of-condition_of-requires n c =
     let items = c.args.items.now in
     let i = c.loop-i.i in
     let x = c.index-items-i.result in
-    (search rules, (c.requires.items i x (here items i x c.loop-i-test.true c.index-items-i.is), (c.requires.row, c.loop-i.invariant.known)))
+    (search rules, (c.requires.items i x (here items i x c.loop-i-test.true c.index-items-i.is), (c.requires.row, c.loop-i.invariant.memo)))
 
 pub conditions_of-loop-i-preserved : goal.conditions_of-loop-i-preserved
 conditions_of-loop-i-preserved n c =
@@ -106,7 +106,7 @@ conditions_of-loop-i-preserved n c =
     let x = c.index-items-i.result in
     let next : suc i ≡ i + 1 = omega arith in
     record {
-      known = c.in_ok-cells.ensures.known;
+      memo = c.in_ok-cells.ensures.memo;
       joined = subst (λ m. AreJoinedTo on items m c.push.new.self.items) next
           (joined_more on c.requires.row items i x (here items i x c.loop-i-test.true c.index-items-i.is) c.loop-i.made.items c.push.new.self.items c.in_ok-cells.cells c.in_ok-push.ensures.items c.in_ok-cells.ensures.exact c.loop-i.invariant.joined);
     }
@@ -177,10 +177,10 @@ put_part-returns-in_ok-put_subs-in-Sub-clause-all n c =
     λ few. gains_alike _ _ (ArePiecesOf on.arena.now l r T) (PartItemAnswers on c.args.item.now) item (c.in_ok-put_subs-in-Sub.ensures.all few)
 
 pub sources_of-returns-in-Some-clause-exact : goal.sources_of-returns-in-Some-clause-exact
-sources_of-returns-in-Some-clause-exact n c = c.in-Some.ensures.answers c.args.on.now c.requires.known
+sources_of-returns-in-Some-clause-exact n c = c.in-Some.ensures.answers c.args.on.now c.requires.memo
 
 pub sources_of-returns-in-Some-clause-numbered : goal.sources_of-returns-in-Some-clause-numbered
-sources_of-returns-in-Some-clause-numbered n c = subst (λ v. AreNumbered v.items c.in-Some.found) (sym c.in-Some.ensures.texts) (c.in-Some.ensures.numbered c.args.on.now c.requires.known)
+sources_of-returns-in-Some-clause-numbered n c = subst (λ v. AreNumbered v.items c.in-Some.found) (sym c.in-Some.ensures.texts) (c.in-Some.ensures.numbered c.args.on.now c.requires.memo)
 
 pub sources_of-returns-clause-exact : goal.sources_of-returns-clause-exact
 sources_of-returns-clause-exact n c = λ o.
@@ -191,13 +191,13 @@ sources_of-returns-clause-exact n c = λ o.
 pub sources_of-returns-clause-numbered : goal.sources_of-returns-clause-numbered
 sources_of-returns-clause-numbered n c = subst (λ v. AreNumbered v.items c.in_ok-numbered.numbered) (sym c.keep_source.ensures.texts) c.in_ok-numbered.ensures.numbered
 
-pub sources_of-returns-clause-known : goal.sources_of-returns-clause-known
-sources_of-returns-clause-known n c =
+pub sources_of-returns-clause-memo : goal.sources_of-returns-clause-memo
+sources_of-returns-clause-memo n c =
     let on = c.args.on.now in
     let made = c.in_ok-numbered.numbered in
     let copied = c.in_ok-copy.field-0 in
     let same = c.in_ok-copy.ensures in
-    c.in_ok-keep_source.ensures.known on (c.in_ok-numbered.ensures.known on c.in_ok-found.ensures.known) (numbered_same c.number_all.new.known.texts.items made copied same.0 c.in_ok-numbered.ensures.numbered)
+    c.in_ok-keep_source.ensures.memo on (c.in_ok-numbered.ensures.memo on c.in_ok-found.ensures.memo) (numbered_same c.number_all.new.memo.texts.items made copied same.0 c.in_ok-numbered.ensures.numbered)
     (have_same (λ x. x.text.now) copied.texts.items made.texts.items copied.none made.none same.0 same.1 (SourceAnswers on c.args.s)
     (λ o. ((λ h. (c.in_ok-found.ensures.exact o).0 ((c.in_ok-numbered.ensures.same o).0 h)), (λ h. (c.in_ok-numbered.ensures.same o).1 ((c.in_ok-found.ensures.exact o).1 h)))))
 
@@ -205,19 +205,19 @@ pub parts_of-returns-in-Some-clause-exact : goal.parts_of-returns-in-Some-clause
 parts_of-returns-in-Some-clause-exact n c =
     let on = c.args.on.now in
     let found = c.in-Some.found.now in
-    let exact = c.in-Some.ensures.answers on c.requires.known in
+    let exact = c.in-Some.ensures.answers on c.requires.memo in
     if_ok c.copy.result c.copy.ensures (λ f same. have_same piece_text f.pieces.items found.pieces.items f.none found.none same.0 same.1 (PartAnswers on c.args.s) exact)
 
 pub parts_of-returns-in-Some-clause-within : goal.parts_of-returns-in-Some-clause-within
 parts_of-returns-in-Some-clause-within n c =
     let on = c.args.on.now in
-    if_ok c.copy.result c.copy.ensures (λ f same. subst (λ (xs : List Piece). EachIn IsWithin xs) (sym same.0) (c.in-Some.ensures.within on c.requires.known))
+    if_ok c.copy.result c.copy.ensures (λ f same. subst (λ (xs : List Piece). EachIn IsWithin xs) (sym same.0) (c.in-Some.ensures.within on c.requires.memo))
 
-pub parts_of-returns-clause-known : goal.parts_of-returns-clause-known
-parts_of-returns-clause-known n c =
+pub parts_of-returns-clause-memo : goal.parts_of-returns-clause-memo
+parts_of-returns-clause-memo n c =
     let on = c.args.on.now in
     let found = c.in_ok-found.found in
     let copied = c.in_ok-copy.field-0 in
     let same = c.in_ok-copy.ensures in
-    c.in_ok-keep_part.ensures on c.in_ok-found.ensures.known (subst (λ (xs : List Piece). EachIn IsWithin xs) (sym same.0) c.in_ok-found.ensures.within)
+    c.in_ok-keep_part.ensures on c.in_ok-found.ensures.memo (subst (λ (xs : List Piece). EachIn IsWithin xs) (sym same.0) c.in_ok-found.ensures.within)
     (have_same piece_text copied.pieces.items found.pieces.items copied.none found.none same.0 same.1 (PartAnswers on c.args.s) c.in_ok-found.ensures.exact)

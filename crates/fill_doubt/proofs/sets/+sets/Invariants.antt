@@ -2,7 +2,7 @@ use Rattle.std.proofs.Common.{◌+◌, ◌*◌}
 use Rattle.fill_arena.specs.Contents.{EachIn}
 use Rattle.fill_eval.specs.Piece.{IsWithin}
 use Rattle.fill_doubt.specs.Answers.{Gains, PiecesHave, TextsHave}
-use Rattle.fill_doubt.specs.Known.{AreKnown, PartItemAnswers, SourceItemAnswers}
+use Rattle.fill_doubt.specs.Memo.{IsMemoOf, PartItemAnswers, SourceItemAnswers}
 use Rattle.fill_doubt.proofs.Gains.{SomeBelow}
 use Rattle.fill_doubt.proofs.Items.{AreJoinedTo}
 use Rattle.fill_doubt.proofs.sets.+sets.Given as goal
@@ -40,19 +40,19 @@ decreases-put_part l = 8 * l.set + 5
 
 abbrev pub invariant-scan_sources-loop-item : goal.invariant-scan_sources-loop-item
 invariant-scan_sources-loop-item l = record {
-  known : AreKnown l.on l.known;
+  memo : IsMemoOf l.on l.memo;
   gains : Gains (TextsHave l.initial.found) (TextsHave l.found) (λ o. SomeBelow l.item-index l.items (λ i. SourceItemAnswers l.on i o));
 }
 
 abbrev pub invariant-scan_parts-loop-item : goal.invariant-scan_parts-loop-item
 invariant-scan_parts-loop-item l = record {
-  known : AreKnown l.on l.known;
+  memo : IsMemoOf l.on l.memo;
   within : EachIn IsWithin l.found.pieces.items;
   gains : Gains (PiecesHave l.initial.found) (PiecesHave l.found) (λ o. SomeBelow l.item-index l.items (λ i. PartItemAnswers l.on i o));
 }
 
 abbrev pub invariant-conditions_of-loop-i : goal.invariant-conditions_of-loop-i
 invariant-conditions_of-loop-i l = record {
-  known : AreKnown l.on l.known;
+  memo : IsMemoOf l.on l.memo;
   joined : AreJoinedTo l.on l.items l.i l.made.items;
 }

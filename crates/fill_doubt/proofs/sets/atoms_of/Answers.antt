@@ -1,6 +1,6 @@
 use Rattle.fill_arena.proofs.Scan.{here}
 use Rattle.fill_doubt.specs.Answers.{PiecesHave}
-use Rattle.fill_doubt.specs.Known.{ConstantItemAnswers}
+use Rattle.fill_doubt.specs.Memo.{ConstantItemAnswers}
 use Rattle.fill_doubt.proofs.Gains.{below_start, below_more, below_end}
 use Rattle.fill_doubt.proofs.Items.{atoms_by}
 use Rattle.fill_doubt.proofs.sets.atoms_of.Goals as goal

@@ -1,7 +1,7 @@
 use Rattle.fill_arena.specs.Contents.{EachIn}
 use Rattle.fill_eval.specs.Piece.{IsWithin}
 use Rattle.fill_doubt.specs.Answers.{Gains, PiecesHave}
-use Rattle.fill_doubt.specs.Known.{ConstantItemAnswers}
+use Rattle.fill_doubt.specs.Memo.{ConstantItemAnswers}
 use Rattle.fill_doubt.proofs.Gains.{SomeBelow}
 use Rattle.fill_doubt.proofs.sets.atoms_of.Given as goal
 

@@ -1,6 +1,6 @@
 use Rattle.std.proofs.Common.{◌≡◌, None, Some, sym, ◌∙◌}
 use Rattle.fill_arena.specs.declared.entry.SourceItem.TheVariants as source
-use Rattle.fill_doubt.specs.Known.{SourceItemAnswers}
+use Rattle.fill_doubt.specs.Memo.{SourceItemAnswers}
 use Rattle.fill_doubt.proofs.Flags.{on_ok}
 use Rattle.fill_doubt.proofs.Gains.{gains_alike, have_none}
 use Rattle.fill_doubt.proofs.Items.{column_item}

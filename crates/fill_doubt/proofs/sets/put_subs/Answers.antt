@@ -12,7 +12,7 @@ use Rattle.fill_doubt.proofs.sets.put_subs.Goals as goal
 
 pub loop-i-init : goal.loop-i-init
 loop-i-init c = record {
-  known = c.requires.known;
+  memo = c.requires.memo;
   texts = refl;
   within = subst (λ (xs : List Piece). EachIn IsWithin xs) (sym (ap (λ v. v.items) c.put_none.ensures.kept)) c.requires.within;
   some = λ o h. inl h;
@@ -36,7 +36,7 @@ loop-i-preserved c =
     let mid = PiecesHave c.loop-i.found in
     let new = PiecesHave c.put_pieces.new.found in
     record {
-      known = c.in_ok-put_pieces.ensures.known;
+      memo = c.in_ok-put_pieces.ensures.memo;
       texts = c.put_pieces.ensures.texts ∙ c.loop-i.invariant.texts;
       within = c.in_ok-put_pieces.ensures.within;
       some = some_more (PiecesHave c.put_none.new.self) mid new R c.loop-i.invariant.some

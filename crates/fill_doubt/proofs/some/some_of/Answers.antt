@@ -6,7 +6,7 @@ use Rattle.fill_doubt.proofs.some.some_of.Goals as goal
 
 pub loop-item-init : goal.loop-item-init
 loop-item-init c = record {
-  known = c.requires.known;
+  memo = c.requires.memo;
   within = c.new-found.ensures.within;
   sound = λ o h. absurd (c.new-found.ensures.none o h);
 }
@@ -25,7 +25,7 @@ loop-item-preserved c =
     let x = c.item-item.result in
     let at = here items i x c.loop-item-test.true c.item-item.is in
     record {
-      known = c.in_ok-put_part.ensures.known;
+      memo = c.in_ok-put_part.ensures.memo;
       within = c.in_ok-put_part.ensures.within;
       sound = λ o h. ⊎_elim (λ l. c.loop-item.invariant.sound o l) (λ r. part_answers c.args.on.now c.requires.row c.args.s items c.atoms-items.ensures i x at o r) (c.in_ok-put_part.ensures.some o h);
     }

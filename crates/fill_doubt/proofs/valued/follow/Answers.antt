@@ -1,7 +1,7 @@
 use Rattle.std.proofs.Common.{Some, ap, ◌∙◌}
 use Rattle.std.proofs.lemmas.Option.{slice_get-get_or}
 use Rattle.fill_eval.specs.Piece.{piece_text}
-use Rattle.fill_doubt.specs.Known.{EdgeAnswers}
+use Rattle.fill_doubt.specs.Memo.{EdgeAnswers}
 use Rattle.fill_doubt.specs.Walks.{IsMarked}
 use Rattle.fill_doubt.proofs.Flags.{match_none, match_some}
 use Rattle.fill_doubt.proofs.Marks.{follows_none, follows_set}

@@ -1,37 +1,28 @@
-use Rattle.std.proofs.Common.{Some, sym, ap, ◌∙◌}
-use Rattle.fill_arena.specs.WellMade.{IsAtomItem}
+use Rattle.std.proofs.Common.{sym, ◌∙◌}
 use Rattle.fill_arena.specs.declared.entry.Entry.TheVariants.{Atoms}
 use Rattle.fill_arena.proofs.Lists.{extends_on, extends_same}
-use Rattle.fill_meet.specs.Sets.{AtomIn}
-use Rattle.fill_meet.proofs.Grows.{atom_item_stays}
 use Rattle.fill_meet.proofs.GuideLaws.{guide_stays}
-use Rattle.fill_meet.proofs.Listed.{atoms_apart, atoms_met}
+use Rattle.fill_meet.proofs.ItemPairs.{has_item, paired_apart, paired_met, paired_start}
 use Rattle.fill_meet.proofs.Memories.{right_stays}
-use Rattle.fill_meet.proofs.States.{state_start}
 use Rattle.fill_meet.proofs.makes.make_guided.Goals as goal
 
 pub loop-place-init : goal.loop-place-init
 loop-place-init c =
-    let hs = c.atoms.ensures ∙ ap (λ l. Some (Atoms l)) (sym (c.as_slice-xs.ensures ∙ c.in_ok-first.ensures)) in
-    let ht = c.atoms-2.ensures ∙ ap (λ l. Some (Atoms l)) (sym (c.as_slice-ys.ensures ∙ c.in_ok-second.ensures)) in
     record {
       kept = extends_same c.args.arena.now;
       memo = c.requires.memo;
       guide = c.requires.guide;
-      pairs = state_start AtomIn IsAtomItem atom_item_stays c.args.arena.now c.args.s c.args.t _ _ _ c.in_ok-zs.ensures (c.keeps_made.ensures c.args.s (Atoms c.as_slice-xs.result.now) hs).each
-          (c.keeps_made.ensures c.args.t (Atoms c.as_slice-ys.result.now) ht).each;
+      paired = paired_start c.args.arena.now c.keeps_made.ensures c.args.s c.args.t c.requires.first.0 c.requires.second.0 _ c.requires.first.1 c.requires.second.1 c.in_ok-zs.ensures;
     }
 
 pub make_row-requires-clause-task : goal.make_row-requires-clause-task
 make_row-requires-clause-task c =
-    let ht = c.atoms-2.ensures ∙ ap (λ l. Some (Atoms l)) (sym (c.as_slice-ys.ensures ∙ c.in_ok-second.ensures)) in
     let inv = c.loop-place.invariant in
+    let xs = c.atoms-place-end.result.now in
     record {
       guide = inv.guide;
-      within = c.loop-place-test.true;
-      set = c.args.t;
+      item = has_item c.loop-place.arena c.args.s c.loop-place.place xs (inv.kept c.args.s (Atoms xs) c.atoms-place-end.ensures) c.loop-place-test.true;
       number = c.in-Some.ensures;
-      items = inv.kept c.args.t (Atoms c.as_slice-ys.result.now) ht;
     }
 
 pub loop-place-preserved : goal.loop-place-preserved
@@ -43,21 +34,21 @@ loop-place-preserved c =
       kept = extends_on _ _ _ inv.kept o;
       memo = made.memo;
       guide = guide_stays c.loop-place.arena c.make_row.new.arena o c.args.guide.now inv.guide;
-      pairs = made.made;
+      paired = made.made;
     }
 
 pub returns-then-len-eq0-clause-met : goal.returns-then-len-eq0-clause-met
 returns-then-len-eq0-clause-met c =
-    let hs = c.atoms.ensures ∙ ap (λ l. Some (Atoms l)) (sym (c.as_slice-xs.ensures ∙ c.in_ok-first.ensures)) in
-    let ht = c.atoms-2.ensures ∙ ap (λ l. Some (Atoms l)) (sym (c.as_slice-ys.ensures ∙ c.in_ok-second.ensures)) in
-    atoms_apart c.args.arena.now c.loop-place.arena c.loop-place.invariant.kept c.args.s c.args.s c.args.t c.loop-place.place _ _ _ hs ht c.loop-place-test.false c.loop-place.invariant.pairs (sym c.len.ensures ∙ c.if-len-eq0.true)
+    let inv = c.loop-place.invariant in
+    let xs = c.atoms-place-end.result.now in
+    paired_apart c.loop-place.arena c.args.s c.args.t c.loop-place.place xs _ (inv.kept c.args.s (Atoms xs) c.atoms-place-end.ensures) c.loop-place-test.false inv.paired (sym c.len.ensures ∙ c.if-len-eq0.true)
 
 pub returns-clause-memo : goal.returns-clause-memo
 returns-clause-memo c = right_stays _ _ c.in_ok-intern_atoms.ensures.kept _ c.loop-place.invariant.memo
 
 pub returns-clause-met : goal.returns-clause-met
 returns-clause-met c =
-    let hs = c.atoms.ensures ∙ ap (λ l. Some (Atoms l)) (sym (c.as_slice-xs.ensures ∙ c.in_ok-first.ensures)) in
-    let ht = c.atoms-2.ensures ∙ ap (λ l. Some (Atoms l)) (sym (c.as_slice-ys.ensures ∙ c.in_ok-second.ensures)) in
-    atoms_met c.args.arena.now c.loop-place.arena c.loop-place.invariant.kept c.args.s c.args.s c.args.t c.loop-place.place _ _ _ hs ht c.loop-place-test.false c.loop-place.invariant.pairs c.intern_atoms.new.self _
+    let inv = c.loop-place.invariant in
+    let xs = c.atoms-place-end.result.now in
+    paired_met c.loop-place.arena c.args.s c.args.t c.loop-place.place xs _ (inv.kept c.args.s (Atoms xs) c.atoms-place-end.ensures) c.loop-place-test.false inv.paired c.intern_atoms.new.self _
     c.in_ok-intern_atoms.ensures.kept c.in_ok-intern_atoms.ensures.ok (λ e. c.if-len-eq0.false (c.len.ensures ∙ e))

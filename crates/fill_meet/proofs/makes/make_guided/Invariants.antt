@@ -1,8 +1,7 @@
 use Rattle.fill_arena.specs.Contents.{Extends}
-use Rattle.fill_arena.specs.WellMade.{IsAtomItem}
 use Rattle.fill_meet.specs.Guides.{IsGuide}
 use Rattle.fill_meet.specs.Memory.{IsRight}
-use Rattle.fill_meet.specs.Sets.{AtomIn, PairsState}
+use Rattle.fill_meet.specs.Sets.{ArePaired}
 use Rattle.fill_meet.proofs.makes.make_guided.Given as goal
 
 abbrev pub invariant-loop-place : goal.invariant-loop-place
@@ -11,5 +10,5 @@ invariant-loop-place l =
       kept : Extends l.initial.arena l.arena;
       memo : IsRight l.arena l.memo;
       guide : IsGuide l.arena l.guide;
-      pairs : PairsState AtomIn IsAtomItem l.arena l.s l.xs l.ys l.place 0 l.zs;
+      paired : ArePaired l.arena l.s l.t l.place 0 l.zs;
     }

@@ -1,10 +1,9 @@
-use Rattle.std.proofs.Common.{◌≡◌, [], ◌∷◌, ◌++◌, get_or}
-use Rattle.std.proofs.lemmas.Option.{slice_get-get_or}
+use Rattle.std.proofs.Common.{◌≡◌, [], ◌∷◌, ◌++◌}
 use Rattle.std.specs.Prelude.{MatchOption}
 use Rattle.fill_meet.specs.Guides.{IsMadeTo, IsSharedOf}
 use Rattle.fill_meet.specs.Rows.{IsEntryDone}
 use Rattle.fill_meet.specs.Runs.{Grows}
-use Rattle.fill_meet.proofs.GuideLaws.{entry_of_other, entry_shared, one_step, task_listed, task_stays, task_within}
+use Rattle.fill_meet.proofs.GuideLaws.{entry_of_other, entry_shared, one_step, task_item, task_stays}
 use Rattle.fill_meet.proofs.Lists.{here}
 use Rattle.fill_meet.proofs.RowLaws.{entry_other}
 use Rattle.fill_meet.proofs.Trials.{done_any, done_map}
@@ -26,35 +25,13 @@ returns-then-item-task-clause-done c =
     let hz = here index.items.items c.args.e z c.requires.within c.index-item.ensures in
     entry_of_other c.args.arena.now task c.args.hash c.args.e z hz c.args.zs.now (λ same. c.if-item-task.true same)
 
-pub bounds-task-task : goal.bounds-task-task
-bounds-task-task c = c.requires.task.within
-
-pub bounds-task-item : goal.bounds-task-item
-bounds-task-item c =
-    let task = c.args.task.now in
-    let index = c.args.task.now.guide.now.index in
-    let z = c.index-item.result.now in
-    let hz = here index.items.items c.args.e z c.requires.within c.index-item.ensures in
-    let listed = c.requires.task.guide.index.1.items.real c.args.e z hz in
-    task_within c.args.arena.now task c.requires.task z listed.0 c.if-item-task.false listed.1
-
-pub meet_atom_items-requires-clause-first : goal.meet_atom_items-requires-clause-first
-meet_atom_items-requires-clause-first c =
-    let xs = c.args.task.now.xs.now in
-    let place = c.args.task.now.place in
-    let x = c.index-task-task.result in
-    c.requires.made.first place (get_or xs place x) (slice_get-get_or xs place x c.requires.task.within)
-
 pub meet_atom_items-requires-clause-second : goal.meet_atom_items-requires-clause-second
 meet_atom_items-requires-clause-second c =
     let task = c.args.task.now in
-    let index = c.args.task.now.guide.now.index in
     let z = c.index-item.result.now in
-    let hz = here index.items.items c.args.e z c.requires.within c.index-item.ensures in
+    let hz = here task.guide.now.index.items.items c.args.e z c.requires.within c.index-item.ensures in
     let listed = c.requires.task.guide.index.1.items.real c.args.e z hz in
-    let lt = task_within c.args.arena.now task c.requires.task z listed.0 c.if-item-task.false listed.1 in
-    let y = c.index-task-item.result in
-    c.requires.made.second z.place (get_or task.ys.now z.place y) (slice_get-get_or task.ys.now z.place y lt)
+    (listed.0, task_item c.args.arena.now task c.requires.task z listed.0 c.if-item-task.false listed.1)
 
 pub returns-clause-memo : goal.returns-clause-memo
 returns-clause-memo c = done_any c.push_some.result _ c.in_ok-made.ensures.memo
@@ -62,58 +39,38 @@ returns-clause-memo c = done_any c.push_some.result _ c.in_ok-made.ensures.memo
 pub returns-clause-made : goal.returns-clause-made
 returns-clause-made c =
     let task = c.args.task.now in
-    let index = c.args.task.now.guide.now.index in
-    let old = c.args.arena.now in
-    let new = c.meet_atom_items.new.arena in
-    let zs = c.args.zs.now in
-    let more = c.push_some.new.all in
-    let made = c.in_ok-made.made in
-    let z = c.index-item.result.now in
-    let x = get_or c.args.task.now.xs.now c.args.task.now.place c.index-task-task.result in
-    let y = get_or c.args.task.now.ys.now c.index-item.result.now.place c.index-task-item.result in
-    let hz = here index.items.items c.args.e z c.requires.within c.index-item.ensures in
-    let hx = slice_get-get_or c.args.task.now.xs.now c.args.task.now.place c.index-task-task.result c.requires.task.within in
-    let listed = c.requires.task.guide.index.1.items.real c.args.e z hz in
-    let hy = slice_get-get_or c.args.task.now.ys.now c.index-item.result.now.place c.index-task-item.result (task_within old task c.requires.task z listed.0 c.if-item-task.false listed.1) in
-    done_map c.push_some.result (MatchOption made (more ≡ zs) (λ v. more ≡ zs ++ v ∷ [])) (IsMadeTo new task task.place more)
-    (λ put. (one_step old new c.meet_atom_items.ensures.kept task.of task.xs.now task.ys.now zs more task.place z.place x y made hx hy c.requires.made c.in_ok-made.ensures.met put).0) c.push_some.ensures
-
-pub returns-clause-grown : goal.returns-clause-grown
-returns-clause-grown c =
-    let task = c.args.task.now in
-    let index = c.args.task.now.guide.now.index in
-    let old = c.args.arena.now in
-    let new = c.meet_atom_items.new.arena in
-    let zs = c.args.zs.now in
-    let more = c.push_some.new.all in
-    let made = c.in_ok-made.made in
-    let z = c.index-item.result.now in
-    let x = get_or c.args.task.now.xs.now c.args.task.now.place c.index-task-task.result in
-    let y = get_or c.args.task.now.ys.now c.index-item.result.now.place c.index-task-item.result in
-    let hz = here index.items.items c.args.e z c.requires.within c.index-item.ensures in
-    let hx = slice_get-get_or c.args.task.now.xs.now c.args.task.now.place c.index-task-task.result c.requires.task.within in
-    let listed = c.requires.task.guide.index.1.items.real c.args.e z hz in
-    let hy = slice_get-get_or c.args.task.now.ys.now c.index-item.result.now.place c.index-task-item.result (task_within old task c.requires.task z listed.0 c.if-item-task.false listed.1) in
-    done_map c.push_some.result (MatchOption made (more ≡ zs) (λ v. more ≡ zs ++ v ∷ [])) (Grows zs more)
-    (λ put. (one_step old new c.meet_atom_items.ensures.kept task.of task.xs.now task.ys.now zs more task.place z.place x y made hx hy c.requires.made c.in_ok-made.ensures.met put).1) c.push_some.ensures
-
-pub returns-clause-done : goal.returns-clause-done
-returns-clause-done c =
-    let task = c.args.task.now in
-    let index = c.args.task.now.guide.now.index in
     let old = c.args.arena.now in
     let new = c.meet_atom_items.new.arena in
     let o = c.meet_atom_items.ensures.kept in
     let zs = c.args.zs.now in
     let more = c.push_some.new.all in
-    let made = c.in_ok-made.made in
     let z = c.index-item.result.now in
-    let x = get_or c.args.task.now.xs.now c.args.task.now.place c.index-task-task.result in
-    let y = get_or c.args.task.now.ys.now c.index-item.result.now.place c.index-task-item.result in
+    done_map c.push_some.result (MatchOption c.in_ok-made.made (more ≡ zs) (λ v. more ≡ zs ++ v ∷ [])) (IsMadeTo new task task.place more)
+    (λ put. (one_step old new o task zs more z.place c.in_ok-made.made c.requires.made c.in_ok-made.ensures.met put).0) c.push_some.ensures
+
+pub returns-clause-grown : goal.returns-clause-grown
+returns-clause-grown c =
+    let task = c.args.task.now in
+    let old = c.args.arena.now in
+    let new = c.meet_atom_items.new.arena in
+    let o = c.meet_atom_items.ensures.kept in
+    let zs = c.args.zs.now in
+    let more = c.push_some.new.all in
+    let z = c.index-item.result.now in
+    done_map c.push_some.result (MatchOption c.in_ok-made.made (more ≡ zs) (λ v. more ≡ zs ++ v ∷ [])) (Grows zs more)
+    (λ put. (one_step old new o task zs more z.place c.in_ok-made.made c.requires.made c.in_ok-made.ensures.met put).1) c.push_some.ensures
+
+pub returns-clause-done : goal.returns-clause-done
+returns-clause-done c =
+    let task = c.args.task.now in
+    let old = c.args.arena.now in
+    let new = c.meet_atom_items.new.arena in
+    let o = c.meet_atom_items.ensures.kept in
+    let zs = c.args.zs.now in
+    let more = c.push_some.new.all in
+    let z = c.index-item.result.now in
+    let index = task.guide.now.index in
     let hz = here index.items.items c.args.e z c.requires.within c.index-item.ensures in
-    let hx = slice_get-get_or c.args.task.now.xs.now c.args.task.now.place c.index-task-task.result c.requires.task.within in
-    let listed = c.requires.task.guide.index.1.items.real c.args.e z hz in
-    let hy = slice_get-get_or c.args.task.now.ys.now c.index-item.result.now.place c.index-task-item.result (task_within old task c.requires.task z listed.0 c.if-item-task.false listed.1) in
     let later = task_stays old new o task c.requires.task in
-    done_map c.push_some.result (MatchOption made (more ≡ zs) (λ v. more ≡ zs ++ v ∷ [])) (IsEntryDone new index (IsSharedOf new task more) c.args.hash c.args.e)
-    (λ put. entry_shared new task c.args.hash c.args.e z hz more x y hx (task_listed new task later z y c.if-item-task.false hy) (one_step old new o task.of task.xs.now task.ys.now zs more task.place z.place x y made hx hy c.requires.made c.in_ok-made.ensures.met put).2) c.push_some.ensures
+    done_map c.push_some.result (MatchOption c.in_ok-made.made (more ≡ zs) (λ v. more ≡ zs ++ v ∷ [])) (IsEntryDone new index (IsSharedOf new task more) c.args.hash c.args.e)
+    (λ put. entry_shared new task c.args.hash c.args.e z hz later more (one_step old new o task zs more z.place c.in_ok-made.made c.requires.made c.in_ok-made.ensures.met put).2) c.push_some.ensures

@@ -1,7 +1,6 @@
 use Rattle.std.proofs.Common.{refl, sym, ◌∙◌, ◌≡◌, ◌≤◌, ◌⊎◌, inl, inr, length, subst, [], ◌∷◌, ◌++◌}
-use Rattle.fill_tokens.specs.PlaceGrammar.{IsPlace}
 use Rattle.fill_meet.proofs.Lists.{here, same_value}
-use Rattle.fill_meet.proofs.Merge.{merged_left, merged_right, merged_both, merged_end, is_after, all_common}
+use Rattle.fill_meet.proofs.Merge.{merged_left, merged_right, merged_both, merged_end, is_after}
 use Rattle.fill_meet.proofs.places.common_places.Goals as goal
 use Rattle.fill_meet.proofs.places.common_places.Goals.{then-loop-i-test+else-j-ys, else-loop-i-test}
 
@@ -27,6 +26,3 @@ returns-clause-both c =
       | else-loop-i-test w ↦ inl w.loop-i-test.false
     ] in
     merged_end _ _ _ _ _ over c.loop-i.invariant
-
-pub returns-clause-grammar : goal.returns-clause-grammar
-returns-clause-grammar c = all_common IsPlace c.args.xs.now _ (λ p h. (c.loop-i.invariant.back p h).0) c.requires.first.grammar

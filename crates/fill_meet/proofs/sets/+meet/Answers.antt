@@ -1,17 +1,17 @@
 use Rattle.std.proofs.Common.{◌<◌, length, Some, refl, rules, sym, ap, ◌∙◌, subst, arith}
 use Rattle.std.proofs.lemmas.Bool.{false≢true}
 use Rattle.fill_arena.specs.Contents.{SomeIn, EachIn}
-use Rattle.fill_arena.specs.WellMade.{IsAtomItem}
 use Rattle.fill_arena.specs.declared.entry.Entry.TheVariants.{Sources, Atoms}
 use Rattle.fill_arena.specs.declared.entry.SourceItem.TheVariants.{Col}
 use Rattle.fill_arena.specs.declared.entry.SelectItem.{SelectItem}
 use Rattle.fill_arena.proofs.Lists.{extends_same, extends_on}
 use Rattle.fill_meet.specs.Memory.{IsRight}
-use Rattle.fill_meet.specs.Sets.{AtomIn, SourceIn, NamesOlder, AtomSetsMeet, SourceSetsMeet, RowsMeet, IsFilled, NamesAtoms}
+use Rattle.fill_meet.specs.Sets.{SourceIn, NamesOlder, AtomSetsMeet, SourceSetsMeet, RowsMeet, IsFilled, NamesAtoms}
 use Rattle.fill_meet.proofs.Lists.{here, length_pushed, extends_length}
-use Rattle.fill_meet.proofs.Grows.{places_within, sources_within, atom_item_stays, source_item_stays, conditions_stay, names_older, met_stay}
+use Rattle.fill_meet.proofs.Grows.{places_within, sources_within, source_item_stays, conditions_stay, names_older, met_stay}
 use Rattle.fill_meet.proofs.States.{state_start, state_step, state_row}
-use Rattle.fill_meet.proofs.Listed.{atoms_met, atoms_apart, sources_met, sources_apart, are_sources}
+use Rattle.fill_meet.proofs.ItemPairs.{has_item, item_stays, paired_apart, paired_met, paired_row, paired_start, paired_step}
+use Rattle.fill_meet.proofs.Listed.{sources_met, sources_apart, are_sources}
 use Rattle.fill_meet.proofs.Memories.{right_stays, is_none}
 use Rattle.fill_meet.proofs.AtomPairs as atoms
 use Rattle.fill_meet.proofs.Parts.{parts_apart, parts_constants, parts_met, met_set, condition_met}
@@ -22,32 +22,36 @@ use Rattle.fill_meet.proofs.sets.+meet.Goals as goal
 
 pub make_atoms-loop-i-init : goal.make_atoms-loop-i-init
 make_atoms-loop-i-init n c =
-    let hs = c.atoms.ensures ∙ ap (λ l. Some (Atoms l)) (sym (c.as_slice-xs.ensures ∙ c.in_ok-first.ensures)) in
-    let ht = c.atoms-2.ensures ∙ ap (λ l. Some (Atoms l)) (sym (c.as_slice-ys.ensures ∙ c.in_ok-second.ensures)) in
     record {
       kept = extends_same c.args.arena.now;
       memo = c.if-are_atoms_within.ensures.memo;
-      pairs = state_start AtomIn IsAtomItem atom_item_stays c.args.arena.now c.args.s c.args.t _ _ _ c.in_ok-zs.ensures (c.keeps_made.ensures c.args.s (Atoms c.as_slice-xs.result.now) hs).each
-          (c.keeps_made.ensures c.args.t (Atoms c.as_slice-ys.result.now) ht).each;
+      paired = paired_start c.args.arena.now c.keeps_made.ensures c.args.s c.args.t c.requires.first.0 c.requires.second.0 _ c.requires.first.1 c.requires.second.1 c.in_ok-zs.ensures;
     }
+
+pub make_atoms-meet_atom_row-requires : goal.make_atoms-meet_atom_row-requires
+make_atoms-meet_atom_row-requires n c =
+    let inv = c.loop-i.invariant in
+    let xs = c.atoms-i-end.result.now in
+    let memo : IsRight c.loop-i.arena c.loop-i.memo = inv.memo in
+    (search rules, (memo, (has_item c.loop-i.arena c.args.s c.loop-i.i xs (inv.kept c.args.s (Atoms xs) c.atoms-i-end.ensures) c.loop-i-test.true, inv.paired)))
 
 pub make_atoms-returns-then-are_atoms_within-clause-met : goal.make_atoms-returns-then-are_atoms_within-clause-met
 make_atoms-returns-then-are_atoms_within-clause-met n c = c.if-are_atoms_within.ensures.within refl
 
 pub make_atoms-returns-then-len-eq0-clause-met : goal.make_atoms-returns-then-len-eq0-clause-met
 make_atoms-returns-then-len-eq0-clause-met n c =
-    let hs = c.atoms.ensures ∙ ap (λ l. Some (Atoms l)) (sym (c.as_slice-xs.ensures ∙ c.in_ok-first.ensures)) in
-    let ht = c.atoms-2.ensures ∙ ap (λ l. Some (Atoms l)) (sym (c.as_slice-ys.ensures ∙ c.in_ok-second.ensures)) in
-    atoms_apart c.args.arena.now c.loop-i.arena c.loop-i.invariant.kept c.args.s c.args.s c.args.t c.loop-i.i _ _ _ hs ht c.loop-i-test.false c.loop-i.invariant.pairs (sym c.len.ensures ∙ c.if-len-eq0.true)
+    let inv = c.loop-i.invariant in
+    let xs = c.atoms-i-end.result.now in
+    paired_apart c.loop-i.arena c.args.s c.args.t c.loop-i.i xs _ (inv.kept c.args.s (Atoms xs) c.atoms-i-end.ensures) c.loop-i-test.false inv.paired (sym c.len.ensures ∙ c.if-len-eq0.true)
 
 pub make_atoms-returns-clause-memo : goal.make_atoms-returns-clause-memo
 make_atoms-returns-clause-memo n c = right_stays _ _ c.in_ok-intern_atoms.ensures.kept _ c.loop-i.invariant.memo
 
 pub make_atoms-returns-clause-met : goal.make_atoms-returns-clause-met
 make_atoms-returns-clause-met n c =
-    let hs = c.atoms.ensures ∙ ap (λ l. Some (Atoms l)) (sym (c.as_slice-xs.ensures ∙ c.in_ok-first.ensures)) in
-    let ht = c.atoms-2.ensures ∙ ap (λ l. Some (Atoms l)) (sym (c.as_slice-ys.ensures ∙ c.in_ok-second.ensures)) in
-    atoms_met c.args.arena.now c.loop-i.arena c.loop-i.invariant.kept c.args.s c.args.s c.args.t c.loop-i.i _ _ _ hs ht c.loop-i-test.false c.loop-i.invariant.pairs c.intern_atoms.new.self _
+    let inv = c.loop-i.invariant in
+    let xs = c.atoms-i-end.result.now in
+    paired_met c.loop-i.arena c.args.s c.args.t c.loop-i.i xs _ (inv.kept c.args.s (Atoms xs) c.atoms-i-end.ensures) c.loop-i-test.false inv.paired c.intern_atoms.new.self _
     c.in_ok-intern_atoms.ensures.kept c.in_ok-intern_atoms.ensures.ok (λ e. c.if-len-eq0.false (c.len.ensures ∙ e))
 
 pub make_sources-loop-i-init : goal.make_sources-loop-i-init
@@ -87,36 +91,71 @@ make_sources-returns-clause-met n c =
     c.in_ok-intern_sources.ensures.kept c.in_ok-intern_sources.ensures.ok (λ e. c.if-len-eq0.false (c.len.ensures ∙ e))
 
 pub meet_atom_items-returns-in_default-2-clause-met : goal.meet_atom_items-returns-in_default-2-clause-met
-meet_atom_items-returns-in_default-2-clause-met n c =
-    rw (c.in-Sub-Sub.is-0, c.in-Sub-Sub.is-1) (atoms.sub_apart_source _ _ _ _ _ _ _ (rw (is_none _ c.in_default-2.not-Some) at c.in_ok-sources-in-Sub-Sub.ensures.met))
+meet_atom_items-returns-in_default-2-clause-met n c = (
+  c.item_at.result.now,
+  c.item_at-2.result.now,
+  item_stays c.args.arena.now _ c.meet_sources-in-Sub-Sub.ensures.kept c.args.s c.args.i _ c.item_at.ensures.at,
+  item_stays c.args.arena.now _ c.meet_sources-in-Sub-Sub.ensures.kept c.args.t c.args.j _ c.item_at-2.ensures.at,
+  rw (c.in-Sub-Sub.is-0, c.in-Sub-Sub.is-1) (atoms.sub_apart_source _ _ _ _ _ _ _ (rw (is_none _ c.in_default-2.not-Some) at c.in_ok-sources-in-Sub-Sub.ensures.met)),
+)
 
 pub meet_atom_items-returns-in_default-3-clause-met : goal.meet_atom_items-returns-in_default-3-clause-met
-meet_atom_items-returns-in_default-3-clause-met n c =
-    rw (c.in-Sub-Sub.is-0, c.in-Sub-Sub.is-1) (atoms.sub_apart_left _ _ _ _ _ _ _ (rw (is_none _ c.in_default-3.not-Some) at c.in_ok-lefts-in-Sub-Sub.ensures.met))
+meet_atom_items-returns-in_default-3-clause-met n c = (
+  c.item_at.result.now,
+  c.item_at-2.result.now,
+  item_stays c.args.arena.now _ (extends_on _ _ _ c.meet_sources-in-Sub-Sub.ensures.kept c.meet_places.ensures.kept) c.args.s c.args.i _ c.item_at.ensures.at,
+  item_stays c.args.arena.now _ (extends_on _ _ _ c.meet_sources-in-Sub-Sub.ensures.kept c.meet_places.ensures.kept) c.args.t c.args.j _ c.item_at-2.ensures.at,
+  rw (c.in-Sub-Sub.is-0, c.in-Sub-Sub.is-1) (atoms.sub_apart_left _ _ _ _ _ _ _ (rw (is_none _ c.in_default-3.not-Some) at c.in_ok-lefts-in-Sub-Sub.ensures.met)),
+)
 
 pub meet_atom_items-returns-in_default-4-clause-met : goal.meet_atom_items-returns-in_default-4-clause-met
-meet_atom_items-returns-in_default-4-clause-met n c =
-    rw (c.in-Sub-Sub.is-0, c.in-Sub-Sub.is-1) (atoms.sub_apart_right _ _ _ _ _ _ _ (rw (is_none _ c.in_default-4.not-Some) at c.in_ok-rights-in-Sub-Sub.ensures.met))
+meet_atom_items-returns-in_default-4-clause-met n c = (
+  c.item_at.result.now,
+  c.item_at-2.result.now,
+  item_stays c.args.arena.now _ (extends_on _ _ _ (extends_on _ _ _ c.meet_sources-in-Sub-Sub.ensures.kept c.meet_places.ensures.kept) c.meet_places-in-Sub-Sub.ensures.kept) c.args.s c.args.i _ c.item_at.ensures.at,
+  item_stays c.args.arena.now _ (extends_on _ _ _ (extends_on _ _ _ c.meet_sources-in-Sub-Sub.ensures.kept c.meet_places.ensures.kept) c.meet_places-in-Sub-Sub.ensures.kept) c.args.t c.args.j _ c.item_at-2.ensures.at,
+  rw (c.in-Sub-Sub.is-0, c.in-Sub-Sub.is-1) (atoms.sub_apart_right _ _ _ _ _ _ _ (rw (is_none _ c.in_default-4.not-Some) at c.in_ok-rights-in-Sub-Sub.ensures.met)),
+)
 
 pub meet_atom_items-returns-in_ok-copy-in-Const-Const-clause-met : goal.meet_atom_items-returns-in_ok-copy-in-Const-Const-clause-met
 meet_atom_items-returns-in_ok-copy-in-Const-Const-clause-met n c =
     let same = c.if-same.ensures.0 refl in
-    let first = rw c.in-Const-Const.is-0 at c.requires.first in
-    rw (c.in_ok-copy-in-Const-Const.ensures, c.in-Const-Const.is-0, c.in-Const-Const.is-1) (first, atoms.const_met _ _ _ same)
+    let first = rw c.in-Const-Const.is-0 at c.item_at.ensures.older in (
+      c.item_at.result.now,
+      c.item_at-2.result.now,
+      item_stays c.args.arena.now _ (extends_same _) c.args.s c.args.i _ c.item_at.ensures.at,
+      item_stays c.args.arena.now _ (extends_same _) c.args.t c.args.j _ c.item_at-2.ensures.at,
+      rw (c.in_ok-copy-in-Const-Const.ensures, c.in-Const-Const.is-0, c.in-Const-Const.is-1) (first, atoms.const_met _ _ _ same),
+    )
 
 pub meet_atom_items-returns-else-same-clause-met : goal.meet_atom_items-returns-else-same-clause-met
-meet_atom_items-returns-else-same-clause-met n c =
-    rw (c.in-Const-Const.is-0, c.in-Const-Const.is-1) (atoms.const_apart _ _ _ (λ e. false≢true (c.if-same.ensures.1 e)))
+meet_atom_items-returns-else-same-clause-met n c = (
+  c.item_at.result.now,
+  c.item_at-2.result.now,
+  item_stays c.args.arena.now _ (extends_same _) c.args.s c.args.i _ c.item_at.ensures.at,
+  item_stays c.args.arena.now _ (extends_same _) c.args.t c.args.j _ c.item_at-2.ensures.at,
+  rw (c.in-Const-Const.is-0, c.in-Const-Const.is-1) (atoms.const_apart _ _ _ (λ e. false≢true (c.if-same.ensures.1 e))),
+)
 
 pub meet_atom_items-returns-in-Some-clause-met : goal.meet_atom_items-returns-in-Some-clause-met
 meet_atom_items-returns-in-Some-clause-met n c =
     let met = rw c.in-Some.is at c.in_ok-sources-in-Whole-Whole.ensures.met in
-    let set = (met.some _ (extends_same _)).1 in
-    (sources_within _ _ (set.0, set.1), rw (c.in-Whole-Whole.is-0, c.in-Whole-Whole.is-1) (atoms.whole_met _ _ _ _ met))
+    let set = (met.some _ (extends_same _)).1 in (
+      c.item_at.result.now,
+      c.item_at-2.result.now,
+      item_stays c.args.arena.now _ c.meet_sources.ensures.kept c.args.s c.args.i _ c.item_at.ensures.at,
+      item_stays c.args.arena.now _ c.meet_sources.ensures.kept c.args.t c.args.j _ c.item_at-2.ensures.at,
+      (sources_within _ _ (set.0, set.1), rw (c.in-Whole-Whole.is-0, c.in-Whole-Whole.is-1) (atoms.whole_met _ _ _ _ met)),
+    )
 
 pub meet_atom_items-returns-in-None-clause-met : goal.meet_atom_items-returns-in-None-clause-met
-meet_atom_items-returns-in-None-clause-met n c =
-    rw (c.in-Whole-Whole.is-0, c.in-Whole-Whole.is-1) (atoms.whole_apart _ _ _ (rw c.in-None.is at c.in_ok-sources-in-Whole-Whole.ensures.met))
+meet_atom_items-returns-in-None-clause-met n c = (
+  c.item_at.result.now,
+  c.item_at-2.result.now,
+  item_stays c.args.arena.now _ c.meet_sources.ensures.kept c.args.s c.args.i _ c.item_at.ensures.at,
+  item_stays c.args.arena.now _ c.meet_sources.ensures.kept c.args.t c.args.j _ c.item_at-2.ensures.at,
+  rw (c.in-Whole-Whole.is-0, c.in-Whole-Whole.is-1) (atoms.whole_apart _ _ _ (rw c.in-None.is at c.in_ok-sources-in-Whole-Whole.ensures.met)),
+)
 
 pub meet_atom_items-returns-in-Some-4-clause-met : goal.meet_atom_items-returns-in-Some-4-clause-met
 meet_atom_items-returns-in-Some-4-clause-met n c =
@@ -128,29 +167,50 @@ meet_atom_items-returns-in-Some-4-clause-met n c =
     let l = (lefts.some _ (extends_same _)).1 in
     let r = (rights.some _ (extends_same _)).1 in
     let s = (sources.some _ (extends_same _)).1 in (
-      (sources_within _ _ (s.0, s.1), places_within _ _ (l.0, l.1), places_within _ _ (r.0, r.1)),
-      rw (c.in-Sub-Sub.is-0, c.in-Sub-Sub.is-1) (atoms.sub_met _ _ _ _ _ _ _ _ _ _ sources lefts rights),
+      c.item_at.result.now,
+      c.item_at-2.result.now,
+      item_stays c.args.arena.now _ (extends_on _ _ _ (extends_on _ _ _ c.meet_sources-in-Sub-Sub.ensures.kept second) third) c.args.s c.args.i _ c.item_at.ensures.at,
+      item_stays c.args.arena.now _ (extends_on _ _ _ (extends_on _ _ _ c.meet_sources-in-Sub-Sub.ensures.kept second) third) c.args.t c.args.j _ c.item_at-2.ensures.at,
+      (
+        (sources_within _ _ (s.0, s.1), places_within _ _ (l.0, l.1), places_within _ _ (r.0, r.1)),
+        rw (c.in-Sub-Sub.is-0, c.in-Sub-Sub.is-1) (atoms.sub_met _ _ _ _ _ _ _ _ _ _ sources lefts rights),
+      ),
     )
 
 pub meet_atom_items-returns-in_default-clause-met : goal.meet_atom_items-returns-in_default-clause-met
-meet_atom_items-returns-in_default-clause-met n c =
-    elim c.in_default.branch [
-      | goal.meet_atom_items-in_default-via-in-Const+in_default w ↦ atoms.not_const _ _ _ w.in_default.field-0-0 w.in_default.is-0 w.in_default.not-Const-1
-      | goal.meet_atom_items-in_default-via-in-Whole+in_default w ↦ atoms.not_whole _ _ _ w.in_default.field-0-0 w.in_default.is-0 w.in_default.not-Whole-1
-      | goal.meet_atom_items-in_default-via-in-Sub+in_default w ↦ atoms.not_sub _ _ _ w.in_default.field-0-0 w.in_default.field-1-0 w.in_default.field-2-0 w.in_default.is-0 w.in_default.not-Sub-1
-    ]
+meet_atom_items-returns-in_default-clause-met n c = (
+  c.item_at.result.now,
+  c.item_at-2.result.now,
+  item_stays c.args.arena.now _ (extends_same _) c.args.s c.args.i _ c.item_at.ensures.at,
+  item_stays c.args.arena.now _ (extends_same _) c.args.t c.args.j _ c.item_at-2.ensures.at,
+  elim c.in_default.branch [
+    | goal.meet_atom_items-in_default-via-in-Const+in_default w ↦ atoms.not_const _ _ _ w.in_default.field-0-0 w.in_default.is-0 w.in_default.not-Const-1
+    | goal.meet_atom_items-in_default-via-in-Whole+in_default w ↦ atoms.not_whole _ _ _ w.in_default.field-0-0 w.in_default.is-0 w.in_default.not-Whole-1
+    | goal.meet_atom_items-in_default-via-in-Sub+in_default w ↦ atoms.not_sub _ _ _ w.in_default.field-0-0 w.in_default.field-1-0 w.in_default.field-2-0 w.in_default.is-0 w.in_default.not-Sub-1
+  ],
+)
+
+pub meet_atom_row-meet_atom_items-requires : goal.meet_atom_row-meet_atom_items-requires
+meet_atom_row-meet_atom_items-requires n c =
+    let inv = c.loop-j.invariant in
+    let ys = c.atoms-j-end.result.now in
+    let memo : IsRight c.loop-j.arena c.loop-j.memo = inv.memo in
+    let first = c.requires.within in
+    let second = has_item c.loop-j.arena c.args.t c.loop-j.j ys (inv.kept c.args.t (Atoms ys) c.atoms-j-end.ensures) c.loop-j-test.true in
+    (search rules, (memo, ((first.0, item_stays c.args.arena.now c.loop-j.arena inv.kept c.args.s c.args.i first.0 first.1), second)))
 
 pub meet_atom_row-loop-j-preserved : goal.meet_atom_row-loop-j-preserved
 meet_atom_row-loop-j-preserved n c =
     record {
       kept = extends_on _ _ _ c.loop-j.invariant.kept c.meet_atom_items.ensures.kept;
       memo = c.in_ok-made.ensures.memo;
-      pairs = state_step AtomIn IsAtomItem atom_item_stays _ _ _ _ _ _ _ _ _ _ _ _ c.meet_atom_items.ensures.kept (here _ _ _ c.requires.within c.index-xs-i.is) (here _ _ _ c.loop-j-test.true c.index-ys-j.is)
-          c.in_ok-made.ensures.met c.in_ok-push_some.ensures c.loop-j.invariant.pairs;
+      paired = paired_step _ _ c.meet_atom_items.ensures.kept _ _ _ _ _ _ _ c.in_ok-made.ensures.met c.in_ok-push_some.ensures c.loop-j.invariant.paired;
     }
 
-pub meet_atom_row-returns-clause-pairs : goal.meet_atom_row-returns-clause-pairs
-meet_atom_row-returns-clause-pairs n c = state_row AtomIn IsAtomItem atom_item_stays _ _ _ _ _ _ _ c.loop-j-test.false c.loop-j.invariant.pairs
+pub meet_atom_row-returns-clause-paired : goal.meet_atom_row-returns-clause-paired
+meet_atom_row-returns-clause-paired n c =
+    let ys = c.atoms-j-end.result.now in
+    paired_row _ c.args.s c.args.t c.args.i c.loop-j.j ys _ (c.loop-j.invariant.kept c.args.t (Atoms ys) c.atoms-j-end.ensures) c.loop-j-test.false c.loop-j.invariant.paired
 
 pub meet_atoms-returns-in-Some-clause-met : goal.meet_atoms-returns-in-Some-clause-met
 meet_atoms-returns-in-Some-clause-met n c = told (AtomSetsMeet c.args.arena.now) _ c.args.s c.args.t _ c.requires.memo.atoms c.in-Some.ensures

@@ -1,8 +1,8 @@
 use Rattle.std.proofs.Common.{◌≡◌, ◌+◌, ◌*◌, length}
 use Rattle.fill_arena.specs.Contents.{EachIn, Extends}
-use Rattle.fill_arena.specs.WellMade.{IsAtomItem, IsConditionItem}
+use Rattle.fill_arena.specs.WellMade.{IsConditionItem}
 use Rattle.fill_meet.specs.Memory.{IsRight}
-use Rattle.fill_meet.specs.Sets.{AtomIn, NamesOlder, PairsState, RowsMeet, SourceIn}
+use Rattle.fill_meet.specs.Sets.{ArePaired, NamesOlder, PairsState, RowsMeet, SourceIn}
 use Rattle.fill_meet.proofs.sets.+meet.Given as goal
 
 -- what a set lists is older than the set
@@ -19,13 +19,13 @@ abbrev pub decreases-make_sources : goal.decreases-make_sources
 decreases-make_sources l = 8 * l.s + 6
 
 abbrev pub decreases-meet_atom_row : goal.decreases-meet_atom_row
-decreases-meet_atom_row l = 8 * l.of + 5
+decreases-meet_atom_row l = 8 * l.s + 5
 
 abbrev pub decreases-meet_source_row : goal.decreases-meet_source_row
 decreases-meet_source_row l = 8 * l.of + 5
 
 abbrev pub decreases-meet_atom_items : goal.decreases-meet_atom_items
-decreases-meet_atom_items l = 8 * l.of + 4
+decreases-meet_atom_items l = 8 * l.s + 4
 
 abbrev pub decreases-meet_source_items : goal.decreases-meet_source_items
 decreases-meet_source_items l = 8 * l.of + 4
@@ -47,7 +47,7 @@ invariant-make_atoms-loop-i l =
     record {
       kept : Extends l.initial.arena l.arena;
       memo : IsRight l.arena l.memo;
-      pairs : PairsState AtomIn IsAtomItem l.arena l.s l.xs l.ys l.i 0 l.zs;
+      paired : ArePaired l.arena l.s l.t l.i 0 l.zs;
     }
 
 abbrev pub invariant-make_sources-loop-i : goal.invariant-make_sources-loop-i
@@ -63,7 +63,7 @@ invariant-meet_atom_row-loop-j l =
     record {
       kept : Extends l.initial.arena l.arena;
       memo : IsRight l.arena l.memo;
-      pairs : PairsState AtomIn IsAtomItem l.arena l.of l.xs l.ys l.i l.j l.zs;
+      paired : ArePaired l.arena l.s l.t l.i l.j l.zs;
     }
 
 abbrev pub invariant-meet_source_row-loop-j : goal.invariant-meet_source_row-loop-j

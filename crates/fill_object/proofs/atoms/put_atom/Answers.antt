@@ -1,4 +1,4 @@
-use Rattle.fill_rank.proofs.Pieces.{ok_on}
+use Rattle.fill_arena.proofs.Items.{ok_on}
 use Rattle.fill_object.proofs.KindLaws.{gains_atom}
 use Rattle.fill_object.proofs.atoms.put_atom.Goals as goal
 

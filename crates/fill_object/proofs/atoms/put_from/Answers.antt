@@ -3,7 +3,7 @@ use Rattle.fill_tree.specs.Meaning.{atom_tree, source_tree}
 use Rattle.fill_tree.specs.Tree.{sub}
 use Rattle.fill_tree.specs.declared.tree.Atom.TheVariants.{Sub}
 use Rattle.fill_arena.proofs.Scan.{here}
-use Rattle.fill_rank.proofs.Trees.{sub_tree}
+use Rattle.fill_arena.proofs.Trees.{sub_tree}
 use Rattle.fill_object.specs.Kinds.{atoms_on}
 use Rattle.fill_object.proofs.Gains.{scan_none, scan_more, scan_done, gains_same}
 use Rattle.fill_object.proofs.KindLaws.{atoms_laws}

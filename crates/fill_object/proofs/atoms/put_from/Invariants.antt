@@ -1,7 +1,7 @@
 use Rattle.std.proofs.Common.{◌≡◌}
 use Rattle.fill_tree.specs.Meaning.{source_tree}
 use Rattle.fill_tree.specs.Tree.{sub}
-use Rattle.fill_rank.specs.Sets.{SomeBelow}
+use Rattle.fill_arena.specs.Contents.{SomeBelow}
 use Rattle.fill_object.specs.Kinds.{atoms_on}
 use Rattle.fill_object.specs.Leasts.{Gains}
 use Rattle.fill_object.proofs.atoms.put_from.Given as goal

@@ -2,7 +2,7 @@ use Rattle.fill_tree.specs.Meaning.{source_tree}
 use Rattle.fill_arena.specs.Contents.{SomeIn}
 use Rattle.fill_arena.specs.declared.entry.AtomItem.TheVariants.{Sub}
 use Rattle.fill_arena.proofs.Scan.{here}
-use Rattle.fill_rank.specs.Sets.{PartFits}
+use Rattle.fill_arena.specs.Stands.{PartFits}
 use Rattle.fill_object.specs.Kinds.{atoms_on}
 use Rattle.fill_object.specs.Pieces.{IsPieceOf}
 use Rattle.fill_object.proofs.Gains.{scan_none, scan_more, scan_done, gains_through}
@@ -12,7 +12,7 @@ use Rattle.fill_object.proofs.atoms.put_pieces.Goals as goal
 
 pub loop-source-init : goal.loop-source-init
 loop-source-init c = record {
-  known = c.requires.known;
+  memo = c.requires.memo;
   gains = scan_none (atoms_on c.args.on.now) (atoms_laws c.args.on.now) (λ x a. IsPieceOf c.args.on.now.arena.now (source_tree x.source) c.args.lefts c.args.rights a) c.args.sources.now c.args.kept.now.items;
 }
 
@@ -30,7 +30,7 @@ loop-source-preserved c =
     let i = c.loop-source.source-index in
     let x = c.source-item.result in
     record {
-      known = c.in_ok-put_pieces_of.ensures.known;
+      memo = c.in_ok-put_pieces_of.ensures.memo;
       gains = scan_more (atoms_on on) (atoms_laws on) (λ y a. IsPieceOf on.arena.now (source_tree y.source) c.args.lefts c.args.rights a) sources i x
           (here sources i x c.loop-source-test.true c.source-item.is) c.args.kept.now.items c.loop-source.kept.items c.put_pieces_of.new.kept.items
           c.loop-source.invariant.gains c.in_ok-put_pieces_of.ensures.gains;

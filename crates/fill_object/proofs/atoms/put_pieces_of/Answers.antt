@@ -3,7 +3,7 @@ use Rattle.fill_tokens.specs.declared.prices.Prices.{Prices}
 use Rattle.fill_tree.specs.Meaning.{source_tree}
 use Rattle.fill_arena.specs.Stands.{PlaceStands}
 use Rattle.fill_arena.specs.declared.entry.Entry.{Entry}
-use Rattle.fill_rank.proofs.Pieces.{ok_on}
+use Rattle.fill_arena.proofs.Items.{ok_on}
 use Rattle.fill_object.specs.Kinds.{atoms_on, spots_in}
 use Rattle.fill_object.specs.Leasts.{AreLeasts}
 use Rattle.fill_object.specs.Pieces.{IsPieceBetweenSpots, IsPieceOf, text_or_empty}
@@ -36,7 +36,7 @@ returns-clause-gains c =
     (λ u h. gains_through (atoms_on on) (atoms_laws on) (IsPieceBetweenSpots x lefts rights) (IsPieceOf on.arena.now x l r) (between_of on x o c.requires.source l r lefts rights from to)
     (of_between on x o c.requires.source l r lefts rights from to) c.args.kept.now.items c.put_between.new.kept.items h)
 
-pub returns-clause-known : goal.returns-clause-known
-returns-clause-known c =
+pub returns-clause-memo : goal.returns-clause-memo
+returns-clause-memo c =
     ok_on _ _ c.put_between.result c.put_between.ensures
-    (λ u h. record { sources = c.requires.known.sources; parts = c.requires.known.parts; atoms = c.requires.known.atoms; spots = c.in_ok-to.ensures.known })
+    (λ u h. record { sources = c.requires.memo.sources; parts = c.requires.memo.parts; atoms = c.requires.memo.atoms; spots = c.in_ok-to.ensures.memo })

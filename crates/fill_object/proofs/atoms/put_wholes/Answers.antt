@@ -5,8 +5,8 @@ use Rattle.fill_tree.specs.declared.tree.Atom.TheVariants.{Whole}
 use Rattle.fill_arena.specs.Contents.{SomeIn}
 use Rattle.fill_arena.specs.declared.entry.AtomItem.TheVariants as item
 use Rattle.fill_arena.proofs.Scan.{here}
-use Rattle.fill_rank.specs.Sets.{PartFits}
-use Rattle.fill_rank.proofs.Trees.{whole_tree}
+use Rattle.fill_arena.specs.Stands.{PartFits}
+use Rattle.fill_arena.proofs.Trees.{whole_tree}
 use Rattle.fill_object.specs.Kinds.{atoms_on}
 use Rattle.fill_object.proofs.Gains.{scan_none, scan_more, scan_done, gains_same, gains_through}
 use Rattle.fill_object.proofs.KindLaws.{atoms_laws}

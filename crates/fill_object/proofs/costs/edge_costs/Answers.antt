@@ -13,7 +13,7 @@ loop-i-preserved c =
     let own = c.from.ensures in
     let sum = c.sum_of.ensures in
     record {
-      found = c.in_ok-atom.ensures.known;
+      found = c.in_ok-atom.ensures.memo;
       first = costs_more c.args.prices.now c.args.arena.now edges c.loop-i.costs.items c.push.new.self.items i c.sum_of.result e at c.in_ok-push.ensures.items c.loop-i.invariant.first
           (λ a stands. let le = c.in_ok-atom.ensures.least a stands in omega arith);
     }

@@ -4,6 +4,6 @@ use Rattle.fill_object.proofs.costs.edge_costs.Given as goal
 
 abbrev pub invariant-loop-i : goal.invariant-loop-i
 invariant-loop-i l = record {
-  found : AreCosts l.prices l.arena l.known;
+  found : AreCosts l.prices l.arena l.memo;
   first : AreFirstCosts l.prices l.arena l.edges l.costs.items l.i;
 }

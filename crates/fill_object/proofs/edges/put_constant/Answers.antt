@@ -3,9 +3,9 @@ use Rattle.fill_tree.specs.Meaning.{atom_tree}
 use Rattle.fill_tree.specs.Tree.{constant}
 use Rattle.fill_tree.specs.declared.tree.Atom.TheVariants.{Const}
 use Rattle.fill_arena.specs.declared.entry.AtomItem.TheVariants as item
-use Rattle.fill_rank.specs.Sets.{ConstantFits}
-use Rattle.fill_rank.proofs.Pieces.{ok_on}
-use Rattle.fill_rank.proofs.Trees.{constant_tree}
+use Rattle.fill_arena.specs.Stands.{ConstantFits}
+use Rattle.fill_arena.proofs.Items.{ok_on}
+use Rattle.fill_arena.proofs.Trees.{constant_tree}
 use Rattle.fill_object.specs.Kinds.{atoms_on}
 use Rattle.fill_object.specs.Leasts.{Gains}
 use Rattle.fill_object.proofs.Gains.{gains_none, gains_same}

@@ -1,5 +1,5 @@
 use Rattle.fill_arena.proofs.Scan.{here}
-use Rattle.fill_rank.specs.Sets.{ConstantFits}
+use Rattle.fill_arena.specs.Stands.{ConstantFits}
 use Rattle.fill_object.specs.Kinds.{atoms_on}
 use Rattle.fill_object.proofs.Gains.{scan_none, scan_more, scan_done}
 use Rattle.fill_object.proofs.KindLaws.{atoms_laws}

@@ -1,4 +1,5 @@
-use Rattle.fill_rank.specs.Sets.{ConstantFits, SomeBelow}
+use Rattle.fill_arena.specs.Contents.{SomeBelow}
+use Rattle.fill_arena.specs.Stands.{ConstantFits}
 use Rattle.fill_object.specs.Kinds.{atoms_on}
 use Rattle.fill_object.specs.Leasts.{Gains}
 use Rattle.fill_object.proofs.edges.put_constants.Given as goal

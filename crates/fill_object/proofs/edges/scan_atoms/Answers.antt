@@ -1,6 +1,5 @@
 use Rattle.fill_arena.specs.Contents.{SomeIn}
-use Rattle.fill_arena.specs.Stands.{AtomStands}
-use Rattle.fill_rank.specs.Sets.{ConstantFits, PartStands}
+use Rattle.fill_arena.specs.Stands.{AtomStands, ConstantFits, PartStands}
 use Rattle.fill_object.specs.Kinds.{atoms_on}
 use Rattle.fill_object.proofs.Gains.{leasts_then}
 use Rattle.fill_object.proofs.KindLaws.{atoms_laws}

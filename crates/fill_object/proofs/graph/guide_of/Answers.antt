@@ -1,6 +1,6 @@
 use Rattle.std.proofs.Common.{◌-◌, arith}
 use Rattle.fill_arena.specs.declared.entry.Entry.TheVariants.{Graph}
-use Rattle.fill_rank.proofs.Walk.{the_graph}
+use Rattle.fill_arena.proofs.Edges.{the_graph}
 use Rattle.fill_object.proofs.graph.guide_of.Goals as goal
 
 pub of-requires-clause-some : goal.of-requires-clause-some

@@ -1,8 +1,8 @@
 use Rattle.std.proofs.Common.{◌-◌, arith}
 use Rattle.std.specs.Option.{option_copied}
 use Rattle.fill_arena.specs.declared.entry.Entry.TheVariants.{Graph}
-use Rattle.fill_rank.proofs.Walk.{the_graph}
-use Rattle.fill_rank.proofs.Pieces.{ok_on}
+use Rattle.fill_arena.proofs.Edges.{the_graph}
+use Rattle.fill_arena.proofs.Items.{ok_on}
 use Rattle.fill_object.proofs.Objections.{of_programs}
 use Rattle.fill_object.proofs.graph.least_on.Goals as goal
 

@@ -1,6 +1,6 @@
 use Rattle.std.proofs.Common.{arith}
 use Rattle.std.specs.Option.{option_copied}
-use Rattle.fill_rank.proofs.Pieces.{ok_on}
+use Rattle.fill_arena.proofs.Items.{ok_on}
 use Rattle.fill_object.proofs.Objections.{dear_absent, dear_dearer, few_objection, told_objection}
 use Rattle.fill_object.proofs.graph.object_within.Goals as goal
 

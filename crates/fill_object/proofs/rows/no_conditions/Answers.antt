@@ -5,5 +5,5 @@ use Rattle.fill_object.proofs.rows.no_conditions.Goals as goal
 
 pub returns : goal.returns
 returns c on =
-    subst (AreRows on []) (sym (c.in_ok-push.ensures.items ∙ ap (λ l. l ++ c.no_atoms.result ∷ []) c.new-rows.ensures.items))
-    (no_rows on c.no_atoms.result c.no_atoms.ensures)
+    subst (AreRows on []) (sym (c.in_ok-push.ensures.items ∙ ap (λ l. l ++ c.empty.result ∷ []) c.new-rows.ensures.items))
+    (no_rows on c.empty.result c.empty.ensures)

@@ -18,7 +18,7 @@ loop-rest-preserved c on =
     let mid = c.loop-rest.made.items in
     let new = c.push.new.self.items in
     scan_more (rows_on on) (row_laws on) (λ q y. y ≡ more (atom_tree c.args.condition.now) (program_tree q)) rests i x (here rests i x c.loop-rest-test.true c.rest-item.is) c.args.made.now.items mid new
-    (c.loop-rest.invariant on) (gains_row on c.in_ok-followed_by.field-0 (more (atom_tree c.args.condition.now) (program_tree x)) mid new c.in_ok-push.ensures.items c.in_ok-followed_by.ensures)
+    (c.loop-rest.invariant on) (gains_row on c.in_ok-with_first.field-0 (more (atom_tree c.args.condition.now) (program_tree x)) mid new c.in_ok-push.ensures.items c.in_ok-with_first.ensures)
 
 pub returns : goal.returns
 returns c on =

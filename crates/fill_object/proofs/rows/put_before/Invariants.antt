@@ -1,7 +1,7 @@
 use Rattle.std.proofs.Common.{◌≡◌}
 use Rattle.fill_tree.specs.Meaning.{atom_tree, program_tree}
 use Rattle.fill_tree.specs.Tree.{more}
-use Rattle.fill_rank.specs.Sets.{SomeBelow}
+use Rattle.fill_arena.specs.Contents.{SomeBelow}
 use Rattle.fill_object.specs.Kinds.{rows_on}
 use Rattle.fill_object.specs.Leasts.{Gains}
 use Rattle.fill_object.specs.declared.row.OnRow.{OnRow}

@@ -2,8 +2,8 @@ use Rattle.std.proofs.Common.{ap, ◌∙◌}
 use Rattle.fill_tree.specs.Meaning.{atom_tree}
 use Rattle.fill_tree.specs.Tree.{constant}
 use Rattle.fill_tree.specs.declared.tree.Atom.TheVariants.{Const}
-use Rattle.fill_rank.proofs.Pieces.{ok_on}
-use Rattle.fill_rank.proofs.Trees.{constant_tree}
+use Rattle.fill_arena.proofs.Items.{ok_on}
+use Rattle.fill_arena.proofs.Trees.{constant_tree}
 use Rattle.fill_object.specs.Kinds.{rows_on}
 use Rattle.fill_object.specs.Rows.{IsFixed}
 use Rattle.fill_object.proofs.Gains.{gains_none}

@@ -1,5 +1,5 @@
 use Rattle.fill_tree.specs.Meaning.{atom_tree}
-use Rattle.fill_rank.specs.Sets.{SomeBelow}
+use Rattle.fill_arena.specs.Contents.{SomeBelow}
 use Rattle.fill_object.specs.Kinds.{rows_on}
 use Rattle.fill_object.specs.Leasts.{Gains}
 use Rattle.fill_object.specs.Rows.{IsFront}

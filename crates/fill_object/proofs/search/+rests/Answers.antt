@@ -7,7 +7,7 @@ use Rattle.fill_object.specs.Chains.{IsLeastWithin}
 use Rattle.fill_object.specs.declared.chain.Least.TheVariants.{Absent}
 use Rattle.fill_object.specs.Rests.{IsAlong, IsThen, RestStands}
 use Rattle.fill_object.specs.Wants.{RestAgrees}
-use Rattle.fill_object.proofs.Others.{Past, along_dear, along_done, known_rest, leasts_slice, past_done, past_more, past_none, rest_dear}
+use Rattle.fill_object.proofs.Others.{Past, along_dear, along_done, memo_rest, leasts_slice, past_done, past_more, past_none, rest_dear}
 use Rattle.fill_object.proofs.Within.{copied_within, then_led, upto_done, upto_more}
 use Rattle.fill_object.proofs.search.+rests.Goals as goal
 
@@ -45,7 +45,7 @@ along_edge-with_atom-requires t c =
     let j = c.loop-atom.atom-index in
     let z = c.atom-item.result in
     let right = (are.each j z (here xs j z c.loop-atom-test.true c.atom-item.is)).1 in
-    (search rules, (c.requires.search, (within, (right, c.loop-atom.invariant.known))))
+    (search rules, (c.requires.search, (within, (right, c.loop-atom.invariant.memo))))
 
 pub along_edge-loop-atom-preserved : goal.along_edge-loop-atom-preserved
 along_edge-loop-atom-preserved t c =
@@ -58,7 +58,7 @@ along_edge-loop-atom-preserved t c =
     let z = c.atom-item.result in
     let next = subst (λ m. IsLeastWithin s.on.prices.now m (IsThen (λ a. a ≡ atom_tree z.atom) (RestStands s e.to)) A c.in_ok-next.next) c.limit-within.ensures c.in_ok-next.ensures.least in
     record {
-      known = c.in_ok-next.ensures.found;
+      memo = c.in_ok-next.ensures.found;
       least = upto_more s.on.prices.now c.args.limit (λ x p. IsThen (λ a. a ≡ atom_tree x.atom) (RestStands s e.to) p) A xs j z (here xs j z c.loop-atom-test.true c.atom-item.is) c.loop-atom.best c.in_ok-next.next c.or-best.result
           c.or-best.ensures c.loop-atom.invariant.least next;
     }
@@ -82,7 +82,7 @@ pub along_edges-loop-left-init : goal.along_edges-loop-left-init
 along_edges-loop-left-init t c =
     let s = c.args.search.now in
     record {
-      known = c.requires.found;
+      memo = c.requires.found;
       within = c.last_out-left.ensures.most;
       least = past_none s c.args.node c.args.limit (RestAgrees s.on s.said.now c.args.wanted) c.last_out-left.result c.last_out-left.ensures.none c.in_ok-best.best (c.in_ok-best.ensures c.args.limit);
     }
@@ -102,7 +102,7 @@ along_edges-loop-left-preserved t c =
     let place : c.loop-left.left ≡ c.loop-left.left - 1 + 1 = omega arith in
     let old = subst (λ m. IsLeastWithin s.on.prices.now c.args.limit (Past s n c.args.limit A m) A c.loop-left.best) place c.loop-left.invariant.least in
     record {
-      known = c.in_ok-next.ensures.found;
+      memo = c.in_ok-next.ensures.found;
       within = omega arith;
       least = past_more s n c.args.limit A i c.out_before-left.result there.0 c.out_before-left.ensures.less there.1 c.out_before-left.ensures.none c.loop-left.best c.in_ok-next.next c.or-best.result c.or-best.ensures old next;
     }
@@ -124,13 +124,13 @@ least_rest-returns-then-within-limit-clause-least t c =
 
 pub rest_within-returns-in-Some-clause-least : goal.rest_within-returns-in-Some-clause-least
 rest_within-returns-in-Some-clause-least t c =
-    known_rest c.args.search.now c.args.found.now.rests c.args.node c.args.wanted c.args.limit c.in-Some.known.now c.in_ok-copy.field-0 c.within.result c.requires.found.rests c.in-Some.ensures c.in_ok-copy.ensures c.within.ensures
+    memo_rest c.args.search.now c.args.found.now.rests c.args.node c.args.wanted c.args.limit c.in-Some.least.now c.in_ok-copy.field-0 c.within.result c.requires.found.rests c.in-Some.ensures c.in_ok-copy.ensures c.within.ensures
 
 pub rest_within-returns-clause-found : goal.rest_within-returns-clause-found
 rest_within-returns-clause-found t c =
     let s = c.args.search.now in
     record {
-      known = c.in_ok-least.ensures.found.known;
+      memo = c.in_ok-least.ensures.found.memo;
       rests = c.in_ok-keep.ensures s c.in_ok-least.ensures.found.rests
           (copied_within s.on.prices.now c.args.limit (RestStands s c.args.node) (RestAgrees s.on s.said.now c.args.wanted) c.in_ok-copy-2.field-0 c.in_ok-least.least c.in_ok-copy-2.ensures c.in_ok-least.ensures.least);
     }

@@ -1,6 +1,6 @@
 use Rattle.std.proofs.Common.{◌≡◌, ◌+◌, ◌*◌, ◌-◌, ◌≤◌, ◌^◌, length}
 use Rattle.fill_tree.specs.Meaning.{atom_tree}
-use Rattle.fill_rank.specs.Sets.{SomeBelow}
+use Rattle.fill_arena.specs.Contents.{SomeBelow}
 use Rattle.fill_object.specs.Chains.{IsLeastWithin}
 use Rattle.fill_object.specs.Rests.{AreFound, IsThen, RestStands}
 use Rattle.fill_object.specs.Wants.{RestAgrees}
@@ -30,7 +30,7 @@ decreases-least_rest-loop-within l = 2 ^ 64 - l.within
 
 abbrev pub invariant-along_edges-loop-left : goal.invariant-along_edges-loop-left
 invariant-along_edges-loop-left l = record {
-  known : AreFound l.search l.found;
+  memo : AreFound l.search l.found;
   within : l.left ≤ length l.search.edges.now;
   least : IsLeastWithin l.search.on.prices.now l.limit (Past l.search l.node l.limit (RestAgrees l.search.on l.search.said.now l.wanted) l.left) (RestAgrees l.search.on l.search.said.now l.wanted) l.best;
 }
@@ -40,6 +40,6 @@ decreases-along_edges-loop-left l = l.left
 
 abbrev pub invariant-along_edge-loop-atom : goal.invariant-along_edge-loop-atom
 invariant-along_edge-loop-atom l = record {
-  known : AreFound l.search l.found;
+  memo : AreFound l.search l.found;
   least : IsLeastWithin l.search.on.prices.now l.limit (λ p. SomeBelow l.atom-index l.atom-items (λ x. IsThen (λ a. a ≡ atom_tree x.atom) (RestStands l.search l.edge.to) p)) (RestAgrees l.search.on l.search.said.now l.wanted) l.best;
 }

@@ -1,7 +1,7 @@
 use Rattle.std.proofs.Common.{ap, ◌∙◌}
 use Rattle.fill_tree.specs.Meaning.{program_tree}
 use Rattle.fill_object.specs.Wants.{RestAgrees}
-use Rattle.fill_object.specs.declared.chain.Chain.{Chain}
+use Rattle.fill_tree.specs.declared.chain.Chain.{Chain}
 use Rattle.fill_object.proofs.Others.{end_agrees, end_kept}
 use Rattle.fill_object.proofs.search.ended.Goals as goal
 
@@ -14,5 +14,5 @@ pub returns : goal.returns
 returns c limit =
     let s = c.args.search.now in
     let same = c.in_ok-chain.ensures.ok in
-    end_kept s c.args.node limit (RestAgrees s.on s.said.now c.args.wanted) c.in_ok-chain.chain (ap (λ (z : Chain). z.cost) same ∙ c.no_chain.ensures.cost) (ap (λ (z : Chain). program_tree z.atoms) same ∙ c.no_chain.ensures.atoms)
+    end_kept s c.args.node limit (RestAgrees s.on s.said.now c.args.wanted) c.in_ok-chain.chain (ap (λ (z : Chain). z.cost) same ∙ c.empty.ensures.cost) (ap (λ (z : Chain). program_tree z.atoms) same ∙ c.empty.ensures.atoms)
     c.if-node-search.false (c.is_end.ensures.wanted s.on c.if-not-is_end.false)

@@ -2,14 +2,13 @@ use Rattle.std.proofs.Common.{rules, ◌≡◌, ◌-◌, ℕ, Vec, Global, List,
 use Rattle.std.specs.Result.{OnOk}
 use Rattle.fill_tree.specs.Grammar.{IsPart}
 use Rattle.fill_arena.specs.Contents.{EachIn}
-use Rattle.fill_arena.specs.Stands.{SourceFits, SourceStands}
+use Rattle.fill_arena.specs.Stands.{SourceFits, SourceStands, PartFits, PartStands}
 use Rattle.fill_arena.specs.WellMade.{IsConditionItem}
 use Rattle.fill_arena.specs.declared.entry.AtomItem.TheVariants as atom
 use Rattle.fill_arena.specs.declared.entry.Entry.TheVariants as kind
 use Rattle.fill_arena.proofs.Scan.{here}
-use Rattle.fill_rank.specs.Sets.{PartFits, PartStands}
-use Rattle.fill_rank.proofs.Pieces.{drop_whole, drop_here, ok_on}
-use Rattle.fill_rank.proofs.Stand.{atom_items, items_atom, source_items, items_source}
+use Rattle.fill_arena.proofs.Items.{drop_whole, drop_here, ok_on}
+use Rattle.fill_arena.proofs.Stand.{atom_items, items_atom, source_items, items_source}
 use Rattle.fill_object.specs.Kinds.{atoms_on, sources_on}
 use Rattle.fill_object.specs.Leasts.{AreLeasts, Gains}
 use Rattle.fill_object.specs.Rows.{AreParts, AreRows}
@@ -26,9 +25,9 @@ pub sources_of-returns-clause-least : goal.sources_of-returns-clause-least
 sources_of-returns-clause-least t c =
     subst (λ (v : Vec ValuedSource Global). AreLeasts (sources_on c.args.on.now) (SourceStands c.args.on.now.arena.now c.args.s) v.items) (sym c.in_ok-found.ensures.ok) c.in_ok-scan_sources.ensures.least
 
-pub sources_of-returns-clause-known : goal.sources_of-returns-clause-known
-sources_of-returns-clause-known t c =
-    c.in_ok-keep_sources.ensures c.args.on.now c.in_ok-scan_sources.ensures.known
+pub sources_of-returns-clause-memo : goal.sources_of-returns-clause-memo
+sources_of-returns-clause-memo t c =
+    c.in_ok-keep_sources.ensures c.args.on.now c.in_ok-scan_sources.ensures.memo
     (subst (λ (v : Vec ValuedSource Global). AreLeasts (sources_on c.args.on.now) (SourceStands c.args.on.now.arena.now c.args.s) v.items)
     (sym (c.in_ok-clone-2.ensures.cases ∙ c.in_ok-found.ensures.ok)) c.in_ok-scan_sources.ensures.least)
 
@@ -36,15 +35,15 @@ pub parts_of-returns-clause-least : goal.parts_of-returns-clause-least
 parts_of-returns-clause-least t c =
     subst (λ (v : Vec ValuedAtom Global). AreLeasts (atoms_on c.args.on.now) (PartStands c.args.on.now.arena.now c.args.s) v.items) (sym c.in_ok-found.ensures.ok) c.in_ok-scan_parts.ensures.least
 
-pub parts_of-returns-clause-known : goal.parts_of-returns-clause-known
-parts_of-returns-clause-known t c =
-    c.in_ok-keep_parts.ensures c.args.on.now c.in_ok-scan_parts.ensures.known
+pub parts_of-returns-clause-memo : goal.parts_of-returns-clause-memo
+parts_of-returns-clause-memo t c =
+    c.in_ok-keep_parts.ensures c.args.on.now c.in_ok-scan_parts.ensures.memo
     (subst (λ (v : Vec ValuedAtom Global). AreLeasts (atoms_on c.args.on.now) (PartStands c.args.on.now.arena.now c.args.s) v.items)
     (sym (c.in_ok-clone-2.ensures.cases ∙ c.in_ok-found.ensures.ok)) c.in_ok-scan_parts.ensures.least)
 
 pub scan_sources-loop-item-init : goal.scan_sources-loop-item-init
 scan_sources-loop-item-init t c = record {
-  known = c.requires.known;
+  memo = c.requires.memo;
   gains = scan_none (sources_on c.args.on.now) (sources_laws c.args.on.now) (λ y x. SourceFits x c.args.on.now.arena.now y) c.sources-items.result.now c.new-kept.result.items;
 }
 
@@ -54,7 +53,7 @@ scan_sources-put_source-requires t c =
     let i = c.loop-item.item-index in
     let x = c.item-item.result in
     let item = (c.keeps_made.ensures c.args.s (kind.Sources items) c.sources-items.ensures).each i x (here items i x c.loop-item-test.true c.item-item.is) in
-    (search rules, (item, (c.requires.row, c.loop-item.invariant.known)))
+    (search rules, (item, (c.requires.row, c.loop-item.invariant.memo)))
 
 pub scan_sources-loop-item-preserved : goal.scan_sources-loop-item-preserved
 scan_sources-loop-item-preserved t c =
@@ -63,7 +62,7 @@ scan_sources-loop-item-preserved t c =
     let i = c.loop-item.item-index in
     let x = c.item-item.result in
     record {
-      known = c.in_ok-put_source.ensures.known;
+      memo = c.in_ok-put_source.ensures.memo;
       gains = scan_more (sources_on on) (sources_laws on) (λ y s. SourceFits s on.arena.now y) items i x (here items i x c.loop-item-test.true c.item-item.is) c.new-kept.result.items c.loop-item.kept.items
           c.put_source.new.kept.items c.loop-item.invariant.gains c.in_ok-put_source.ensures.gains;
     }
@@ -80,7 +79,7 @@ scan_sources-returns-clause-least t c =
 
 pub scan_parts-loop-item-init : goal.scan_parts-loop-item-init
 scan_parts-loop-item-init t c = record {
-  known = c.requires.known;
+  memo = c.requires.memo;
   gains = scan_none (atoms_on c.args.on.now) (atoms_laws c.args.on.now) (λ y a. PartFits c.args.on.now.arena.now y a) c.atoms-items.result.now c.new-kept.result.items;
 }
 
@@ -90,7 +89,7 @@ scan_parts-put_part-requires t c =
     let i = c.loop-item.item-index in
     let x = c.item-item.result in
     let item = (c.keeps_made.ensures c.args.s (kind.Atoms items) c.atoms-items.ensures).each i x (here items i x c.loop-item-test.true c.item-item.is) in
-    (search rules, (item, (c.requires.row, c.loop-item.invariant.known)))
+    (search rules, (item, (c.requires.row, c.loop-item.invariant.memo)))
 
 pub scan_parts-loop-item-preserved : goal.scan_parts-loop-item-preserved
 scan_parts-loop-item-preserved t c =
@@ -99,7 +98,7 @@ scan_parts-loop-item-preserved t c =
     let i = c.loop-item.item-index in
     let x = c.item-item.result in
     record {
-      known = c.in_ok-put_part.ensures.known;
+      memo = c.in_ok-put_part.ensures.memo;
       gains = scan_more (atoms_on on) (atoms_laws on) (λ y a. PartFits on.arena.now y a) items i x (here items i x c.loop-item-test.true c.item-item.is) c.new-kept.result.items c.loop-item.kept.items
           c.put_part.new.kept.items c.loop-item.invariant.gains c.in_ok-put_part.ensures.gains;
     }
@@ -127,7 +126,7 @@ put_source-returns-in-Select-clause-gains t c =
 pub put_lookups-rows_of-requires : goal.put_lookups-rows_of-requires
 put_lookups-rows_of-requires t c =
     let older = subst (EachIn (IsConditionItem c.args.on.now.arena.now c.args.set)) (sym c.as_slice.ensures) c.requires.item.older in
-    (search rules, (older, (c.requires.row, c.requires.known)))
+    (search rules, (older, (c.requires.row, c.requires.memo)))
 
 pub put_lookups-put_selects-requires-clause-rows : goal.put_lookups-put_selects-requires-clause-rows
 put_lookups-put_selects-requires-clause-rows t c =
@@ -137,7 +136,7 @@ put_lookups-put_selects-requires-clause-rows t c =
 pub rows_of-loop-left-init : goal.rows_of-loop-left-init
 rows_of-loop-left-init t c = record {
   within = omega arith;
-  known = c.requires.known;
+  memo = c.requires.memo;
   least = subst (λ xs. AreRows c.args.on.now xs c.in_ok-rows.rows.items) (sym (drop_whole c.args.items.now)) (c.in_ok-rows.ensures c.args.on.now);
 }
 
@@ -148,7 +147,7 @@ rows_of-longer_rows-requires t c =
     let within = c.loop-left.invariant.within in
     let x = c.index-items-left.result in
     let at = here items n x (omega (arith, c.loop-left-test.true)) c.index-items-left.is in
-    (search rules, (c.requires.items n x at, (c.requires.row, c.loop-left.invariant.known)))
+    (search rules, (c.requires.items n x at, (c.requires.row, c.loop-left.invariant.memo)))
 
 pub rows_of-loop-left-preserved : goal.rows_of-loop-left-preserved
 rows_of-loop-left-preserved t c =
@@ -164,7 +163,7 @@ rows_of-loop-left-preserved t c =
     let given = subst (AreRows on rest) (sym c.as_slice.ensures.value) c.loop-left.invariant.least in
     record {
       within = omega arith;
-      known = c.in_ok-rows-2.ensures.known;
+      memo = c.in_ok-rows-2.ensures.memo;
       least = subst (λ xs. AreRows on xs c.in_ok-rows-2.rows.items) (sym cut) (c.in_ok-rows-2.ensures.least rest given);
     }
 
@@ -227,9 +226,9 @@ put_part-returns-in_ok-found-in-Sub-clause-gains t c =
 pub sources_of-returns-in-Some-clause-least : goal.sources_of-returns-in-Some-clause-least
 sources_of-returns-in-Some-clause-least t c =
     subst (λ (v : Vec ValuedSource Global). AreLeasts (sources_on c.args.on.now) (SourceStands c.args.on.now.arena.now c.args.s) v.items) (sym c.in_ok-clone.ensures.cases)
-    (c.in-Some.ensures c.args.on.now c.requires.known)
+    (c.in-Some.ensures c.args.on.now c.requires.memo)
 
 pub parts_of-returns-in-Some-clause-least : goal.parts_of-returns-in-Some-clause-least
 parts_of-returns-in-Some-clause-least t c =
     subst (λ (v : Vec ValuedAtom Global). AreLeasts (atoms_on c.args.on.now) (PartStands c.args.on.now.arena.now c.args.s) v.items) (sym c.in_ok-clone.ensures.cases)
-    (c.in-Some.ensures c.args.on.now c.requires.known)
+    (c.in-Some.ensures c.args.on.now c.requires.memo)

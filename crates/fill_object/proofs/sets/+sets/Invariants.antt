@@ -1,8 +1,8 @@
 use Rattle.std.proofs.Common.{◌+◌, ◌*◌, ◌≤◌, length, drop}
-use Rattle.fill_arena.specs.Stands.{SourceFits}
-use Rattle.fill_rank.specs.Sets.{PartFits, SomeBelow}
+use Rattle.fill_arena.specs.Stands.{SourceFits, PartFits}
+use Rattle.fill_arena.specs.Contents.{SomeBelow}
 use Rattle.fill_object.specs.Kinds.{atoms_on, sources_on}
-use Rattle.fill_object.specs.Known.{AreKnown}
+use Rattle.fill_object.specs.Memo.{IsMemoOf}
 use Rattle.fill_object.specs.Leasts.{Gains}
 use Rattle.fill_object.specs.Rows.{AreRows}
 use Rattle.fill_object.proofs.sets.+sets.Given as goal
@@ -39,20 +39,20 @@ decreases-put_part l = 16 * l.set + 3
 
 abbrev pub invariant-scan_sources-loop-item : goal.invariant-scan_sources-loop-item
 invariant-scan_sources-loop-item l = record {
-  known : AreKnown l.on l.known;
+  memo : IsMemoOf l.on l.memo;
   gains : Gains (sources_on l.on) (λ x. SomeBelow l.item-index l.items (λ y. SourceFits x l.on.arena.now y)) l.initial.kept.items l.kept.items;
 }
 
 abbrev pub invariant-scan_parts-loop-item : goal.invariant-scan_parts-loop-item
 invariant-scan_parts-loop-item l = record {
-  known : AreKnown l.on l.known;
+  memo : IsMemoOf l.on l.memo;
   gains : Gains (atoms_on l.on) (λ a. SomeBelow l.item-index l.items (λ y. PartFits l.on.arena.now y a)) l.initial.kept.items l.kept.items;
 }
 
 abbrev pub invariant-rows_of-loop-left : goal.invariant-rows_of-loop-left
 invariant-rows_of-loop-left l = record {
   within : l.left ≤ length l.items;
-  known : AreKnown l.on l.known;
+  memo : IsMemoOf l.on l.memo;
   least : AreRows l.on (drop l.left l.items) l.rows.items;
 }
 

@@ -3,8 +3,8 @@ use Rattle.fill_tree.specs.Meaning.{source_tree}
 use Rattle.fill_tree.specs.declared.tree.Source.TheVariants as source
 use Rattle.fill_arena.specs.Stands.{SourceFits}
 use Rattle.fill_arena.specs.declared.entry.SourceItem.TheVariants.{Col}
-use Rattle.fill_rank.proofs.Pieces.{ok_on}
-use Rattle.fill_rank.proofs.Trees.{col_tree}
+use Rattle.fill_arena.proofs.Items.{ok_on}
+use Rattle.fill_arena.proofs.Trees.{col_tree}
 use Rattle.fill_object.specs.Kinds.{sources_on}
 use Rattle.fill_object.proofs.Gains.{gains_same}
 use Rattle.fill_object.proofs.KindLaws.{sources_laws}

@@ -4,7 +4,7 @@ use Rattle.fill_tree.specs.Meaning.{atom_tree, program_tree, select_tree, source
 use Rattle.fill_tree.specs.Tree.{atoms_of, select}
 use Rattle.fill_tree.specs.declared.tree.Atom.TheFolds.{the_lemmas}
 use Rattle.fill_tree.specs.declared.tree.Source.TheVariants as source
-use Rattle.fill_rank.proofs.Pieces.{ok_on}
+use Rattle.fill_arena.proofs.Items.{ok_on}
 use Rattle.fill_object.specs.Kinds.{sources_on}
 use Rattle.fill_object.specs.Rows.{IsSelectBy}
 use Rattle.fill_object.proofs.Gains.{gains_none, gains_same}

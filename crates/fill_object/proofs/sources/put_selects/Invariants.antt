@@ -1,4 +1,4 @@
-use Rattle.fill_rank.specs.Sets.{SomeBelow}
+use Rattle.fill_arena.specs.Contents.{SomeBelow}
 use Rattle.fill_object.specs.Kinds.{sources_on}
 use Rattle.fill_object.specs.Leasts.{Gains}
 use Rattle.fill_object.specs.Rows.{IsSelectBy}

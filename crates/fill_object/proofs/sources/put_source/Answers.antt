@@ -1,4 +1,4 @@
-use Rattle.fill_rank.proofs.Pieces.{ok_on}
+use Rattle.fill_arena.proofs.Items.{ok_on}
 use Rattle.fill_object.proofs.KindLaws.{gains_source}
 use Rattle.fill_object.proofs.sources.put_source.Goals as goal
 

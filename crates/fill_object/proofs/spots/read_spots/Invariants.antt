@@ -1,5 +1,5 @@
 use Rattle.std.proofs.Common.{◌≡◌}
-use Rattle.fill_rank.specs.Sets.{SomeBelow}
+use Rattle.fill_arena.specs.Contents.{SomeBelow}
 use Rattle.fill_object.specs.Kinds.{spots_in}
 use Rattle.fill_object.specs.Leasts.{Gains}
 use Rattle.fill_object.proofs.spots.read_spots.Given as goal

@@ -1,12 +1,12 @@
 use Rattle.std.proofs.Common.{◌≡◌, ◌-◌, ◌≤◌, length, drop}
-use Rattle.fill_rank.specs.Known.{AreKnown}
+use Rattle.fill_rank.specs.Memo.{IsMemoOf}
 use Rattle.fill_rank.specs.Sets.{AreBestRests}
 use Rattle.fill_rank.proofs.graph.least.Given as goal
 
 abbrev pub invariant-loop-left : goal.invariant-loop-left
 invariant-loop-left l = record {
   within : l.left ≤ length l.edges;
-  known : AreKnown l.prices l.arena l.known;
+  memo : IsMemoOf l.prices l.arena l.memo;
   nodes : length l.rests.items ≡ length l.initial.rests.items;
   best : AreBestRests l.prices l.arena (drop l.left l.edges) (length l.initial.rests.items - 1) l.rests.items;
 }

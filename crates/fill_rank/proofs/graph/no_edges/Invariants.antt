@@ -1,5 +1,5 @@
 use Rattle.std.proofs.Common.{◌≡◌, ℕ, ◌+◌, Option, Some, None, length, slice_get}
-use Rattle.fill_rank.specs.declared.chain.Chain.{Chain}
+use Rattle.fill_tree.specs.declared.chain.Chain.{Chain}
 use Rattle.fill_rank.proofs.graph.no_edges.Given as goal
 
 abbrev pub invariant-loop-node : goal.invariant-loop-node

@@ -1,8 +1,9 @@
 use Rattle.std.proofs.Common.{◌<◌, length, refl, subst, ◌∙◌}
 use Rattle.std.proofs.Math.ListN.{set, length-set}
 use Rattle.fill_arena.proofs.Scan.{here}
-use Rattle.fill_rank.specs.Rank.{IsLesser, chain_rank}
-use Rattle.fill_rank.proofs.Pieces.{set_here, set_apart}
+use Rattle.fill_arena.specs.Best.{IsLesser}
+use Rattle.fill_tree.specs.Order.{chain_rank}
+use Rattle.fill_arena.proofs.Items.{set_here, set_apart}
 use Rattle.fill_rank.proofs.Cheap.{link_cheap}
 use Rattle.fill_rank.proofs.Walk.{edge_step, edge_dear}
 use Rattle.fill_rank.proofs.graph.take_edge.Goals as goal

@@ -3,7 +3,7 @@ use Rattle.std.proofs.lemmas.Bool.{false≢true}
 use Rattle.std.specs.declared.cmp.Ordering.TheVariants.{Less}
 use Rattle.fill_arena.proofs.Scan.{here}
 use Rattle.fill_tokens.specs.Prices.{place_cost}
-use Rattle.fill_rank.specs.Rank.{place_rank}
+use Rattle.fill_tree.specs.Order.{place_rank}
 use Rattle.fill_rank.proofs.Scan.{BestBelow, below_first, below_kept, below_taken, below_done}
 use Rattle.fill_rank.proofs.pick.least_place.Goals as goal
 use Rattle.fill_rank.proofs.pick.least_place.Goals.{then-place_before, else-place_before}

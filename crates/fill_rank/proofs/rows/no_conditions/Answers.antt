@@ -1,9 +1,14 @@
-use Rattle.std.proofs.Common.{[], List, Some, None, refl, sym, subst}
-use Rattle.fill_tree.specs.declared.tree.Atom.{Atom}
-use Rattle.fill_rank.specs.Sets.{AreBestRows}
-use Rattle.fill_rank.proofs.Put.{no_row_mixed, best_end}
+use Rattle.std.proofs.Common.{[], ap, sym, subst, ◌∙◌}
+use Rattle.fill_tree.specs.Cost.{conditions_cost}
+use Rattle.fill_tree.specs.Order.{rank, atoms_cmp}
+use Rattle.fill_arena.specs.Stands.{ConditionsFit}
+use Rattle.fill_arena.specs.Best.{IsBest}
+use Rattle.fill_arena.proofs.Stand.{no_row_mixed}
+use Rattle.fill_rank.proofs.Put.{best_end}
 use Rattle.fill_rank.proofs.rows.no_conditions.Goals as goal
 
 pub returns : goal.returns
-returns c prices cs = subst (λ (atoms : List Atom). AreBestRows prices cs [] (record { any = Some (record { cost = 0; atoms = record { atoms = atoms } }); mixed = None })) (sym c.new.ensures)
-    (record { any = (refl, best_end prices cs); mixed = no_row_mixed cs })
+returns c prices cs =
+    let tree = sym c.empty.ensures.atoms in
+    let best = subst (IsBest (rank (conditions_cost prices) atoms_cmp) (λ p. ConditionsFit p cs [])) tree (best_end prices cs) in
+    record { any = (c.empty.ensures.cost ∙ ap (conditions_cost prices) tree, best); mixed = no_row_mixed cs }

@@ -6,23 +6,25 @@ use Rattle.fill_tree.specs.Tree.{select}
 use Rattle.fill_tree.specs.declared.tree.Atom.TheVariants.{Sub}
 use Rattle.fill_tree.specs.declared.tree.Atom.TheFolds.{the_lemmas}
 use Rattle.fill_tree.specs.declared.tree.Source.TheVariants as source
-use Rattle.fill_arena.specs.Stands.{ConditionsFit, SourceFits, SourceStands}
+use Rattle.fill_arena.specs.Stands.{ConditionsFit, SourceFits, SourceStands, PartFits, PartStands}
 use Rattle.fill_arena.specs.declared.entry.AtomItem.TheVariants as item
 use Rattle.fill_arena.specs.declared.entry.ConditionItem.{ConditionItem}
 use Rattle.fill_arena.specs.declared.entry.Entry.TheVariants.{Sources, Atoms}
 use Rattle.fill_arena.proofs.Scan.{here}
-use Rattle.fill_rank.specs.Rank.{IsBest, IsBestOf, atom_rank, source_rank}
-use Rattle.fill_rank.specs.Sets.{AreBestRows, IsBestChain, IsBestPart, IsConstantOf, PartFits, PartStands}
-use Rattle.fill_rank.proofs.Best.{atom_rank-total, atom_rank-exact, source_rank-total, source_rank-exact}
+use Rattle.fill_arena.specs.Best.{IsBest, IsBestOf}
+use Rattle.fill_tree.specs.Order.{atom_rank, source_rank}
+use Rattle.fill_rank.specs.Sets.{AreBestRows, IsBestChain, IsBestPart, IsConstantOf}
+use Rattle.fill_tree.proofs.Ranked.{atom_rank-total, atom_rank-exact, source_rank-total, source_rank-exact}
 use Rattle.fill_rank.proofs.Parts.{best_select, best_sub}
 use Rattle.fill_arena.specs.Contents.{EachIn}
 use Rattle.fill_arena.specs.WellMade.{IsConditionItem}
 use Rattle.fill_rank.proofs.Cheap.{rows_cheap, sources_cheap, source_cheap, atoms_cheap, atom_cheap, part_fits}
-use Rattle.fill_rank.proofs.Pieces.{each_dropped, ok_on, constant_kept, part_kept, no_part_kept, no_lookup, copied_best, drop_whole, drop_here}
+use Rattle.fill_arena.proofs.Items.{each_dropped, ok_on, drop_whole, drop_here}
+use Rattle.fill_rank.proofs.Pieces.{constant_kept, part_kept, no_part_kept, no_lookup, copied_best}
 use Rattle.fill_rank.proofs.Scan.{scan_step, scan_done}
 use Rattle.fill_arena.proofs.Filled.{source_filled}
-use Rattle.fill_rank.proofs.Stand.{atom_items, items_atom, source_items, items_source}
-use Rattle.fill_rank.proofs.Trees.{sub_tree}
+use Rattle.fill_arena.proofs.Stand.{atom_items, items_atom, source_items, items_source}
+use Rattle.fill_arena.proofs.Trees.{sub_tree}
 use Rattle.fill_rank.proofs.sets.+sets.Goals as goal
 use Rattle.fill_rank.proofs.sets.+sets.Goals.{longer_rows-in-Some+in_ok-copy-in-Some, longer_rows-in-None, longer_rows-in-Some-atoms+in_ok-part-in-Some-atoms, longer_rows-in-None-atoms}
 
@@ -88,15 +90,15 @@ part_in-returns-in_ok-right-in-Sub-clause-best t c =
     subst (λ i. IsBest (atom_rank c.args.prices.now) (λ a. PartFits arena i a) (atom_tree (Sub x p q))) (sym c.in-Sub.is)
     (subst (IsBest (atom_rank c.args.prices.now) (λ a. PartFits arena (item.Sub c.in-Sub.sources c.in-Sub.lefts c.in-Sub.rights) a)) (sym (sub_tree x p q)) best)
 
-pub part_of-returns-clause-known : goal.part_of-returns-clause-known
-part_of-returns-clause-known t c =
+pub part_of-returns-clause-memo : goal.part_of-returns-clause-memo
+part_of-returns-clause-memo t c =
     let arena = c.args.arena.now in
-    c.in_ok-keep_part.ensures.kept c.args.prices.now arena c.in_ok-best.ensures.known (copied_best c.args.prices.now (PartStands arena c.args.s) c.in_ok-best.best c.in_ok-copy_of.field-0 c.in_ok-copy_of.ensures c.in_ok-best.ensures.best)
+    c.in_ok-keep_part.ensures.kept c.args.prices.now arena c.in_ok-best.ensures.memo (copied_best c.args.prices.now (PartStands arena c.args.s) c.in_ok-best.best c.in_ok-copy_of.field-0 c.in_ok-copy_of.ensures c.in_ok-best.ensures.best)
 
 pub rows_of-loop-left-init : goal.rows_of-loop-left-init
 rows_of-loop-left-init t c = record {
   within = omega arith;
-  known = c.requires.known;
+  memo = c.requires.memo;
   best = subst (λ xs. AreBestRows c.args.prices.now c.args.arena.now xs c.no_conditions-rows.result) (sym (drop_whole c.args.items.now)) (c.no_conditions-rows.ensures c.args.prices.now c.args.arena.now);
 }
 
@@ -116,7 +118,7 @@ rows_of-longer_rows-requires t c =
     let few_here : length (x ∷ drop c.loop-left.left items) ≤ 3 = subst (λ (l : List ConditionItem). length l ≤ 3) cut short in
     let rows : (is : List ConditionItem) × EachIn P (x ∷ is) × (length (x ∷ is) ≤ 3) × AreBestRows c.args.prices.now c.args.arena.now is c.loop-left.rows =
     (drop c.loop-left.left items, older, few_here, c.loop-left.invariant.best) in
-    (search rules, (c.requires.items n x at, (rows, c.loop-left.invariant.known)))
+    (search rules, (c.requires.items n x at, (rows, c.loop-left.invariant.memo)))
 
 pub rows_of-loop-left-preserved : goal.rows_of-loop-left-preserved
 rows_of-loop-left-preserved t c =
@@ -130,7 +132,7 @@ rows_of-loop-left-preserved t c =
     let cut : drop n items ≡ x ∷ drop c.loop-left.left items = drop_here items n x at ∙ ap (λ m. x ∷ drop m items) next in
     record {
       within = omega arith;
-      known = c.in_ok-rows.ensures.known;
+      memo = c.in_ok-rows.ensures.memo;
       best = subst (λ xs. AreBestRows c.args.prices.now arena xs c.in_ok-rows.rows) (sym cut) (c.in_ok-rows.ensures.best (drop c.loop-left.left items) c.loop-left.invariant.best);
     }
 
@@ -144,7 +146,7 @@ scan_parts-part_in-requires t c =
     let items = c.atoms-items.result.now in
     let i = c.loop-item.item-index in
     let x = c.item-item.result in
-    (search rules, ((c.keeps_made.ensures c.args.s (Atoms items) c.atoms-items.ensures).each i x (here items i x c.loop-item-test.true c.item-item.is), c.loop-item.invariant.known))
+    (search rules, ((c.keeps_made.ensures c.args.s (Atoms items) c.atoms-items.ensures).each i x (here items i x c.loop-item-test.true c.item-item.is), c.loop-item.invariant.memo))
 
 pub scan_parts-loop-item-preserved : goal.scan_parts-loop-item-preserved
 scan_parts-loop-item-preserved t c =
@@ -152,7 +154,7 @@ scan_parts-loop-item-preserved t c =
     let i = c.loop-item.item-index in
     let x = c.item-item.result in
     record {
-      known = c.in_ok-next.ensures.known;
+      memo = c.in_ok-next.ensures.memo;
       best = scan_step (λ x a. PartFits c.args.arena.now x a) items atom_tree (atom_rank c.args.prices.now) (atom_rank-total c.args.prices.now) (atom_rank-exact c.args.prices.now) i x (here items i x c.loop-item-test.true c.item-item.is)
           c.loop-item.best c.in_ok-next.next c.lesser_atom-best.result c.lesser_atom-best.ensures c.loop-item.invariant.best c.in_ok-next.ensures.best;
     }
@@ -170,7 +172,7 @@ scan_sources-source_in-requires t c =
     let items = c.sources-items.result.now in
     let i = c.loop-item.item-index in
     let x = c.item-item.result in
-    (search rules, ((c.keeps_made.ensures c.args.s (Sources items) c.sources-items.ensures).each i x (here items i x c.loop-item-test.true c.item-item.is), c.loop-item.invariant.known))
+    (search rules, ((c.keeps_made.ensures c.args.s (Sources items) c.sources-items.ensures).each i x (here items i x c.loop-item-test.true c.item-item.is), c.loop-item.invariant.memo))
 
 pub scan_sources-loop-item-preserved : goal.scan_sources-loop-item-preserved
 scan_sources-loop-item-preserved t c =
@@ -178,7 +180,7 @@ scan_sources-loop-item-preserved t c =
     let i = c.loop-item.item-index in
     let x = c.item-item.result in
     record {
-      known = c.in_ok-next.ensures.known;
+      memo = c.in_ok-next.ensures.memo;
       best = scan_step (λ y s. SourceFits s c.args.arena.now y) items source_tree (source_rank c.args.prices.now) (source_rank-total c.args.prices.now) (source_rank-exact c.args.prices.now) i x (here items i x c.loop-item-test.true c.item-item.is)
           c.loop-item.best (Some c.in_ok-next.next) c.lesser_source-best.result c.lesser_source-best.ensures c.loop-item.invariant.best c.in_ok-next.ensures.best;
     }

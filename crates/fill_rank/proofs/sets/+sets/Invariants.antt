@@ -1,9 +1,11 @@
 use Rattle.std.proofs.Common.{◌+◌, ◌*◌, ◌≤◌, length, drop}
 use Rattle.fill_tree.specs.Meaning.{atom_tree, source_tree}
-use Rattle.fill_arena.specs.Stands.{SourceFits}
-use Rattle.fill_rank.specs.Known.{AreKnown}
-use Rattle.fill_rank.specs.Rank.{IsBestOf, atom_rank, source_rank}
-use Rattle.fill_rank.specs.Sets.{AreBestRows, PartFits, SomeBelow}
+use Rattle.fill_arena.specs.Stands.{SourceFits, PartFits}
+use Rattle.fill_rank.specs.Memo.{IsMemoOf}
+use Rattle.fill_arena.specs.Best.{IsBestOf}
+use Rattle.fill_tree.specs.Order.{atom_rank, source_rank}
+use Rattle.fill_arena.specs.Contents.{SomeBelow}
+use Rattle.fill_rank.specs.Sets.{AreBestRows}
 use Rattle.fill_rank.proofs.sets.+sets.Given as goal
 
 abbrev pub decreases-source_of : goal.decreases-source_of
@@ -35,20 +37,20 @@ decreases-part_in l = 8 * l.set
 
 abbrev pub invariant-scan_sources-loop-item : goal.invariant-scan_sources-loop-item
 invariant-scan_sources-loop-item l = record {
-  known : AreKnown l.prices l.arena l.known;
+  memo : IsMemoOf l.prices l.arena l.memo;
   best : IsBestOf source_tree (source_rank l.prices) (λ x. SomeBelow l.item-index l.items (λ y. SourceFits x l.arena y)) l.best;
 }
 
 abbrev pub invariant-scan_parts-loop-item : goal.invariant-scan_parts-loop-item
 invariant-scan_parts-loop-item l = record {
-  known : AreKnown l.prices l.arena l.known;
+  memo : IsMemoOf l.prices l.arena l.memo;
   best : IsBestOf atom_tree (atom_rank l.prices) (λ a. SomeBelow l.item-index l.items (λ y. PartFits l.arena y a)) l.best;
 }
 
 abbrev pub invariant-rows_of-loop-left : goal.invariant-rows_of-loop-left
 invariant-rows_of-loop-left l = record {
   within : l.left ≤ length l.items;
-  known : AreKnown l.prices l.arena l.known;
+  memo : IsMemoOf l.prices l.arena l.memo;
   best : AreBestRows l.prices l.arena (drop l.left l.items) l.rows;
 }
 

@@ -3,10 +3,11 @@ use Rattle.fill_tree.specs.Meaning.{atom_tree}
 use Rattle.fill_tree.specs.Tree.{constant}
 use Rattle.fill_tree.specs.declared.tree.Atom.TheVariants.{Const}
 use Rattle.fill_arena.specs.declared.entry.AtomItem.TheVariants as item
-use Rattle.fill_rank.specs.Rank.{IsBest, atom_rank}
-use Rattle.fill_rank.specs.Sets.{ConstantFits}
+use Rattle.fill_arena.specs.Best.{IsBest}
+use Rattle.fill_tree.specs.Order.{atom_rank}
+use Rattle.fill_arena.specs.Stands.{ConstantFits}
 use Rattle.fill_rank.proofs.Parts.{best_constant}
-use Rattle.fill_rank.proofs.Trees.{constant_tree}
+use Rattle.fill_arena.proofs.Trees.{constant_tree}
 use Rattle.fill_rank.proofs.sets.constant_in.Goals as goal
 
 pub returns-in_ok-copy-in-Const : goal.returns-in_ok-copy-in-Const

@@ -1,13 +1,13 @@
 use Rattle.fill_tree.specs.Grammar.{IsPart}
 use Rattle.fill_tree.specs.Meaning.{atom_tree}
 use Rattle.fill_arena.proofs.Scan.{here}
-use Rattle.fill_rank.specs.Rank.{atom_rank}
-use Rattle.fill_rank.specs.Sets.{ConstantFits, ConstantStands}
-use Rattle.fill_rank.proofs.Best.{atom_rank-total, atom_rank-exact}
+use Rattle.fill_tree.specs.Order.{atom_rank}
+use Rattle.fill_arena.specs.Stands.{ConstantFits, ConstantStands}
+use Rattle.fill_tree.proofs.Ranked.{atom_rank-total, atom_rank-exact}
 use Rattle.fill_rank.proofs.Scan.{scan_step, scan_done}
 use Rattle.fill_arena.specs.declared.entry.Entry.TheVariants.{Atoms}
 use Rattle.fill_rank.proofs.Cheap.{atoms_cheap, atom_cheap, constant_fits}
-use Rattle.fill_rank.proofs.Stand.{atom_items, items_atom}
+use Rattle.fill_arena.proofs.Stand.{atom_items, items_atom}
 use Rattle.fill_rank.proofs.sets.constant_of.Goals as goal
 
 pub loop-item-preserved : goal.loop-item-preserved

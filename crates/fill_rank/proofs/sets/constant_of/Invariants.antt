@@ -1,6 +1,8 @@
 use Rattle.fill_tree.specs.Meaning.{atom_tree}
-use Rattle.fill_rank.specs.Rank.{IsBestOf, atom_rank}
-use Rattle.fill_rank.specs.Sets.{ConstantFits, SomeBelow}
+use Rattle.fill_arena.specs.Best.{IsBestOf}
+use Rattle.fill_tree.specs.Order.{atom_rank}
+use Rattle.fill_arena.specs.Contents.{SomeBelow}
+use Rattle.fill_arena.specs.Stands.{ConstantFits}
 use Rattle.fill_rank.proofs.sets.constant_of.Given as goal
 
 abbrev pub invariant-loop-item : goal.invariant-loop-item

@@ -1,7 +1,8 @@
 use Rattle.std.proofs.Common.{subst}
 use Rattle.fill_tree.specs.Meaning.{atom_tree}
 use Rattle.fill_arena.specs.Stands.{AtomStands}
-use Rattle.fill_rank.specs.Rank.{IsBestOf, atom_rank}
+use Rattle.fill_arena.specs.Best.{IsBestOf}
+use Rattle.fill_tree.specs.Order.{atom_rank}
 use Rattle.fill_rank.proofs.Cheap.{constant_cheap, part_cheap}
 use Rattle.fill_rank.proofs.Pieces.{atom_best}
 use Rattle.fill_arena.proofs.Filled.{atom_filled}

@@ -42,7 +42,7 @@ returns c =
           Reading-end (λ (s : Bor (List ℕ)). Some s.now) c.loop.reader w.read_byte_record.new.self (fields_of w.read_byte_record.new.row) c.args.bytes.now c.loop.records c.loop.counter c.args.most here.config here.reading few read
     ]
 
-pub want_of_memory-requires : goal.want_of_memory-requires
-want_of_memory-requires c =
+pub out_of_memory-requires : goal.out_of_memory-requires
+out_of_memory-requires c =
     let here = c.loop.invariant in
     memory_alone (λ (s : Bor (List ℕ)). Some s.now) c.loop.reader c.read_byte_record.new.self c.in-Err.error.kind here.flexible (c.in-Err.ensures.why here.ready)

@@ -30,5 +30,5 @@ loop-entry-preserved g c =
           c.loop-entry.invariant.ground c.args.entries.now c.loop-entry.entry-index c.entry-item.result c.in-Ok.one c.if-refused.refused c.loop-entry-test.true c.entry-item.is flag
           c.loop-entry.invariant.written c.in-Ok.ensures.leaves;
       later = omega arith;
-      known = c.write_entry.ensures.known;
+      memo = c.write_entry.ensures.memo;
     }

@@ -1,6 +1,6 @@
 use Rattle.std.proofs.Common.{[], ◌∷◌}
 use Rattle.fill_arena.specs.Contents.{IsPlaceSet, IsSourceSet, IsAtomSet}
-use Rattle.fill_rank.proofs.Pieces.{ok_on}
+use Rattle.fill_arena.proofs.Items.{ok_on}
 use Rattle.fill_arena.proofs.Samples.{sample_graph, two_sets, places_later, atoms_later}
 use Rattle.test_graphs.proofs.Ranked.{sample_constant, sample_parts}
 use Rattle.test_graphs.proofs.rank.fill.Goals as goal

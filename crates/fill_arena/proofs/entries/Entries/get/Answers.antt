@@ -47,4 +47,4 @@ returns-in-Graph c =
     let ks = c.self.inside.kept.items in let places = c.self.inside.places in let n = c.args.number in
     let lt : n < length ks = omega (arith, c.requires, ap length c.self.view_is, length-map ks (entry_at places)) in
     let there = here ks n c.index.result.now lt c.index.ensures ∙ ap Some c.in-Graph.is in
-    ap (λ l. slice_get l n) (sym c.self.view_is) ∙ get_shown ks n (kept.Graph c.in-Graph.nodes c.in-Graph.edges) places there ∙ ap (λ l. Some (kind.Graph c.in-Graph.nodes l)) (sym c.as_slice-in-Graph.ensures)
+    ap (λ l. slice_get l n) (sym c.self.view_is) ∙ get_shown ks n (kept.Graph c.in-Graph.nodes c.in-Graph.edges) places there

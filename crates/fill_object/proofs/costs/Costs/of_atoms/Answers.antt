@@ -23,7 +23,7 @@ loop-item-preserved c =
     let first = c.lesser_cost-least.ensures.first in
     let second = c.lesser_cost-least.ensures.second in
     record {
-      known = c.in_ok-own.ensures.known;
+      memo = c.in_ok-own.ensures.memo;
       costs = below_more (λ j. (a : AtomTree) → AtomFits a c.args.arena.now j → c.loop-item.least ≤ atom_cost c.args.prices.now a) (λ j. (a : AtomTree) → AtomFits a c.args.arena.now j → c.lesser_cost-least.result ≤ atom_cost c.args.prices.now a)
           items i x (here items i x c.loop-item-test.true c.item-item.is) (λ j all a fits. let le = all a fits in omega arith) c.loop-item.invariant.costs (λ a fits. let le = c.in_ok-own.ensures.least a fits in omega arith);
     }

@@ -8,6 +8,6 @@ use Rattle.fill_object.proofs.costs.Costs.of_atoms.Given as goal
 
 abbrev pub invariant-loop-item : goal.invariant-loop-item
 invariant-loop-item l = record {
-  known : AreCosts l.prices l.arena l.self;
+  memo : AreCosts l.prices l.arena l.self;
   costs : EachBelow (λ i. (a : AtomTree) → AtomFits a l.arena i → l.least ≤ atom_cost l.prices a) l.items l.item-index;
 }

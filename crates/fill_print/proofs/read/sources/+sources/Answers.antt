@@ -145,13 +145,13 @@ pub next_condition-returns-then-not-seen : goal.next_condition-returns-then-not-
 next_condition-returns-then-not-seen t c = reads_same (λ x. option_map atom_tree x.0) (λ x. x.1.now) c.args.bytes.now c.later_condition.result (step_must (tokens_of c.args.notation) c.args.depth (record { room = c.args.room; seen = c.args.seen }) c.if-room-eq3.false c.if-not-seen.true (c.requires.alive c.if-not-seen.true)) c.later_condition.ensures
 
 pub next_condition-returns-then-room-eq0 : goal.next_condition-returns-then-room-eq0
-next_condition-returns-then-room-eq0 t c = reads_same (λ x. option_map atom_tree x.0) (λ x. x.1.now) c.args.bytes.now c.no_condition.result (step_end (tokens_of c.args.notation) c.args.depth (record { room = c.args.room; seen = c.args.seen }) c.if-room-eq0.true c.if-not-seen.false) c.no_condition.ensures
+next_condition-returns-then-room-eq0 t c = reads_same (λ x. option_map atom_tree x.0) (λ x. x.1.now) c.args.bytes.now c.no_atom.result (step_end (tokens_of c.args.notation) c.args.depth (record { room = c.args.room; seen = c.args.seen }) c.if-room-eq0.true c.if-not-seen.false) c.no_atom.ensures
 
 pub next_condition-returns-in-Some : goal.next_condition-returns-in-Some
 next_condition-returns-in-Some t c = reads_via (λ x. option_map atom_tree x.0) (λ x. x.1.now) 44 c.args.bytes.now c.in-Some._rest.now c.later_condition-in-Some.result (step_more (tokens_of c.args.notation) c.args.depth (record { room = c.args.room; seen = c.args.seen }) c.if-room-eq3.false c.if-room-eq0.false c.if-not-seen.false) c.in-Some.ensures c.later_condition-in-Some.ensures
 
 pub next_condition-returns-in-None : goal.next_condition-returns-in-None
-next_condition-returns-in-None t c = reads_else (λ x. option_map atom_tree x.0) (λ x. x.1.now) 44 c.args.bytes.now c.no_condition-in-None.result (step_close (tokens_of c.args.notation) c.args.depth (record { room = c.args.room; seen = c.args.seen }) c.if-room-eq3.false c.if-not-seen.false) c.in-None.ensures c.no_condition-in-None.ensures
+next_condition-returns-in-None t c = reads_else (λ x. option_map atom_tree x.0) (λ x. x.1.now) 44 c.args.bytes.now c.no_atom-in-None.result (step_close (tokens_of c.args.notation) c.args.depth (record { room = c.args.room; seen = c.args.seen }) c.if-room-eq3.false c.if-not-seen.false) c.in-None.ensures c.no_atom-in-None.ensures
 
 pub conditions-returns-in_err-next : goal.conditions-returns-in_err-next
 conditions-returns-in_err-next t c =

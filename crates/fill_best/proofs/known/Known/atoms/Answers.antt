@@ -1,9 +1,0 @@
-use Rattle.fill_tree.specs.Cost.{atom_cost}
-use Rattle.fill_tree.specs.Order.{atom_cmp}
-use Rattle.fill_arena.specs.Stands.{AtomStands}
-use Rattle.fill_best.specs.Cheapest.{AreCheapest}
-use Rattle.fill_rank.proofs.Maps.{found_right}
-use Rattle.fill_best.proofs.known.Known.atoms.Goals as goal
-
-pub returns : goal.returns
-returns c prices cs k known = found_right (λ o. AreCheapest (atom_cost prices) atom_cmp (AtomStands cs c.args.s) k o.value.items) _ _ c.get.ensures.value (known.atoms c.args.s)

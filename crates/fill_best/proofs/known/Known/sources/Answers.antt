@@ -1,9 +1,0 @@
-use Rattle.fill_tree.specs.Cost.{source_cost}
-use Rattle.fill_tree.specs.Order.{source_cmp}
-use Rattle.fill_arena.specs.Stands.{SourceStands}
-use Rattle.fill_best.specs.Cheapest.{AreCheapest}
-use Rattle.fill_rank.proofs.Maps.{found_right}
-use Rattle.fill_best.proofs.known.Known.sources.Goals as goal
-
-pub returns : goal.returns
-returns c prices cs k known = found_right (λ o. AreCheapest (source_cost prices) source_cmp (SourceStands cs c.args.s) k o.value.items) _ _ c.get.ensures.value (known.sources c.args.s)

@@ -1,0 +1,18 @@
+use Rattle.std.proofs.Common.{nat_eq}
+use Rattle.std.specs.HashMap.{get}
+use Rattle.fill_tree.specs.Cost.{source_cost}
+use Rattle.fill_tree.specs.Order.{source_cmp}
+use Rattle.fill_arena.specs.Stands.{SourceStands}
+use Rattle.fill_best.specs.Cheapest.{AreCheapest}
+use Rattle.fill_arena.proofs.Maps.{put_right}
+use Rattle.fill_best.proofs.memo.Memo.keep_sources.Goals as goal
+
+pub returns-in-Ok : goal.returns-in-Ok
+returns-in-Ok c prices cs k memo first =
+    let u = c.in-Ok.ensures.updates in
+    record {
+      places = memo.places;
+      sources = put_right (λ q. get nat_eq c.args.self.now.sources q) (λ q. get nat_eq c.insert.new.self q) (λ q o. AreCheapest (source_cost prices) source_cmp (SourceStands cs q) k o.value.items) c.args.s c.args.found u.1 u.2 memo.sources first;
+      parts = memo.parts;
+      atoms = memo.atoms;
+    }

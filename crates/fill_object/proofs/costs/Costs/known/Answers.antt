@@ -1,7 +1,0 @@
-use Rattle.std.proofs.Common.{◌∙◌}
-use Rattle.fill_rank.proofs.Maps.{copied_right}
-use Rattle.fill_object.specs.Bounds.{IsPlaceLeast}
-use Rattle.fill_object.proofs.costs.Costs.known.Goals as goal
-
-pub returns : goal.returns
-returns c prices cs known = copied_right (IsPlaceLeast prices cs c.args.s) _ _ (c.copied.ensures ∙ c.get.ensures.value) (known.places c.args.s)

@@ -1,5 +1,0 @@
-use Rattle.std.proofs.Common.{rules}
-use Rattle.fill_object.proofs.known.Known.new.Goals as goal
-
-pub returns : goal.returns
-returns c on = record { sources = search rules; parts = search rules; atoms = search rules; spots = c.new-4.ensures on.prices.now on.arena.now }

@@ -1,0 +1,17 @@
+use Rattle.std.proofs.Common.{nat_eq}
+use Rattle.std.specs.HashMap.{get}
+use Rattle.fill_arena.specs.Stands.{SourceStands}
+use Rattle.fill_arena.proofs.Maps.{put_right}
+use Rattle.fill_object.specs.Kinds.{sources_on}
+use Rattle.fill_object.specs.Leasts.{AreLeasts}
+use Rattle.fill_object.proofs.memo.Memo.keep_sources.Goals as goal
+
+pub returns-in-Ok : goal.returns-in-Ok
+returns-in-Ok c on memo least =
+    let u = c.in-Ok.ensures.updates in
+    record {
+      sources = put_right (λ q. get nat_eq c.args.self.now.sources q) (λ q. get nat_eq c.insert.new.self q) (λ q o. AreLeasts (sources_on on) (SourceStands on.arena.now q) o.value.items) c.args.s c.args.found u.1 u.2 memo.sources least;
+      parts = memo.parts;
+      atoms = memo.atoms;
+      spots = memo.spots;
+    }
