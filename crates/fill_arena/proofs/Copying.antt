@@ -22,7 +22,7 @@ use Rattle.fill_arena.proofs.Becoming.{atoms_of, becomes_back, chain_moves, edge
 use Rattle.fill_arena.proofs.Indexed.{interned_kept, interned_there}
 use Rattle.fill_arena.proofs.Lists.{get_left, get_last, get_pushed}
 use Rattle.fill_arena.proofs.Marking.{named_older}
-use Rattle.fill_arena.proofs.Zips.{zip_back, zip_each, zip_flip, zip_get, zip_weaker}
+use Rattle.fill_arena.proofs.Zips.{zip_each, zip_flip, zip_get, zip_weaker}
 
 -- a path leads along what became of its edges
 path_becomes : (R : ℕ → ℕ → Type 0) (es fs : List Edge) → AllZip (EdgeBecomes R) es fs → (path : List Edge) (from to : ℕ) → Path es from path to → (other : List Edge) × Path fs from other to × (length other ≡ length path)

@@ -1,5 +1,5 @@
 -- Walks over a graph's edges, from the last edge to the first one.
-use Rattle.std.proofs.Common.{◌≡◌, ◌≢◌, ◌⊎◌, ℕ, zero, suc, ◌+◌, List, [], ◌∷◌, Some, slice_get, inl, inr, sym, subst, ◌∙◌, arith}
+use Rattle.std.proofs.Common.{◌≡◌, ◌≢◌, ◌⊎◌, ℕ, zero, suc, List, [], ◌∷◌, Some, slice_get, inl, inr, sym, subst, arith}
 use Rattle.fill_tokens.specs.declared.prices.Prices.{Prices}
 use Rattle.fill_tree.specs.Tree.{AtomTree, Atoms, end, more}
 use Rattle.fill_arena.specs.Contents.{In, HasEdges, HasNodes}

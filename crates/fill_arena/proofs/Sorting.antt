@@ -1,5 +1,5 @@
 -- When edges are in a topological order: as one pass over them finds, and as a sort makes them.
-use Rattle.std.proofs.Common.{◌≡◌, ℕ, ◌+◌, ◌<◌, ◌≤◌, ◌⊎◌, inl, inr, List, length, Bool, true, false, get_or, Some, slice_get, sym, subst, ◌∙◌, arith, length-set, All, IsPermutation}
+use Rattle.std.proofs.Common.{◌≡◌, ℕ, ◌+◌, ◌<◌, ◌≤◌, inl, inr, List, length, Bool, true, get_or, Some, slice_get, sym, subst, ◌∙◌, arith, length-set, All, IsPermutation}
 use Rattle.std.specs.List.Sorted.{IsNonDecreasingBy}
 use Rattle.std.proofs.lemmas.Bool.{cases_lt}
 use Rattle.std.proofs.lemmas.List.{get_or_default}
@@ -9,6 +9,7 @@ use Rattle.fill_arena.specs.Contents.{In, EachIn}
 use Rattle.fill_arena.specs.Copied.{IsMarked, marked}
 use Rattle.fill_arena.specs.Order.{IsTopological, LeadsOn}
 use Rattle.fill_arena.specs.declared.entry.Edge.{Edge}
+use Rattle.fill_arena.proofs.Below.{same_item}
 use Rattle.fill_arena.proofs.Marking.{one_here, one_kept, one_only}
 use Rattle.fill_arena.proofs.Scan.{here}
 
@@ -28,12 +29,6 @@ left_start nodes edges left long none = record {
 }
 
 module _ (nodes : ℕ) (edges : List Edge) (i : ℕ) (left : List Bool) (e : Edge) (are : AreLeft nodes edges i left) (at : slice_get edges i ≡ Some e) (on : LeadsOn nodes e) where
-  one_edge : (k : ℕ) (f : Edge) → k ≡ i → slice_get edges k ≡ Some f → e ≡ f
-  one_edge k f same there =
-      let first = subst (λ n. slice_get edges n ≡ Some f) same there in
-      let second = at in
-      cc
-
   pub left_more : ¬ (IsMarked left e.to) → AreLeft nodes edges (i + 1) (marked left e.from)
   left_more new = record {
     long = length-set left e.from true ∙ are.long;
@@ -44,7 +39,7 @@ module _ (nodes : ℕ) (edges : List Edge) (i : ℕ) (left : List Bool) (e : Edg
           let onward = on.0 in
           let within = on.1 in
           let long = are.long in
-          subst (λ (x : Edge). IsMarked (marked left e.from) x.from) (one_edge k f same there) (one_here left e.from (omega arith))
+          subst (λ (x : Edge). IsMarked (marked left e.from) x.from) (same_item edges i k e f at there same) (one_here left e.from (omega arith))
     ];
     only = λ n h. elim (one_only left e.from n h) [
       | inl old ↦ let o = are.only n old in let lt = o.2 in (o.0, o.1, omega arith, o.3, o.4)
@@ -54,7 +49,7 @@ module _ (nodes : ℕ) (edges : List Edge) (i : ℕ) (left : List Bool) (e : Edg
       | inl less ↦ are.before j k d f less here there same
       | inr past ↦
           let last : j ≡ i = omega arith in
-          let one = one_edge j d last here in
+          let one = same_item edges i j e d at here last in
           let meets : f.from ≡ e.to = subst (λ (x : Edge). f.from ≡ x.to) (sym one) (sym same) in
           elim (cases_lt i k) [
             | inl later ↦ omega arith
@@ -62,7 +57,7 @@ module _ (nodes : ℕ) (edges : List Edge) (i : ℕ) (left : List Bool) (e : Edg
               | inl less ↦ absurd (new (subst (IsMarked left) meets (are.all k f less there)))
               | inr up ↦
                   let this : k ≡ i = omega arith in
-                  let own = subst (λ (x : Edge). x.from ≡ e.to) (sym (one_edge k f this there)) meets in
+                  let own = subst (λ (x : Edge). x.from ≡ e.to) (sym (same_item edges i k e f at there this)) meets in
                   let onward = on.0 in
                   absurd (omega arith)
             ]

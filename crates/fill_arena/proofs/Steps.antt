@@ -12,8 +12,8 @@ use Rattle.fill_arena.specs.declared.entry.Entry.{Entry}
 use Rattle.fill_arena.specs.declared.entry.Edge.{Edge}
 
 -- along the edge, from a node, the atom and then those after the place
-abbrev pub LeadsOn : List Entry → List Edge → ℕ → List Atom → ℕ → ℕ → Atom → Edge → Type 0
-LeadsOn c edges last atoms next at a e =
+abbrev pub CarriesWalk : List Entry → List Edge → ℕ → List Atom → ℕ → ℕ → Atom → Edge → Type 0
+CarriesWalk c edges last atoms next at a e =
     (e.from ≡ at) × AtomStands c e.atoms (atom_tree a) × Walks (atoms_of (map atom_tree (drop (next + 1) atoms))) c edges last e.to
 
 -- the atoms from a place on are the one at the place and those after it
@@ -24,7 +24,7 @@ next_atom atoms next a there =
     rw same at (drop_more atoms next a lt)
 
 pub walk_on : (c : List Entry) (edges : List Edge) (last : ℕ) (atoms : List Atom) (next at : ℕ) (a : Atom) → slice_get atoms next ≡ Some a
-    → SomeIn (LeadsOn c edges last atoms next at a) edges ↔ Walks (atoms_of (map atom_tree (drop next atoms))) c edges last at
+    → SomeIn (CarriesWalk c edges last atoms next at a) edges ↔ Walks (atoms_of (map atom_tree (drop next atoms))) c edges last at
 walk_on c edges last atoms next at a there = rw (next_atom atoms next a there) ((λ h. h), (λ h. h))
 
 pub is_before : (n m : ℕ) → n ≤ m → n ≢ m → n < m

@@ -1,4 +1,4 @@
--- Orders that compare a cost first, and the least of what has a property.
+-- The least of what has a property.
 use Rattle.std.specs.Prelude.{◌≡◌, ◌⊎◌, Option, Some, None}
 use Rattle.std.specs.declared.cmp.Ordering.{Ordering}
 use Rattle.std.specs.declared.cmp.Ordering.TheVariants.{Less}

@@ -11,6 +11,7 @@ use Rattle.fill_tree.specs.Grammar.{source_depth}
 use Rattle.fill_arena.specs.Contents.{In, EachIn, IsPlaceSet, IsSourceSet, IsAtomSet}
 use Rattle.fill_arena.specs.Order.{IsTopological}
 use Rattle.fill_arena.specs.Stands.{SourceFits}
+use Rattle.fill_arena.specs.declared.entry.TheConstants.{MOST_CHARACTERS}
 use Rattle.fill_arena.specs.declared.entry.Entry.{Entry}
 use Rattle.fill_arena.specs.declared.entry.Entry.TheVariants.{Places, Sources, Atoms, Graph}
 use Rattle.fill_arena.specs.declared.entry.SourceItem.{SourceItem}
@@ -67,9 +68,9 @@ pub record AreSources (c : List Entry) (n : ℕ) (items : List SourceItem) : Typ
   pub some : 0 < length items
   pub each : EachIn (IsSourceItem c n) items
 
--- a constant of at most 100 characters, or sources and places of older sets
+-- a constant that is no longer than an example's text may be, or sources and places of older sets
 abbrev pub IsAtomItem : List Entry → ℕ → AtomItem → Type 0
-IsAtomItem c n (Const t) = length t ≤ 100
+IsAtomItem c n (Const t) = length t ≤ MOST_CHARACTERS
 IsAtomItem c n (Whole s) = OlderSources c n s
 IsAtomItem c n (Sub s p q) = OlderSources c n s × OlderPlaces c n p × OlderPlaces c n q
 
@@ -93,13 +94,13 @@ pub record IsFirstEdge (e : Edge) (rest : List Edge) : Type 0 where
   pub onward : e.from < e.to
   pub never_back : (f : Edge) → In f rest → f.to ≢ e.from
 
--- at least one node, and each on a walk from node 0 to the last one; no walk has more than 100 edges
+-- at least one node, and each on a walk from node 0 to the last one; no walk has more edges than an example's text may have characters
 pub record IsGraphOf (c : List Entry) (n nodes : ℕ) (edges : List Edge) : Type 0 where
   pub some : 0 < nodes
   pub each : EachIn (IsEdge c n nodes) edges
   pub from_first : (m : ℕ) → m < nodes → (path : List Edge) × Path edges 0 path m
   pub to_last : (m : ℕ) → m < nodes → (path : List Edge) × Path edges m path (nodes - 1)
-  pub short : (from to : ℕ) (path : List Edge) → Path edges from path to → length path ≤ 100
+  pub short : (from to : ℕ) (path : List Edge) → Path edges from path to → length path ≤ MOST_CHARACTERS
 
 -- such a graph, and its edges are in a topological order
 pub record IsSortedGraph (c : List Entry) (n nodes : ℕ) (edges : List Edge) : Type 0 where

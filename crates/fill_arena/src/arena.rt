@@ -53,7 +53,7 @@ impl Arena {
         requires { AreInOrder places.now }
         ensures ok { IfOk result (λ s. slice_get self.new s ≡ Some (Entry.Places places.now)) }
         ensures interned { IfOk result (Interns self.old self.new (Entry.Places places.now)) }
-        ensures kept { Extends self.old self.new }
+        ensures extends { Extends self.old self.new }
         ensures err { OnErr result (self.new ≡ self.old) }
     {
         keep_sizes(places);
@@ -67,7 +67,7 @@ impl Arena {
         requires { AreSources self.old (length self.old) items }
         ensures ok { IfOk result (λ s. slice_get self.new s ≡ Some (Entry.Sources items)) }
         ensures interned { IfOk result (Interns self.old self.new (Entry.Sources items)) }
-        ensures kept { Extends self.old self.new }
+        ensures extends { Extends self.old self.new }
         ensures err { OnErr result (self.new ≡ self.old) }
     {
         Ok(SourceSet::at(self.intern(Entry::Sources(items))?))
@@ -78,7 +78,7 @@ impl Arena {
         requires { AreAtoms self.old (length self.old) items }
         ensures ok { IfOk result (λ s. slice_get self.new s ≡ Some (Entry.Atoms items)) }
         ensures interned { IfOk result (Interns self.old self.new (Entry.Atoms items)) }
-        ensures kept { Extends self.old self.new }
+        ensures extends { Extends self.old self.new }
         ensures err { OnErr result (self.new ≡ self.old) }
     {
         Ok(AtomSet::at(self.intern(Entry::Atoms(items))?))
@@ -94,7 +94,7 @@ impl Arena {
         requires { IsGraphOf self.old (length self.old) nodes edges }
         ensures ok { IfOk result (λ g. slice_get self.new g ≡ Some (Entry.Graph nodes edges)) }
         ensures interned { IfOk result (Interns self.old self.new (Entry.Graph nodes edges)) }
-        ensures kept { Extends self.old self.new }
+        ensures extends { Extends self.old self.new }
         ensures err { OnErr result (self.new ≡ self.old) }
         ensures step { steps.new ≡ steps.old + 1 }
     {
@@ -199,7 +199,7 @@ impl Arena {
     pub fn cut(&mut self, mark: Mark)
         requires { mark ≤ length self.old }
         ensures cut { self.new ≡ take mark self.old }
-        ensures kept { Extends self.new self.old }
+        ensures extends { Extends self.new self.old }
     {
         let count = mark.count();
         self.entries.cut(count);

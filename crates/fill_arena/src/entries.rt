@@ -23,20 +23,21 @@ pub(crate) enum Content<'a> {
 }
 
 /// What is kept under one number. A set of places is kept as its slice of the pool, and with it what the pool had
-/// before; a set of one atom, as most of them are, without a list.
+/// before; a set of one atom, as most of them are, without a list. The edges of a graph are boxed, since there are few graphs
+/// and millions of sets.
 #[derive(Debug, Drop)]
-enum Kept {
+enum Stored {
     Places(Span, PoolMark),
     Sources(List<SourceItem>),
     Atom(AtomItem),
     Atoms(List<AtomItem>),
-    Graph(usize, Edges),
+    Graph(usize, Box<Edges>),
 }
 
 /// Sets and graphs in the order of their numbers. The sets of places are the slices of one pool.
 #[derive(Debug, Drop)]
 pub(crate) struct Entries {
-    kept: Vec<Kept>,
+    stored: Vec<Stored>,
     places: Pool<Place>,
 }
 
@@ -47,9 +48,9 @@ impl Model for Entries {
 
     ghost Value = { List Entry };
 
-    ghost view = { λ e. map (entry_at e.places) e.kept.items };
+    ghost view = { λ e. map (entry_at e.places) e.stored.items };
 
-    ghost invariant = { λ e. AreInPool 0 e.kept.items (length e.places) };
+    ghost invariant = { λ e. AreInPool 0 e.stored.items (length e.places) };
 }
 
 impl Entries {
@@ -58,21 +59,21 @@ impl Entries {
         ensures { result ≡ [] }
     {
         Entries {
-            kept: Vec::new(alloc),
+            stored: Vec::new(alloc),
             places: Pool::new(alloc),
         }
     }
 
     /// The allocator that they were made with.
     pub(crate) fn alloc(&self) -> Global {
-        *self.kept.allocator()
+        *self.stored.allocator()
     }
 
     /// How many there are.
     pub(crate) fn len(&self) -> usize
         ensures { result ≡ length self.now }
     {
-        self.kept.len()
+        self.stored.len()
     }
 
     /// What stands under a number.
@@ -80,12 +81,12 @@ impl Entries {
         requires { number < length self.now }
         ensures { slice_get self.now number ≡ Some (entry_of result) }
     {
-        match &self.kept[number] {
-            Kept::Places(span, _) => Content::Places(self.places.slice(*span)),
-            Kept::Sources(items) => Content::Sources(items.as_slice()),
-            Kept::Atom(item) => Content::Atoms(slice::from_ref(item)),
-            Kept::Atoms(items) => Content::Atoms(items.as_slice()),
-            Kept::Graph(nodes, edges) => Content::Graph(*nodes, edges),
+        match &self.stored[number] {
+            Stored::Places(span, _) => Content::Places(self.places.slice(*span)),
+            Stored::Sources(items) => Content::Sources(items.as_slice()),
+            Stored::Atom(item) => Content::Atoms(slice::from_ref(item)),
+            Stored::Atoms(items) => Content::Atoms(items.as_slice()),
+            Stored::Graph(nodes, edges) => Content::Graph(*nodes, edges),
         }
     }
 
@@ -97,11 +98,12 @@ impl Entries {
     {
         match entry {
             Entry::Places(places) => self.push_places(places.as_slice()),
-            Entry::Sources(items) => self.push_items(Kept::Sources(items)),
+            Entry::Sources(items) => self.push_items(Stored::Sources(items)),
             Entry::Atoms(items) => self.push_atoms(items),
             Entry::Graph(nodes, edges) => {
                 let edges = Edges::new(self.alloc(), nodes, edges)?;
-                self.push_items(Kept::Graph(nodes, edges))
+                let boxed = Box::new(self.alloc(), edges)?;
+                self.push_items(Stored::Graph(nodes, boxed))
             }
         }
     }
@@ -111,10 +113,10 @@ impl Entries {
         ensures ok { OnOk result (self.new ≡ self.old ++ Listed.Places places.now ∷ []) }
         ensures err { OnErr result (self.new ≡ self.old) }
     {
-        self.kept.reserve(1)?;
+        self.stored.reserve(1)?;
         let before = self.places.mark();
         let span = self.places.append(places)?;
-        self.kept.push_reserved(Kept::Places(span, before));
+        self.stored.push_reserved(Stored::Places(span, before));
         Ok(())
     }
 
@@ -124,18 +126,18 @@ impl Entries {
         ensures err { OnErr result (self.new ≡ self.old) }
     {
         match sole(items) {
-            Ok(item) => self.push_items(Kept::Atom(item)),
-            Err(items) => self.push_items(Kept::Atoms(items)),
+            Ok(item) => self.push_items(Stored::Atom(item)),
+            Err(items) => self.push_items(Stored::Atoms(items)),
         }
     }
 
     /// Puts an entry of another kind at the end.
-    fn push_items(&mut self, kept: Kept) -> Result<(), NoMemory>
-        requires { IsItems kept }
-        ensures ok { OnOk result (self.new ≡ self.old ++ entry_at [] kept ∷ []) }
+    fn push_items(&mut self, stored: Stored) -> Result<(), NoMemory>
+        requires { IsItems stored }
+        ensures ok { OnOk result (self.new ≡ self.old ++ entry_at [] stored ∷ []) }
         ensures err { OnErr result (self.new ≡ self.old) }
     {
-        self.kept.push(kept)?;
+        self.stored.push(stored)?;
         Ok(())
     }
 
@@ -144,8 +146,8 @@ impl Entries {
         requires { count ≤ length self.old }
         ensures { self.new ≡ take count self.old }
     {
-        let end = first_mark(self.kept.as_slice(), count);
-        self.kept.truncate(count);
+        let end = first_mark(self.stored.as_slice(), count);
+        self.stored.truncate(count);
         if let Some(mark) = end {
             self.places.cut(mark);
         }
@@ -166,12 +168,12 @@ fn sole(items: List<AtomItem>) -> Result<AtomItem, List<AtomItem>>
 }
 
 /// What the pool had before the first set of places from a number on, if there is one.
-fn first_mark(kept: &[Kept], from: usize) -> Option<PoolMark>
-    requires { from ≤ length kept.now }
-    ensures { (n : ℕ) → AreInPool 0 kept.now n → AreInPool 0 (take from kept.now) (unwrap_or result n) }
+fn first_mark(stored: &[Stored], from: usize) -> Option<PoolMark>
+    requires { from ≤ length stored.now }
+    ensures { (n : ℕ) → AreInPool 0 stored.now n → AreInPool 0 (take from stored.now) (unwrap_or result n) }
 {
-    for i in from..kept.len() {
-        if let Kept::Places(_, before) = &kept[i] {
+    for i in from..stored.len() {
+        if let Stored::Places(_, before) = &stored[i] {
             return Some(*before);
         }
     }

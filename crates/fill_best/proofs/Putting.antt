@@ -73,16 +73,16 @@ module _ {A : Type 0} where
 -- what one first part makes with each second part, and what all make
 module _ {A B D : Type 0} (T : D → D → Ordering) (total : IsTotalOrder T) (exact : CmpEqualImpliesEq T) (f : A → B → D) (k : ℕ) (C : D → Type 0) where
   module _ (x : A) (ys : List B) where
-    abbrev Row : ℕ → D → Type 0
-    Row i z = C z ⊎ IsMade f (λ a. a ≡ x) (Contains (take i ys)) z
+    abbrev RowSoFar : ℕ → D → Type 0
+    RowSoFar i z = C z ⊎ IsMade f (λ a. a ≡ x) (Contains (take i ys)) z
 
-    pub row_none : (zs : List D) → AreFirst T C k zs → AreFirst T (Row 0) k zs
-    row_none zs first = first_same T total exact C k zs first (Row 0) (λ z c. inl c) (λ z s. elim s [ inl c ↦ c | inr m ↦ absurd (none_in m.1 m.3) ])
+    pub row_none : (zs : List D) → AreFirst T C k zs → AreFirst T (RowSoFar 0) k zs
+    row_none zs first = first_same T total exact C k zs first (RowSoFar 0) (λ z c. inl c) (λ z s. elim s [ inl c ↦ c | inr m ↦ absurd (none_in m.1 m.3) ])
 
-    pub row_more : (i : ℕ) (y : B) (old new : List D) → i < length ys → y ≡ get_or ys i y → AreFirst T (Row i) k old →
-        AreFirst T (λ z. Contains old z ⊎ (z ≡ f x y)) k new → AreFirst T (Row (i + 1)) k new
+    pub row_more : (i : ℕ) (y : B) (old new : List D) → i < length ys → y ≡ get_or ys i y → AreFirst T (RowSoFar i) k old →
+        AreFirst T (λ z. Contains old z ⊎ (z ≡ f x y)) k new → AreFirst T (RowSoFar (i + 1)) k new
     row_more i y old new lt at before after =
-        first_same T total exact (λ z. Row i z ⊎ (z ≡ f x y)) k new (first_joined T total exact (Row i) (λ z. z ≡ f x y) k old new before after) (Row (i + 1))
+        first_same T total exact (λ z. RowSoFar i z ⊎ (z ≡ f x y)) k new (first_joined T total exact (RowSoFar i) (λ z. z ≡ f x y) k old new before after) (RowSoFar (i + 1))
         (λ z s. elim s [
           | inl r ↦ elim r [ inl c ↦ inl c | inr m ↦ inr (m.0, m.1, m.2, taken_old ys i y m.1 lt m.3, m.4) ]
           | inr e ↦ inr (x, y, refl, taken_here ys i y lt at, sym e)
@@ -95,16 +95,16 @@ module _ {A B D : Type 0} (T : D → D → Ordering) (total : IsTotalOrder T) (e
           ]
         ])
 
-    pub row_end : (i : ℕ) (zs : List D) → length ys ≤ i → AreFirst T (Row i) k zs → AreFirst T (λ z. C z ⊎ IsMade f (λ a. a ≡ x) (Contains ys) z) k zs
-    row_end i zs past first = first_same T total exact (Row i) k zs first (λ z. C z ⊎ IsMade f (λ a. a ≡ x) (Contains ys) z)
+    pub row_end : (i : ℕ) (zs : List D) → length ys ≤ i → AreFirst T (RowSoFar i) k zs → AreFirst T (λ z. C z ⊎ IsMade f (λ a. a ≡ x) (Contains ys) z) k zs
+    row_end i zs past first = first_same T total exact (RowSoFar i) k zs first (λ z. C z ⊎ IsMade f (λ a. a ≡ x) (Contains ys) z)
         (λ z s. elim s [ inl c ↦ inl c | inr m ↦ inr (m.0, m.1, m.2, taken_in ys i m.1 past m.3, m.4) ])
         (λ z s. elim s [ inl c ↦ inl c | inr m ↦ inr (m.0, m.1, m.2, taken_all ys i m.1 past m.3, m.4) ])
 
     -- the rest of the row is past what is kept with its next item
     module _ (S : B → B → Ordering) (orders : IsTotalOrder S) (right : (b d : B) → S b d ≡ Less → T (f x b) (f x d) ≡ Less) (rising : Rises S ys) where
-      pub row_past : (i j : ℕ) (y : B) (zs : List D) → i < length ys → i ≤ j → y ≡ get_or ys i y → AreFirst T (Row j) k zs → IsPast T k zs (f x y) →
+      pub row_past : (i j : ℕ) (y : B) (zs : List D) → i < length ys → i ≤ j → y ≡ get_or ys i y → AreFirst T (RowSoFar j) k zs → IsPast T k zs (f x y) →
           AreFirst T (λ z. C z ⊎ IsMade f (λ a. a ≡ x) (Contains ys) z) k zs
-      row_past i j y zs lt upto at first past = first_more T total exact (Row j) k zs first (λ z. C z ⊎ IsMade f (λ a. a ≡ x) (Contains ys) z)
+      row_past i j y zs lt upto at first past = first_more T total exact (RowSoFar j) k zs first (λ z. C z ⊎ IsMade f (λ a. a ≡ x) (Contains ys) z)
           (λ z s. elim s [ inl c ↦ inl c | inr m ↦ inr (m.0, m.1, m.2, in_taken j ys m.1 m.3, m.4) ])
           (λ z s. elim s [
             | inl c ↦ inl (inl c)
@@ -134,17 +134,17 @@ module _ {A B D : Type 0} (T : D → D → Ordering) (total : IsTotalOrder T) (e
           ]
 
   module _ (xs : List A) (ys : List B) where
-    abbrev Rows : ℕ → D → Type 0
-    Rows i z = C z ⊎ IsMade f (Contains (take i xs)) (Contains ys) z
+    abbrev RowsSoFar : ℕ → D → Type 0
+    RowsSoFar i z = C z ⊎ IsMade f (Contains (take i xs)) (Contains ys) z
 
-    pub rows_none : (zs : List D) → AreFirst T C k zs → AreFirst T (Rows 0) k zs
-    rows_none zs first = first_same T total exact C k zs first (Rows 0) (λ z c. inl c) (λ z s. elim s [ inl c ↦ c | inr m ↦ absurd (none_in m.0 m.2) ])
+    pub rows_none : (zs : List D) → AreFirst T C k zs → AreFirst T (RowsSoFar 0) k zs
+    rows_none zs first = first_same T total exact C k zs first (RowsSoFar 0) (λ z c. inl c) (λ z s. elim s [ inl c ↦ c | inr m ↦ absurd (none_in m.0 m.2) ])
 
-    pub rows_more : (i : ℕ) (x : A) (old new : List D) → i < length xs → x ≡ get_or xs i x → AreFirst T (Rows i) k old →
-        AreFirst T (λ z. Contains old z ⊎ IsMade f (λ a. a ≡ x) (Contains ys) z) k new → AreFirst T (Rows (i + 1)) k new
+    pub rows_more : (i : ℕ) (x : A) (old new : List D) → i < length xs → x ≡ get_or xs i x → AreFirst T (RowsSoFar i) k old →
+        AreFirst T (λ z. Contains old z ⊎ IsMade f (λ a. a ≡ x) (Contains ys) z) k new → AreFirst T (RowsSoFar (i + 1)) k new
     rows_more i x old new lt at before after =
-        first_same T total exact (λ z. Rows i z ⊎ IsMade f (λ a. a ≡ x) (Contains ys) z) k new
-        (first_joined T total exact (Rows i) (IsMade f (λ a. a ≡ x) (Contains ys)) k old new before after) (Rows (i + 1))
+        first_same T total exact (λ z. RowsSoFar i z ⊎ IsMade f (λ a. a ≡ x) (Contains ys) z) k new
+        (first_joined T total exact (RowsSoFar i) (IsMade f (λ a. a ≡ x) (Contains ys)) k old new before after) (RowsSoFar (i + 1))
         (λ z s. elim s [
           | inl r ↦ elim r [ inl c ↦ inl c | inr m ↦ inr (m.0, m.1, taken_old xs i x m.0 lt m.2, m.3, m.4) ]
           | inr m ↦ inr (m.0, m.1, subst (Contains (take (i + 1) xs)) (sym m.2) (taken_here xs i x lt at), m.3, m.4)
@@ -157,8 +157,8 @@ module _ {A B D : Type 0} (T : D → D → Ordering) (total : IsTotalOrder T) (e
           ]
         ])
 
-    pub rows_end : (i : ℕ) (zs : List D) → length xs ≤ i → AreFirst T (Rows i) k zs → AreFirst T (λ z. C z ⊎ IsMade f (Contains xs) (Contains ys) z) k zs
-    rows_end i zs past first = first_same T total exact (Rows i) k zs first (λ z. C z ⊎ IsMade f (Contains xs) (Contains ys) z)
+    pub rows_end : (i : ℕ) (zs : List D) → length xs ≤ i → AreFirst T (RowsSoFar i) k zs → AreFirst T (λ z. C z ⊎ IsMade f (Contains xs) (Contains ys) z) k zs
+    rows_end i zs past first = first_same T total exact (RowsSoFar i) k zs first (λ z. C z ⊎ IsMade f (Contains xs) (Contains ys) z)
         (λ z s. elim s [ inl c ↦ inl c | inr m ↦ inr (m.0, m.1, taken_in xs i m.0 past m.2, m.3, m.4) ])
         (λ z s. elim s [ inl c ↦ inl c | inr m ↦ inr (m.0, m.1, taken_all xs i m.0 past m.2, m.3, m.4) ])
 

@@ -14,10 +14,10 @@ ghost use Rattle.fill_best.specs.Memo.{IsMemoOf};
 
 use crate::costed::Costed;
 use crate::first::put;
-use crate::memo::{Found, Memo};
+use crate::memo::{Memo, Shortlist};
 use crate::plain::PlainAtom;
 use crate::sets::scan_parts;
-use fill_arena::{Arena, AtomItem, AtomSet};
+use fill_arena::{Arena, AtomItem, AtomSet, MOST_CHARACTERS};
 use fill_text::{NoMemory, Text};
 use fill_tokens::Prices;
 use std::alloc::Global;
@@ -28,19 +28,19 @@ fn put_text(
     prices: &Prices,
     limit: usize,
     text: &Text,
-    kept: &mut Vec<Costed<PlainAtom>>,
+    ranking: &mut Vec<Costed<PlainAtom>>,
 ) -> Result<(), NoMemory>
-    requires short { length text.now ≤ 100 }
-    requires rising { Rises (by_cost atom_cmp) kept.old.items }
-    requires few { length kept.old.items ≤ limit }
-    ensures { OnOk result (TakesIn (atom_cost prices.now) atom_cmp (λ a. constant text.now ≡ a) limit kept.old.items kept.new.items) }
+    requires short { length text.now ≤ MOST_CHARACTERS }
+    requires rising { Rises (by_cost atom_cmp) ranking.old.items }
+    requires few { length ranking.old.items ≤ limit }
+    ensures { OnOk result (TakesIn (atom_cost prices.now) atom_cmp (λ a. constant text.now ≡ a) limit ranking.old.items ranking.new.items) }
 {
     prices.keep_small();
     let item = PlainAtom::constant(text)?;
     let Some(cost) = item.cost(prices) else {
         unreachable!()
     };
-    put(kept, limit, Costed { cost, item })?;
+    put(ranking, limit, Costed { cost, item })?;
     Ok(())
 }
 
@@ -49,15 +49,15 @@ fn put_constant(
     prices: &Prices,
     limit: usize,
     item: &AtomItem,
-    kept: &mut Vec<Costed<PlainAtom>>,
+    ranking: &mut Vec<Costed<PlainAtom>>,
 ) -> Result<(), NoMemory>
     requires item { (c : Items Entry) × (n : ℕ) × IsAtomItem c n item.now }
-    requires rising { Rises (by_cost atom_cmp) kept.old.items }
-    requires few { length kept.old.items ≤ limit }
-    ensures { OnOk result ((c : Items Entry) → TakesIn (atom_cost prices.now) atom_cmp (ConstantFits c item.now) limit kept.old.items kept.new.items) }
+    requires rising { Rises (by_cost atom_cmp) ranking.old.items }
+    requires few { length ranking.old.items ≤ limit }
+    ensures { OnOk result ((c : Items Entry) → TakesIn (atom_cost prices.now) atom_cmp (ConstantFits c item.now) limit ranking.old.items ranking.new.items) }
 {
     match item {
-        AtomItem::Const(text) => put_text(prices, limit, text, kept),
+        AtomItem::Const(text) => put_text(prices, limit, text, ranking),
         _ => Ok(()),
     }
 }
@@ -67,15 +67,15 @@ fn put_constants(
     prices: &Prices,
     limit: usize,
     items: &[AtomItem],
-    kept: &mut Vec<Costed<PlainAtom>>,
+    ranking: &mut Vec<Costed<PlainAtom>>,
 ) -> Result<(), NoMemory>
     requires items { (c : Items Entry) × (n : ℕ) × EachIn (IsAtomItem c n) items.now }
-    requires rising { Rises (by_cost atom_cmp) kept.old.items }
-    requires few { length kept.old.items ≤ limit }
-    ensures { OnOk result ((c : Items Entry) → TakesIn (atom_cost prices.now) atom_cmp (λ a. SomeIn (λ i. ConstantFits c i a) items.now) limit kept.old.items kept.new.items) }
+    requires rising { Rises (by_cost atom_cmp) ranking.old.items }
+    requires few { length ranking.old.items ≤ limit }
+    ensures { OnOk result ((c : Items Entry) → TakesIn (atom_cost prices.now) atom_cmp (λ a. SomeIn (λ i. ConstantFits c i a) items.now) limit ranking.old.items ranking.new.items) }
 {
     for item in items {
-        put_constant(prices, limit, item, kept)?;
+        put_constant(prices, limit, item, ranking)?;
     }
     Ok(())
 }
@@ -88,21 +88,21 @@ pub(crate) fn atoms_of(
     limit: usize,
     memo: &mut Memo,
     s: AtomSet,
-) -> Result<Found<PlainAtom>, NoMemory>
+) -> Result<Shortlist<PlainAtom>, NoMemory>
     requires set { IsAtomSet arena.now s }
     requires some { 1 ≤ limit }
     requires memo { IsMemoOf prices.now arena.now limit memo.old }
     ensures memo { OnOk result (IsMemoOf prices.now arena.now limit memo.new) }
-    ensures first { IfOk result (λ found. AreCheapest (atom_cost prices.now) atom_cmp (AtomStands arena.now s) limit found.value.items) }
+    ensures first { IfOk result (λ shortlist. AreCheapest (atom_cost prices.now) atom_cmp (AtomStands arena.now s) limit shortlist.value.items) }
 {
-    if let Some(found) = memo.atoms(s) {
-        return Ok(found.clone()?);
+    if let Some(shortlist) = memo.atoms(s) {
+        return Ok(shortlist.clone()?);
     }
     arena.keeps_made();
     prices.keep_small();
-    let mut kept = scan_parts(alloc, prices, arena, limit, memo, s)?;
-    put_constants(prices, limit, arena.atoms(s), &mut kept)?;
-    let found = Rc::new(alloc, kept)?;
-    memo.keep_atoms(s, found.clone()?)?;
-    Ok(found)
+    let mut ranking = scan_parts(alloc, prices, arena, limit, memo, s)?;
+    put_constants(prices, limit, arena.atoms(s), &mut ranking)?;
+    let shortlist = Rc::new(alloc, ranking)?;
+    memo.keep_atoms(s, shortlist.clone()?)?;
+    Ok(shortlist)
 }

@@ -23,14 +23,14 @@ pub(crate) trait Ordered: Drop {
 }
 
 /// What is made of two parts, and compared by the one and then by the other.
-pub(crate) trait Made<A: Ordered, B: Ordered>: Ordered {
-    ghost made: { A → B → Self };
+pub(crate) trait Composite<A: Ordered, B: Ordered>: Ordered {
+    ghost composite: { A → B → Self };
 
     /// What the two parts make.
     fn make(alloc: Global, first: &A, second: &B) -> Result<Self, NoMemory>
-        ensures { IfOk result (λ it. it ≡ made first.now second.now) };
+        ensures { IfOk result (λ it. it ≡ composite first.now second.now) };
 
-    ghost by_parts: { (a b : A) (c d : B) → Self.order (made a c) (made b d) ≡ ordering_then (A.order a b) (B.order c d) };
+    ghost by_parts: { (a b : A) (c d : B) → Self.order (composite a c) (composite b d) ≡ ordering_then (A.order a b) (B.order c d) };
 }
 
 /// An item and what it costs.

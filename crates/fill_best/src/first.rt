@@ -4,7 +4,7 @@ ghost use Rattle.fill_best.specs.Costs.{by_cost, linked};
 ghost use Rattle.fill_best.specs.First.{AreFirst, IsMade, IsPast, IsPlaceOf, Rises};
 ghost use Rattle.fill_best.specs.declared.costed.Costed.{Costed as Cost};
 
-use crate::costed::{Costed, Made, Ordered};
+use crate::costed::{Composite, Costed, Ordered};
 use fill_text::NoMemory;
 use std::alloc::Global;
 use std::cmp::Ordering;
@@ -19,13 +19,13 @@ fn compare<T: Ordered>(a: &Costed<T>, b: &Costed<T>) -> Ordering
 /// The place of an item among those that are kept; none where it is one of them.
 ///
 /// It is looked for from the back, since the parts of a product come in rising order.
-fn place_of<T: Ordered>(kept: &[Costed<T>], next: &Costed<T>) -> Option<usize>
-    requires { Rises (by_cost T.order) kept.now }
-    ensures { MatchOption result (Contains kept.now next.now) (IsPlaceOf (by_cost T.order) kept.now next.now) }
+fn place_of<T: Ordered>(ranking: &[Costed<T>], next: &Costed<T>) -> Option<usize>
+    requires { Rises (by_cost T.order) ranking.now }
+    ensures { MatchOption result (Contains ranking.now next.now) (IsPlaceOf (by_cost T.order) ranking.now next.now) }
 {
-    let mut at = kept.len();
+    let mut at = ranking.len();
     while at > 0 {
-        match compare(next, &kept[at - 1]) {
+        match compare(next, &ranking[at - 1]) {
             Ordering::Greater => return Some(at),
             Ordering::Equal => return None,
             Ordering::Less => at -= 1,
@@ -36,66 +36,66 @@ fn place_of<T: Ordered>(kept: &[Costed<T>], next: &Costed<T>) -> Option<usize>
 
 /// Puts an item among the first ones, if it is one of them, and says whether it is past them.
 pub(crate) fn put<T: Ordered>(
-    kept: &mut Vec<Costed<T>>,
+    ranking: &mut Vec<Costed<T>>,
     limit: usize,
     next: Costed<T>,
 ) -> Result<bool, NoMemory>
-    requires rising { Rises (by_cost T.order) kept.old.items }
-    requires few { length kept.old.items ≤ limit }
-    ensures first { IfOk result (λ _past. AreFirst (by_cost T.order) (λ z. Contains kept.old.items z ⊎ (z ≡ next)) limit kept.new.items) }
-    ensures past { IfOk result (λ past. IsTrue past → IsPast (by_cost T.order) limit kept.new.items next) }
+    requires rising { Rises (by_cost T.order) ranking.old.items }
+    requires few { length ranking.old.items ≤ limit }
+    ensures first { IfOk result (λ _past. AreFirst (by_cost T.order) (λ z. Contains ranking.old.items z ⊎ (z ≡ next)) limit ranking.new.items) }
+    ensures past { IfOk result (λ past. IsTrue past → IsPast (by_cost T.order) limit ranking.new.items next) }
 {
-    let Some(at) = place_of(kept.as_slice(), &next) else {
+    let Some(at) = place_of(ranking.as_slice(), &next) else {
         return Ok(false);
     };
     if at >= limit {
         return Ok(true);
     }
-    match kept.insert(at, next) {
+    match ranking.insert(at, next) {
         Ok(()) => {}
         Err(_) => return Err(NoMemory),
     }
-    kept.truncate(limit);
+    ranking.truncate(limit);
     Ok(false)
 }
 
 /// Whether all that is kept costs less, and no more may be kept.
-fn is_past<T: Ordered>(kept: &[Costed<T>], limit: usize, cost: u64) -> bool
-    requires { Rises (by_cost T.order) kept.now }
-    ensures { IsTrue result → (x : Cost T) → x.cost ≡ cost → IsPast (by_cost T.order) limit kept.now x }
+fn is_past<T: Ordered>(ranking: &[Costed<T>], limit: usize, cost: u64) -> bool
+    requires { Rises (by_cost T.order) ranking.now }
+    ensures { IsTrue result → (x : Cost T) → x.cost ≡ cost → IsPast (by_cost T.order) limit ranking.now x }
 {
-    if kept.len() < limit || kept.len() == 0 {
+    if ranking.len() < limit || ranking.len() == 0 {
         return false;
     }
-    kept[kept.len() - 1].cost < cost
+    ranking[ranking.len() - 1].cost < cost
 }
 
 /// Puts what the first part makes with each of the second parts.
-fn put_row<A: Ordered, B: Ordered, T: Made<A, B>>(
+fn put_row<A: Ordered, B: Ordered, T: Composite<A, B>>(
     alloc: Global,
-    kept: &mut Vec<Costed<T>>,
+    ranking: &mut Vec<Costed<T>>,
     limit: usize,
     link: u64,
     first: &Costed<A>,
     seconds: &[Costed<B>],
 ) -> Result<(), NoMemory>
-    requires rising { Rises (by_cost T.order) kept.old.items }
-    requires few { length kept.old.items ≤ limit }
+    requires rising { Rises (by_cost T.order) ranking.old.items }
+    requires few { length ranking.old.items ≤ limit }
     requires seconds { Rises (by_cost B.order) seconds.now }
     requires cheap { (y : Cost B) → Contains seconds.now y → link + first.now.cost + y.cost < 2 ^ 64 }
     ensures { OnOk result (AreFirst (by_cost T.order)
-        (λ z. Contains kept.old.items z ⊎ IsMade (linked T.made link) (λ x. x ≡ first.now) (Contains seconds.now) z) limit kept.new.items) }
+        (λ z. Contains ranking.old.items z ⊎ IsMade (linked T.composite link) (λ x. x ≡ first.now) (Contains seconds.now) z) limit ranking.new.items) }
 {
     for second in seconds {
         let cost = link + first.cost + second.cost;
-        if is_past(kept.as_slice(), limit, cost) {
+        if is_past(ranking.as_slice(), limit, cost) {
             return Ok(());
         }
         let item = match T::make(alloc, &first.item, &second.item) {
             Ok(item) => item,
             Err(e) => return Err(e),
         };
-        match put(kept, limit, Costed { cost, item }) {
+        match put(ranking, limit, Costed { cost, item }) {
             Ok(false) => {}
             Ok(true) => return Ok(()),
             Err(e) => return Err(e),
@@ -105,23 +105,23 @@ fn put_row<A: Ordered, B: Ordered, T: Made<A, B>>(
 }
 
 /// Puts what each of the first parts makes with each of the second parts.
-pub(crate) fn put_products<A: Ordered, B: Ordered, T: Made<A, B>>(
+pub(crate) fn put_products<A: Ordered, B: Ordered, T: Composite<A, B>>(
     alloc: Global,
-    kept: &mut Vec<Costed<T>>,
+    ranking: &mut Vec<Costed<T>>,
     limit: usize,
     link: u64,
     firsts: &[Costed<A>],
     seconds: &[Costed<B>],
 ) -> Result<(), NoMemory>
-    requires rising { Rises (by_cost T.order) kept.old.items }
-    requires few { length kept.old.items ≤ limit }
+    requires rising { Rises (by_cost T.order) ranking.old.items }
+    requires few { length ranking.old.items ≤ limit }
     requires seconds { Rises (by_cost B.order) seconds.now }
     requires cheap { (x : Cost A) (y : Cost B) → Contains firsts.now x → Contains seconds.now y → link + x.cost + y.cost < 2 ^ 64 }
     ensures { OnOk result (AreFirst (by_cost T.order)
-        (λ z. Contains kept.old.items z ⊎ IsMade (linked T.made link) (Contains firsts.now) (Contains seconds.now) z) limit kept.new.items) }
+        (λ z. Contains ranking.old.items z ⊎ IsMade (linked T.composite link) (Contains firsts.now) (Contains seconds.now) z) limit ranking.new.items) }
 {
     for first in firsts {
-        match put_row(alloc, kept, limit, link, first, seconds) {
+        match put_row(alloc, ranking, limit, link, first, seconds) {
             Ok(()) => {}
             Err(e) => return Err(e),
         }

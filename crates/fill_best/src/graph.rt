@@ -19,7 +19,7 @@ use crate::memo::Memo;
 use crate::plain::PlainAtoms;
 use fill_arena::{Arena, Edge, GraphId};
 use fill_text::{List, NoMemory};
-use fill_tree::{Prices, Program};
+use fill_tree::{MOST_PROGRAMS, Prices, Program};
 use std::alloc::Global;
 use std::mem;
 
@@ -35,7 +35,7 @@ pub fn best(
 ) -> Result<List<Program>, NoMemory>
     requires live { IsGraph arena.now g }
     requires some { 1 ≤ k }
-    requires few { k ≤ 20 }
+    requires few { k ≤ MOST_PROGRAMS }
     ensures { IfOk result (λ made. AreFirst (program_cmp prices.now) (ProgramStands arena.now g) k (map program_tree made)) }
 {
     arena.keeps_made();
@@ -44,9 +44,9 @@ pub fn best(
     let edges = arena.sorted_edges(g);
     let mut rests = no_edges(alloc, arena.nodes(g))?;
     let mut memo = Memo::new(alloc);
-    let mut left = edges.len();
-    while left > 0 {
-        left -= 1;
+    let mut to_go = edges.len();
+    while to_go > 0 {
+        to_go -= 1;
         take_edge(
             alloc,
             prices,
@@ -54,7 +54,7 @@ pub fn best(
             limit,
             &mut memo,
             &mut rests,
-            edges[left],
+            edges[to_go],
         )?;
     }
     programs_of(alloc, mem::replace(&mut rests[0], Vec::new(alloc)))
@@ -101,16 +101,16 @@ fn take_edge(
         AreFirstRests prices.now arena.now others last limit rests.old.items → AreFirstRests prices.now arena.now (edge ∷ others) last limit rests.new.items) }
 {
     let atoms = atoms_of(alloc, prices, arena, limit, memo, edge.atoms)?;
-    let mut kept = mem::replace(&mut rests[edge.from], Vec::new(alloc));
+    let mut ranking = mem::replace(&mut rests[edge.from], Vec::new(alloc));
     put_products(
         alloc,
-        &mut kept,
+        &mut ranking,
         limit,
         prices.atom as u64,
         atoms.as_slice(),
         rests[edge.to].as_slice(),
     )?;
-    rests[edge.from] = kept;
+    rests[edge.from] = ranking;
     Ok(())
 }
 

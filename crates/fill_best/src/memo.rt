@@ -20,15 +20,15 @@ use std::collections::HashMap;
 use std::rc::Rc;
 
 /// The first of a set, with what they cost. They are shared, not copied.
-pub(crate) type Found<T> = Rc<Vec<Costed<T>>>;
+pub(crate) type Shortlist<T> = Rc<Vec<Costed<T>>>;
 
 /// The first of sets: of places, of sources, of the atoms that are no constants, and of all atoms.
 #[derive(Drop)]
 pub(crate) struct Memo {
-    places: HashMap<PlaceSet, Found<Place>>,
-    sources: HashMap<SourceSet, Found<PlainSource>>,
-    parts: HashMap<AtomSet, Found<PlainAtom>>,
-    atoms: HashMap<AtomSet, Found<PlainAtom>>,
+    places: HashMap<PlaceSet, Shortlist<Place>>,
+    sources: HashMap<SourceSet, Shortlist<PlainSource>>,
+    parts: HashMap<AtomSet, Shortlist<PlainAtom>>,
+    atoms: HashMap<AtomSet, Shortlist<PlainAtom>>,
 }
 
 impl Memo {
@@ -43,69 +43,81 @@ impl Memo {
         }
     }
 
-    pub fn places(&self, s: PlaceSet) -> Option<&Found<Place>>
+    pub fn places(&self, s: PlaceSet) -> Option<&Shortlist<Place>>
         ensures { (prices : Prices) (c : Items Entry) (k : ℕ) → IsMemoOf prices c k self.now →
             IfSome result (λ o. AreCheapest (place_cost prices) place_cmp (PlaceStands c s) k o.now.value.items) }
     {
         self.places.get(&s)
     }
 
-    pub fn sources(&self, s: SourceSet) -> Option<&Found<PlainSource>>
+    pub fn sources(&self, s: SourceSet) -> Option<&Shortlist<PlainSource>>
         ensures { (prices : Prices) (c : Items Entry) (k : ℕ) → IsMemoOf prices c k self.now →
             IfSome result (λ o. AreCheapest (source_cost prices) source_cmp (SourceStands c s) k o.now.value.items) }
     {
         self.sources.get(&s)
     }
 
-    pub fn parts(&self, s: AtomSet) -> Option<&Found<PlainAtom>>
+    pub fn parts(&self, s: AtomSet) -> Option<&Shortlist<PlainAtom>>
         ensures { (prices : Prices) (c : Items Entry) (k : ℕ) → IsMemoOf prices c k self.now →
             IfSome result (λ o. AreCheapest (atom_cost prices) atom_cmp (PartStands c s) k o.now.value.items) }
     {
         self.parts.get(&s)
     }
 
-    pub fn atoms(&self, s: AtomSet) -> Option<&Found<PlainAtom>>
+    pub fn atoms(&self, s: AtomSet) -> Option<&Shortlist<PlainAtom>>
         ensures { (prices : Prices) (c : Items Entry) (k : ℕ) → IsMemoOf prices c k self.now →
             IfSome result (λ o. AreCheapest (atom_cost prices) atom_cmp (AtomStands c s) k o.now.value.items) }
     {
         self.atoms.get(&s)
     }
 
-    pub fn keep_places(&mut self, s: PlaceSet, found: Found<Place>) -> Result<(), NoMemory>
+    pub fn keep_places(&mut self, s: PlaceSet, shortlist: Shortlist<Place>) -> Result<(), NoMemory>
         ensures { OnOk result ((prices : Prices) (c : Items Entry) (k : ℕ) → IsMemoOf prices c k self.old →
-            AreCheapest (place_cost prices) place_cmp (PlaceStands c s) k found.value.items → IsMemoOf prices c k self.new) }
+            AreCheapest (place_cost prices) place_cmp (PlaceStands c s) k shortlist.value.items → IsMemoOf prices c k self.new) }
     {
-        match self.places.insert(s, found) {
+        match self.places.insert(s, shortlist) {
             Ok(_) => Ok(()),
             Err(_) => Err(NoMemory),
         }
     }
 
-    pub fn keep_sources(&mut self, s: SourceSet, found: Found<PlainSource>) -> Result<(), NoMemory>
+    pub fn keep_sources(
+        &mut self,
+        s: SourceSet,
+        shortlist: Shortlist<PlainSource>,
+    ) -> Result<(), NoMemory>
         ensures { OnOk result ((prices : Prices) (c : Items Entry) (k : ℕ) → IsMemoOf prices c k self.old →
-            AreCheapest (source_cost prices) source_cmp (SourceStands c s) k found.value.items → IsMemoOf prices c k self.new) }
+            AreCheapest (source_cost prices) source_cmp (SourceStands c s) k shortlist.value.items → IsMemoOf prices c k self.new) }
     {
-        match self.sources.insert(s, found) {
+        match self.sources.insert(s, shortlist) {
             Ok(_) => Ok(()),
             Err(_) => Err(NoMemory),
         }
     }
 
-    pub fn keep_parts(&mut self, s: AtomSet, found: Found<PlainAtom>) -> Result<(), NoMemory>
+    pub fn keep_parts(
+        &mut self,
+        s: AtomSet,
+        shortlist: Shortlist<PlainAtom>,
+    ) -> Result<(), NoMemory>
         ensures { OnOk result ((prices : Prices) (c : Items Entry) (k : ℕ) → IsMemoOf prices c k self.old →
-            AreCheapest (atom_cost prices) atom_cmp (PartStands c s) k found.value.items → IsMemoOf prices c k self.new) }
+            AreCheapest (atom_cost prices) atom_cmp (PartStands c s) k shortlist.value.items → IsMemoOf prices c k self.new) }
     {
-        match self.parts.insert(s, found) {
+        match self.parts.insert(s, shortlist) {
             Ok(_) => Ok(()),
             Err(_) => Err(NoMemory),
         }
     }
 
-    pub fn keep_atoms(&mut self, s: AtomSet, found: Found<PlainAtom>) -> Result<(), NoMemory>
+    pub fn keep_atoms(
+        &mut self,
+        s: AtomSet,
+        shortlist: Shortlist<PlainAtom>,
+    ) -> Result<(), NoMemory>
         ensures { OnOk result ((prices : Prices) (c : Items Entry) (k : ℕ) → IsMemoOf prices c k self.old →
-            AreCheapest (atom_cost prices) atom_cmp (AtomStands c s) k found.value.items → IsMemoOf prices c k self.new) }
+            AreCheapest (atom_cost prices) atom_cmp (AtomStands c s) k shortlist.value.items → IsMemoOf prices c k self.new) }
     {
-        match self.atoms.insert(s, found) {
+        match self.atoms.insert(s, shortlist) {
             Ok(_) => Ok(()),
             Err(_) => Err(NoMemory),
         }

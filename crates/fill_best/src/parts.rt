@@ -2,7 +2,7 @@
 ghost use Rattle.fill_tokens.specs.Place.{place_cmp};
 ghost use Rattle.fill_tokens.proofs.PlaceLaws.{exact_places, place_total};
 
-use crate::costed::{Made, Ordered};
+use crate::costed::{Composite, Ordered};
 use fill_text::NoMemory;
 use fill_tokens::Place;
 use std::alloc::Global;
@@ -84,11 +84,11 @@ impl Ordered for WholeText {
     ghost exact = { exact_whole };
 }
 
-impl Made<Place, Place> for Bounds {
+impl Composite<Place, Place> for Bounds {
     ghost use Rattle.std.specs.Prelude.{refl};
     ghost use Rattle.fill_best.specs.Parts.{bounds_of};
 
-    ghost made = { bounds_of };
+    ghost composite = { bounds_of };
 
     fn make(_alloc: Global, first: &Place, second: &Place) -> Result<Bounds, NoMemory> {
         Ok(Bounds {

@@ -13,7 +13,7 @@ ghost use Rattle.fill_best.specs.declared.costed.Costed.{Costed as Cost};
 
 use crate::costed::Costed;
 use crate::first::{put, put_products};
-use crate::memo::{Found, Memo};
+use crate::memo::{Memo, Shortlist};
 use crate::parts::Bounds;
 use fill_arena::{Arena, PlaceSet};
 use fill_text::NoMemory;
@@ -30,15 +30,15 @@ fn first_places(
 ) -> Result<Vec<Costed<Place>>, NoMemory>
     ensures { IfOk result (λ first. AreCheapest (place_cost prices.now) place_cmp (λ p. In p places.now) limit first.items) }
 {
-    let mut kept = Vec::new(alloc);
+    let mut ranking = Vec::new(alloc);
     for place in places {
         let next = Costed {
             cost: place.cost(prices),
             item: *place,
         };
-        put(&mut kept, limit, next)?;
+        put(&mut ranking, limit, next)?;
     }
-    Ok(kept)
+    Ok(ranking)
 }
 
 /// The first places of a set.
@@ -49,18 +49,18 @@ pub(crate) fn places_of(
     limit: usize,
     memo: &mut Memo,
     s: PlaceSet,
-) -> Result<Found<Place>, NoMemory>
+) -> Result<Shortlist<Place>, NoMemory>
     requires set { IsPlaceSet arena.now s }
     requires memo { IsMemoOf prices.now arena.now limit memo.old }
     ensures memo { OnOk result (IsMemoOf prices.now arena.now limit memo.new) }
-    ensures first { IfOk result (λ found. AreCheapest (place_cost prices.now) place_cmp (PlaceStands arena.now s) limit found.value.items) }
+    ensures first { IfOk result (λ shortlist. AreCheapest (place_cost prices.now) place_cmp (PlaceStands arena.now s) limit shortlist.value.items) }
 {
-    if let Some(found) = memo.places(s) {
-        return Ok(found.clone()?);
+    if let Some(shortlist) = memo.places(s) {
+        return Ok(shortlist.clone()?);
     }
-    let found = Rc::new(alloc, first_places(alloc, prices, limit, arena.places(s))?)?;
-    memo.keep_places(s, found.clone()?)?;
-    Ok(found)
+    let shortlist = Rc::new(alloc, first_places(alloc, prices, limit, arena.places(s))?)?;
+    memo.keep_places(s, shortlist.clone()?)?;
+    Ok(shortlist)
 }
 
 /// The first bounds of two sets of places.

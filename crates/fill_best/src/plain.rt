@@ -4,7 +4,7 @@ ghost use Rattle.fill_tree.specs.Cost.{atom_cost};
 ghost use Rattle.fill_tree.specs.Meaning.{atom_tree, program_tree, source_tree};
 ghost use Rattle.fill_tree.specs.Tree.{col, constant, more};
 
-use crate::costed::{Made, Ordered};
+use crate::costed::{Composite, Ordered};
 use crate::parts::{Bounds, Target, WholeText};
 use fill_text::{NoMemory, Text};
 use fill_tree::{Atom, Prices, Program, Select, Source};
@@ -156,10 +156,10 @@ impl Ordered for PlainAtoms {
     ghost exact = { exact_atom_lists };
 }
 
-impl Made<PlainSource, WholeText> for PlainAtom {
+impl Composite<PlainSource, WholeText> for PlainAtom {
     ghost use Rattle.fill_best.specs.Parts.{whole_by_parts, whole_of};
 
-    ghost made = { whole_of };
+    ghost composite = { whole_of };
 
     fn make(
         alloc: Global,
@@ -174,11 +174,11 @@ impl Made<PlainSource, WholeText> for PlainAtom {
     ghost by_parts = { whole_by_parts };
 }
 
-impl Made<PlainSource, Bounds> for PlainAtom {
+impl Composite<PlainSource, Bounds> for PlainAtom {
     ghost use Rattle.std.specs.Prelude.{refl};
     ghost use Rattle.fill_best.specs.Parts.{piece_of};
 
-    ghost made = { piece_of };
+    ghost composite = { piece_of };
 
     fn make(alloc: Global, first: &PlainSource, second: &Bounds) -> Result<PlainAtom, NoMemory> {
         let source = first.source.copy(alloc)?;
@@ -190,10 +190,10 @@ impl Made<PlainSource, Bounds> for PlainAtom {
     ghost by_parts = { λ a b c d. refl };
 }
 
-impl Made<Target, PlainAtoms> for PlainSource {
+impl Composite<Target, PlainAtoms> for PlainSource {
     ghost use Rattle.fill_best.specs.Parts.{lookup_by_parts, lookup_of};
 
-    ghost made = { lookup_of };
+    ghost composite = { lookup_of };
 
     fn make(alloc: Global, first: &Target, second: &PlainAtoms) -> Result<PlainSource, NoMemory> {
         let program = second.program.copy(alloc)?;
@@ -211,11 +211,11 @@ impl Made<Target, PlainAtoms> for PlainSource {
     ghost by_parts = { lookup_by_parts };
 }
 
-impl Made<PlainAtom, PlainAtoms> for PlainAtoms {
+impl Composite<PlainAtom, PlainAtoms> for PlainAtoms {
     ghost use Rattle.std.specs.Prelude.{refl};
     ghost use Rattle.fill_tree.specs.Tree.{more};
 
-    ghost made = { more };
+    ghost composite = { more };
 
     fn make(alloc: Global, first: &PlainAtom, second: &PlainAtoms) -> Result<PlainAtoms, NoMemory> {
         Ok(PlainAtoms {

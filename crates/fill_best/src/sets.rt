@@ -17,7 +17,7 @@ ghost use Rattle.fill_best.specs.Rows.{AreFirstParts, AreFirstRows};
 
 use crate::costed::Costed;
 use crate::first::{put, put_products};
-use crate::memo::{Found, Memo};
+use crate::memo::{Memo, Shortlist};
 use crate::parts::{Target, WholeText};
 use crate::places::{bounds_of, places_of};
 use crate::plain::{PlainAtom, PlainSource};
@@ -37,19 +37,19 @@ fn sources_of(
     limit: usize,
     memo: &mut Memo,
     s: SourceSet,
-) -> Result<Found<PlainSource>, NoMemory>
+) -> Result<Shortlist<PlainSource>, NoMemory>
     requires set { IsSourceSet arena.now s }
     requires some { 1 ≤ limit }
     requires memo { IsMemoOf prices.now arena.now limit memo.old }
     ensures memo { OnOk result (IsMemoOf prices.now arena.now limit memo.new) }
-    ensures first { IfOk result (λ found. AreCheapest (source_cost prices.now) source_cmp (SourceStands arena.now s) limit found.value.items) }
+    ensures first { IfOk result (λ shortlist. AreCheapest (source_cost prices.now) source_cmp (SourceStands arena.now s) limit shortlist.value.items) }
 {
-    if let Some(found) = memo.sources(s) {
-        return Ok(found.clone()?);
+    if let Some(shortlist) = memo.sources(s) {
+        return Ok(shortlist.clone()?);
     }
-    let found = Rc::new(alloc, scan_sources(alloc, prices, arena, limit, memo, s)?)?;
-    memo.keep_sources(s, found.clone()?)?;
-    Ok(found)
+    let shortlist = Rc::new(alloc, scan_sources(alloc, prices, arena, limit, memo, s)?)?;
+    memo.keep_sources(s, shortlist.clone()?)?;
+    Ok(shortlist)
 }
 
 #[cycle(sets)]
@@ -65,16 +65,16 @@ fn scan_sources(
     requires some { 1 ≤ limit }
     requires memo { IsMemoOf prices.now arena.now limit memo.old }
     ensures memo { OnOk result (IsMemoOf prices.now arena.now limit memo.new) }
-    ensures first { IfOk result (λ kept. AreCheapest (source_cost prices.now) source_cmp (SourceStands arena.now s) limit kept.items) }
+    ensures first { IfOk result (λ ranking. AreCheapest (source_cost prices.now) source_cmp (SourceStands arena.now s) limit ranking.items) }
 {
     arena.keeps_made();
     prices.keep_small();
     let items = arena.sources(s);
-    let mut kept = Vec::new(alloc);
+    let mut ranking = Vec::new(alloc);
     for item in items {
-        put_source(alloc, prices, arena, limit, memo, s, item, &mut kept)?;
+        put_source(alloc, prices, arena, limit, memo, s, item, &mut ranking)?;
     }
-    Ok(kept)
+    Ok(ranking)
 }
 
 /// Puts the sources that an item of the set stands for.
@@ -87,15 +87,15 @@ fn put_source(
     memo: &mut Memo,
     set: SourceSet,
     item: &SourceItem,
-    kept: &mut Vec<Costed<PlainSource>>,
+    ranking: &mut Vec<Costed<PlainSource>>,
 ) -> Result<(), NoMemory>
     requires item { IsSourceItem arena.now set item.now }
     requires some { 1 ≤ limit }
-    requires rising { Rises (by_cost source_cmp) kept.old.items }
-    requires few { length kept.old.items ≤ limit }
+    requires rising { Rises (by_cost source_cmp) ranking.old.items }
+    requires few { length ranking.old.items ≤ limit }
     requires memo { IsMemoOf prices.now arena.now limit memo.old }
     ensures memo { OnOk result (IsMemoOf prices.now arena.now limit memo.new) }
-    ensures first { OnOk result (TakesIn (source_cost prices.now) source_cmp (λ x. SourceFits x arena.now item.now) limit kept.old.items kept.new.items) }
+    ensures first { OnOk result (TakesIn (source_cost prices.now) source_cmp (λ x. SourceFits x arena.now item.now) limit ranking.old.items ranking.new.items) }
 {
     match item {
         SourceItem::Col(number) => {
@@ -103,11 +103,11 @@ fn put_source(
                 cost: prices.column as u64,
                 item: PlainSource::column(*number),
             };
-            put(kept, limit, next)?;
+            put(ranking, limit, next)?;
             Ok(())
         }
         SourceItem::Select(listed) => put_lookups(
-            alloc, prices, arena, limit, memo, set, listed, kept,
+            alloc, prices, arena, limit, memo, set, listed, ranking,
         ),
     }
 }
@@ -122,15 +122,15 @@ fn put_lookups(
     memo: &mut Memo,
     set: SourceSet,
     item: &SelectItem,
-    kept: &mut Vec<Costed<PlainSource>>,
+    ranking: &mut Vec<Costed<PlainSource>>,
 ) -> Result<(), NoMemory>
     requires item { IsSelectItem arena.now set item.now }
     requires some { 1 ≤ limit }
-    requires rising { Rises (by_cost source_cmp) kept.old.items }
-    requires few { length kept.old.items ≤ limit }
+    requires rising { Rises (by_cost source_cmp) ranking.old.items }
+    requires few { length ranking.old.items ≤ limit }
     requires memo { IsMemoOf prices.now arena.now limit memo.old }
     ensures memo { OnOk result (IsMemoOf prices.now arena.now limit memo.new) }
-    ensures first { OnOk result (TakesIn (source_cost prices.now) source_cmp (λ x. SourceFits x arena.now (SourceItem.Select item.now)) limit kept.old.items kept.new.items) }
+    ensures first { OnOk result (TakesIn (source_cost prices.now) source_cmp (λ x. SourceFits x arena.now (SourceItem.Select item.now)) limit ranking.old.items ranking.new.items) }
 {
     let rows = rows_of(
         alloc,
@@ -154,7 +154,7 @@ fn put_lookups(
     prices.keep_small();
     put_products(
         alloc,
-        kept,
+        ranking,
         limit,
         prices.lookup as u64,
         &targets,
@@ -245,12 +245,12 @@ fn conditions_of(
     memo: &mut Memo,
     set: SourceSet,
     item: &ConditionItem,
-) -> Result<Found<PlainAtom>, NoMemory>
+) -> Result<Shortlist<PlainAtom>, NoMemory>
     requires item { IsConditionItem arena.now set item.now }
     requires some { 1 ≤ limit }
     requires memo { IsMemoOf prices.now arena.now limit memo.old }
     ensures memo { OnOk result (IsMemoOf prices.now arena.now limit memo.new) }
-    ensures first { IfOk result (λ found. AreFirstParts prices.now arena.now item.now limit found.value.items) }
+    ensures first { IfOk result (λ shortlist. AreFirstParts prices.now arena.now item.now limit shortlist.value.items) }
 {
     match item.atoms {
         Some(s) => parts_of(alloc, prices, arena, limit, memo, s),
@@ -267,19 +267,19 @@ fn parts_of(
     limit: usize,
     memo: &mut Memo,
     s: AtomSet,
-) -> Result<Found<PlainAtom>, NoMemory>
+) -> Result<Shortlist<PlainAtom>, NoMemory>
     requires set { IsAtomSet arena.now s }
     requires some { 1 ≤ limit }
     requires memo { IsMemoOf prices.now arena.now limit memo.old }
     ensures memo { OnOk result (IsMemoOf prices.now arena.now limit memo.new) }
-    ensures first { IfOk result (λ found. AreCheapest (atom_cost prices.now) atom_cmp (PartStands arena.now s) limit found.value.items) }
+    ensures first { IfOk result (λ shortlist. AreCheapest (atom_cost prices.now) atom_cmp (PartStands arena.now s) limit shortlist.value.items) }
 {
-    if let Some(found) = memo.parts(s) {
-        return Ok(found.clone()?);
+    if let Some(shortlist) = memo.parts(s) {
+        return Ok(shortlist.clone()?);
     }
-    let found = Rc::new(alloc, scan_parts(alloc, prices, arena, limit, memo, s)?)?;
-    memo.keep_parts(s, found.clone()?)?;
-    Ok(found)
+    let shortlist = Rc::new(alloc, scan_parts(alloc, prices, arena, limit, memo, s)?)?;
+    memo.keep_parts(s, shortlist.clone()?)?;
+    Ok(shortlist)
 }
 
 #[cycle(sets)]
@@ -295,16 +295,16 @@ pub(crate) fn scan_parts(
     requires some { 1 ≤ limit }
     requires memo { IsMemoOf prices.now arena.now limit memo.old }
     ensures memo { OnOk result (IsMemoOf prices.now arena.now limit memo.new) }
-    ensures first { IfOk result (λ kept. AreCheapest (atom_cost prices.now) atom_cmp (PartStands arena.now s) limit kept.items) }
+    ensures first { IfOk result (λ ranking. AreCheapest (atom_cost prices.now) atom_cmp (PartStands arena.now s) limit ranking.items) }
 {
     arena.keeps_made();
     prices.keep_small();
     let items = arena.atoms(s);
-    let mut kept = Vec::new(alloc);
+    let mut ranking = Vec::new(alloc);
     for item in items {
-        put_parts(alloc, prices, arena, limit, memo, s, item, &mut kept)?;
+        put_parts(alloc, prices, arena, limit, memo, s, item, &mut ranking)?;
     }
-    Ok(kept)
+    Ok(ranking)
 }
 
 /// Puts the atoms that an item of the set stands for, if it is no constant.
@@ -317,46 +317,46 @@ fn put_parts(
     memo: &mut Memo,
     set: AtomSet,
     item: &AtomItem,
-    kept: &mut Vec<Costed<PlainAtom>>,
+    ranking: &mut Vec<Costed<PlainAtom>>,
 ) -> Result<(), NoMemory>
     requires item { IsAtomItem arena.now set item.now }
     requires some { 1 ≤ limit }
-    requires rising { Rises (by_cost atom_cmp) kept.old.items }
-    requires few { length kept.old.items ≤ limit }
+    requires rising { Rises (by_cost atom_cmp) ranking.old.items }
+    requires few { length ranking.old.items ≤ limit }
     requires memo { IsMemoOf prices.now arena.now limit memo.old }
     ensures memo { OnOk result (IsMemoOf prices.now arena.now limit memo.new) }
-    ensures first { OnOk result (TakesIn (atom_cost prices.now) atom_cmp (PartFits arena.now item.now) limit kept.old.items kept.new.items) }
+    ensures first { OnOk result (TakesIn (atom_cost prices.now) atom_cmp (PartFits arena.now item.now) limit ranking.old.items ranking.new.items) }
 {
     arena.keeps_made();
     prices.keep_small();
     match item {
         AtomItem::Const(_) => Ok(()),
         AtomItem::Whole(sources) => {
-            let found = sources_of(alloc, prices, arena, limit, memo, *sources)?;
+            let shortlist = sources_of(alloc, prices, arena, limit, memo, *sources)?;
             let whole = [Costed {
                 cost: 0,
                 item: WholeText,
             }];
             put_products(
                 alloc,
-                kept,
+                ranking,
                 limit,
                 prices.whole as u64,
-                found.as_slice(),
+                shortlist.as_slice(),
                 &whole,
             )
         }
         AtomItem::Sub(sources, lefts, rights) => {
-            let found = sources_of(alloc, prices, arena, limit, memo, *sources)?;
+            let shortlist = sources_of(alloc, prices, arena, limit, memo, *sources)?;
             let left = places_of(alloc, prices, arena, limit, memo, *lefts)?;
             let right = places_of(alloc, prices, arena, limit, memo, *rights)?;
             let bounds = bounds_of(alloc, prices, limit, left.as_slice(), right.as_slice())?;
             put_products(
                 alloc,
-                kept,
+                ranking,
                 limit,
                 prices.piece as u64,
-                found.as_slice(),
+                shortlist.as_slice(),
                 bounds.as_slice(),
             )
         }

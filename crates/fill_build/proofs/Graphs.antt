@@ -73,7 +73,7 @@ module _ (on : OnRow) (out : List ℕ) (c : List Entry) (edges : List Edge) (s :
           some = trimmed.some;
           each = λ k e h.
               (let up = trimmed.are.onward k e h in
-              let f = trimmed.kept k e h in
+              let f = trimmed.origin k e h in
               let set = (s.each f.1.0 f.0 f.1.1).atoms.set in
               let older : OlderAtoms c (length c) f.0.atoms = (set, slice_get_within c f.0.atoms (kind.Atoms set.0) set.1) in
               record { onward = up.0; within = up.1; atoms = subst (OlderAtoms c (length c)) f.2 older });

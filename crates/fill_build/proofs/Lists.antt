@@ -84,13 +84,13 @@ module _ {A : Type 0} (test : A → Bool) where
   in_filtered [] x h = absurd (in_empty x h)
   in_filtered (y ∷ ys) x h = was y ys (filter test ys) x (in_filtered ys x) (test y) refl h
 
-  kept : (y : A) (ys : List A) (x : A) → test x ≡ true → (b : Bool) → test y ≡ b → (y ≡ x) ⊎ In x ys → In x (cond b (y ∷ ys) ys)
-  kept y ys x e true t k = elim k [ inl same ↦ (0, ap Some same) | inr rest ↦ in_rest y ys x rest ]
-  kept y ys x e false t k = elim k [ inl same ↦ (let other = subst (λ z. test z ≡ false) same t in absurd cc) | inr rest ↦ rest ]
+  in_cond : (y : A) (ys : List A) (x : A) → test x ≡ true → (b : Bool) → test y ≡ b → (y ≡ x) ⊎ In x ys → In x (cond b (y ∷ ys) ys)
+  in_cond y ys x e true t k = elim k [ inl same ↦ (0, ap Some same) | inr rest ↦ in_rest y ys x rest ]
+  in_cond y ys x e false t k = elim k [ inl same ↦ (let other = subst (λ z. test z ≡ false) same t in absurd cc) | inr rest ↦ rest ]
 
   pub in_filter : (xs : List A) (x : A) → In x xs → test x ≡ true → In x (filter test xs)
   in_filter [] x h e = absurd (in_empty x h)
-  in_filter (y ∷ ys) x h e = kept y (filter test ys) x e (test y) refl (elim (in_front y ys x h) [ inl same ↦ inl same | inr rest ↦ inr (in_filter ys x rest e) ])
+  in_filter (y ∷ ys) x h e = in_cond y (filter test ys) x e (test y) refl (elim (in_front y ys x h) [ inl same ↦ inl same | inr rest ↦ inr (in_filter ys x rest e) ])
 
 -- a piece by its first place and its width
 pub piece_range : {A : Type 0} (xs : List A) (from width : ℕ) → slice_range xs from (from + width) ≡ take width (drop from xs)

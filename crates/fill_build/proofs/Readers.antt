@@ -193,9 +193,9 @@ module _ (on : OnRow) (texts : List (List ℕ)) (p : Piece) (hits : List Hit) wh
       inl (piece_text p, subst (λ m. slice_get texts m ≡ Some (piece_text p)) (sym text) there, given, sym piece_long),
     )
 
-    module _ (known : (v : List ℕ) → Contains texts v ↔ ((x : SourceTree) × Gives on v x)) where
+    module _ (from_source : (v : List ℕ) → Contains texts v ↔ ((x : SourceTree) × Gives on v x)) where
       text_there : (v : List ℕ) (x : SourceTree) → Gives on v x → (k : ℕ) × (slice_get texts k ≡ Some v)
-      text_there v x given = let has = (known v).1 (x, given) in (has.0, here texts has.0 v has.1 (sym has.2))
+      text_there v x given = let has = (from_source v).1 (x, given) in (has.0, here texts has.0 v has.1 (sym has.2))
 
       between_read : (x : SourceTree) (l q : Place) (t : List ℕ) (a b : ℕ) → Gives on t x → IsPlaceOf on.settings.profile.tokens l → IsPlaceOf on.settings.profile.tokens q → HasValue l t a → HasValue q t b
           → a < b → piece_text p ≡ slice_range t a b → ReadsSome on texts p hits (length hits) (sub x l q)

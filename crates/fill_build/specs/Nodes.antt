@@ -1,5 +1,6 @@
 -- The nodes of an example's graph.
 use Rattle.std.specs.Prelude.{ℕ, ◌<◌, ◌≤◌, List, length, drop}
+use Rattle.fill_arena.specs.declared.entry.TheConstants.{MOST_CHARACTERS}
 use Rattle.fill_build.specs.Hits.{BeginAlike}
 use Rattle.fill_build.specs.declared.node.Node.{Node}
 use Rattle.fill_build.specs.declared.node.Twin.{Twin}
@@ -9,8 +10,8 @@ pub record IsTwin (out : List ℕ) (from : ℕ) (t : Twin) : Type 0 where
   pub earlier : 1 ≤ t.run → t.from < from
   pub alike : BeginAlike (drop t.from out) (drop from out) t.run
 
--- a node before the end of a text of at most 100 characters, and a twin of it
+-- a node before the end of a text that an example may have, and a twin of it
 pub record IsNode (n : Node) : Type 0 where
   pub within : n.from < length n.text.now
-  pub short : length n.text.now ≤ 100
+  pub short : length n.text.now ≤ MOST_CHARACTERS
   pub twin : IsTwin n.text.now n.from n.twin

@@ -10,6 +10,7 @@ use Rattle.fill_arena.specs.Stands.{AtomFits}
 use Rattle.fill_arena.specs.WellMade.{IsAtomItem}
 use Rattle.fill_arena.specs.declared.entry.AtomItem.{AtomItem}
 use Rattle.fill_arena.specs.declared.entry.Entry.{Entry}
+use Rattle.fill_arena.specs.declared.entry.TheConstants.{MOST_CHARACTERS}
 use Rattle.fill_sources.specs.declared.row.OnRow.{OnRow}
 use Rattle.fill_build.specs.declared.piece.Piece.{Piece}
 
@@ -24,11 +25,11 @@ piece_rest p = drop p.from p.text.now
 abbrev pub piece_text : Piece → List ℕ
 piece_text p = take p.width (drop p.from p.text.now)
 
--- a piece with some character, of a text of at most 100
+-- a piece with some character, of a text that an example may have
 pub record IsWithin (p : Piece) : Type 0 where
   pub some : 1 ≤ p.width
   pub within : p.from + p.width ≤ length p.text.now
-  pub short : length p.text.now ≤ 100
+  pub short : length p.text.now ≤ MOST_CHARACTERS
 
 -- it says rightly whether a constant may be the piece
 pub record IsPiece (constants : Constants) (p : Piece) : Type 0 where

@@ -2,14 +2,14 @@
 ghost use Rattle.std.specs.Prelude.{◌≡◌, IfOk, OnOk};
 ghost use Rattle.fill_arena.specs.Contents.{Extends};
 ghost use Rattle.fill_sources.specs.Gives.{IsOnRow};
-ghost use Rattle.fill_sources.specs.Sets.{AreKnown, texts_of};
+ghost use Rattle.fill_sources.specs.Sets.{AreRowTexts, texts_of};
 ghost use Rattle.fill_build.specs.Pieces.{AreConstants, AreItemsOf, IsPiece, IsWithin, piece_rest, piece_text};
 ghost use Rattle.fill_build.specs.Hits.{AreHits};
 
 use crate::hits::Hit;
 use crate::piece::Piece;
 use fill_arena::{Arena, AtomItem};
-use fill_sources::{Known, OnRow};
+use fill_sources::{OnRow, RowTexts};
 use fill_text::{List, NoMemory};
 use std::alloc::Global;
 
@@ -17,24 +17,24 @@ use std::alloc::Global;
 pub(crate) fn piece_atoms<'a>(
     alloc: Global,
     on: &OnRow<'a>,
-    known: &mut Known<'a>,
+    row_texts: &mut RowTexts<'a>,
     arena: &mut Arena,
     piece: &Piece<'_>,
     hits: &[Hit],
 ) -> Result<List<AtomItem>, NoMemory>
     requires on { IsOnRow on.now }
-    requires known { AreKnown on.now arena.old known.old }
+    requires row_texts { AreRowTexts on.now arena.old row_texts.old }
     requires piece { IsPiece on.now.settings.constants piece.now }
-    requires hits { AreHits (texts_of known.old) (piece_rest piece.now) piece.now.width hits.now }
+    requires hits { AreHits (texts_of row_texts.old) (piece_rest piece.now) piece.now.width hits.now }
     ensures items { IfOk result (AreItemsOf on.now arena.new (piece_text piece.now)) }
-    ensures known { OnOk result (AreKnown on.now arena.new known.new) }
-    ensures texts { texts_of known.new ≡ texts_of known.old }
-    ensures kept { Extends arena.old arena.new }
+    ensures row_texts { OnOk result (AreRowTexts on.now arena.new row_texts.new) }
+    ensures texts { texts_of row_texts.new ≡ texts_of row_texts.old }
+    ensures extends { Extends arena.old arena.new }
 {
     let mut items = piece_constants(alloc, piece, hits.len())?;
     for i in 0..hits.len() {
         let spot = hits[i].spot();
-        known.put_readers(alloc, on, arena, spot, piece.width, &mut items)?;
+        row_texts.put_readers(alloc, on, arena, spot, piece.width, &mut items)?;
     }
     Ok(items)
 }

@@ -4,7 +4,7 @@
 ghost use Rattle.std.specs.Prelude.{◌≡◌, ◌+◌, ◌≤◌, length, IfOk, OnOk};
 ghost use Rattle.fill_arena.specs.Contents.{Extends};
 ghost use Rattle.fill_sources.specs.Gives.{IsOnRow};
-ghost use Rattle.fill_sources.specs.Sets.{AreKnown, texts_of};
+ghost use Rattle.fill_sources.specs.Sets.{AreRowTexts, texts_of};
 ghost use Rattle.fill_build.specs.Edges.{EdgesSoFar, IsPut, IsSetBetween, IsSetOf, TakesEdges};
 ghost use Rattle.fill_build.specs.Hits.{AreHits};
 ghost use Rattle.fill_build.specs.Nodes.{IsNode};
@@ -15,8 +15,8 @@ use crate::constants::constant_width;
 use crate::hits::{Hit, find_hits, narrow};
 use crate::node::{Node, find_twin};
 use crate::piece::Piece;
-use fill_arena::{Arena, AtomSet, Edge};
-use fill_sources::{Known, OnRow};
+use fill_arena::{Arena, AtomSet, Edge, MOST_CHARACTERS};
+use fill_sources::{OnRow, RowTexts};
 use fill_text::{List, NoMemory, Text};
 use std::alloc::Global;
 
@@ -25,22 +25,22 @@ use std::alloc::Global;
 pub(crate) fn piece_edges<'a>(
     alloc: Global,
     on: &OnRow<'a>,
-    known: &mut Known<'a>,
+    row_texts: &mut RowTexts<'a>,
     arena: &mut Arena,
     text: &Text,
 ) -> Result<List<Edge>, NoMemory>
     requires on { IsOnRow on.now }
-    requires known { AreKnown on.now arena.old known.old }
-    requires short { length text.now ≤ 100 }
+    requires row_texts { AreRowTexts on.now arena.old row_texts.old }
+    requires short { length text.now ≤ MOST_CHARACTERS }
     ensures edges { IfOk result (EdgesSoFar on.now text.now (length text.now) 0 arena.new) }
-    ensures known { OnOk result (AreKnown on.now arena.new known.new) }
-    ensures kept { Extends arena.old arena.new }
+    ensures row_texts { OnOk result (AreRowTexts on.now arena.new row_texts.new) }
+    ensures extends { Extends arena.old arena.new }
 {
     let mut edges = List::new(alloc);
     for from in 0..text.len() {
         let twin = find_twin(text.as_slice(), from);
         let node = Node { text, from, twin };
-        put_edges_from(alloc, on, known, arena, &node, &mut edges)?;
+        put_edges_from(alloc, on, row_texts, arena, &node, &mut edges)?;
     }
     Ok(edges)
 }
@@ -49,21 +49,21 @@ pub(crate) fn piece_edges<'a>(
 fn put_edges_from<'a>(
     alloc: Global,
     on: &OnRow<'a>,
-    known: &mut Known<'a>,
+    row_texts: &mut RowTexts<'a>,
     arena: &mut Arena,
     node: &Node<'_>,
     edges: &mut List<Edge>,
 ) -> Result<(), NoMemory>
     requires on { IsOnRow on.now }
-    requires known { AreKnown on.now arena.old known.old }
+    requires row_texts { AreRowTexts on.now arena.old row_texts.old }
     requires node { IsNode node.now }
     requires state { EdgesSoFar on.now node.now.text.now node.now.from 0 arena.old edges.old }
     ensures state { OnOk result (EdgesSoFar on.now node.now.text.now (node.now.from + 1) 0 arena.new edges.new) }
-    ensures known { OnOk result (AreKnown on.now arena.new known.new) }
-    ensures kept { Extends arena.old arena.new }
+    ensures row_texts { OnOk result (AreRowTexts on.now arena.new row_texts.new) }
+    ensures extends { Extends arena.old arena.new }
 {
     take_edges(node, edges)?;
-    make_edges(alloc, on, known, arena, node, edges)
+    make_edges(alloc, on, row_texts, arena, node, edges)
 }
 
 /// Puts the edges of the pieces that begin at the node's twin too: each with the set that the twin's piece has.
@@ -84,18 +84,18 @@ fn take_edges(node: &Node<'_>, edges: &mut List<Edge>) -> Result<(), NoMemory>
 fn make_edges<'a>(
     alloc: Global,
     on: &OnRow<'a>,
-    known: &mut Known<'a>,
+    row_texts: &mut RowTexts<'a>,
     arena: &mut Arena,
     node: &Node<'_>,
     edges: &mut List<Edge>,
 ) -> Result<(), NoMemory>
     requires on { IsOnRow on.now }
-    requires known { AreKnown on.now arena.old known.old }
+    requires row_texts { AreRowTexts on.now arena.old row_texts.old }
     requires node { IsNode node.now }
     requires state { EdgesSoFar on.now node.now.text.now node.now.from node.now.twin.run arena.old edges.old }
     ensures state { OnOk result (EdgesSoFar on.now node.now.text.now (node.now.from + 1) 0 arena.new edges.new) }
-    ensures known { OnOk result (AreKnown on.now arena.new known.new) }
-    ensures kept { Extends arena.old arena.new }
+    ensures row_texts { OnOk result (AreRowTexts on.now arena.new row_texts.new) }
+    ensures extends { Extends arena.old arena.new }
 {
     let run = node.twin.run;
     let rest = &node.text.as_slice()[node.from..];
@@ -103,7 +103,7 @@ fn make_edges<'a>(
         return Ok(());
     }
     let constants = constant_width(on.settings.constants, rest);
-    let mut hits = find_hits(alloc, known, rest)?;
+    let mut hits = find_hits(alloc, row_texts, rest)?;
     for done in run..rest.len() {
         let width = done + 1;
         narrow(&mut hits, width);
@@ -113,7 +113,7 @@ fn make_edges<'a>(
             width,
             constant: width <= constants,
         };
-        let atoms = piece_set(alloc, on, known, arena, &piece, hits.as_slice())?;
+        let atoms = piece_set(alloc, on, row_texts, arena, &piece, hits.as_slice())?;
         put_edge(edges, node.from, node.from + width, atoms)?;
     }
     Ok(())
@@ -136,21 +136,21 @@ fn set_between(edges: &[Edge], from: usize, to: usize) -> Option<AtomSet>
 fn piece_set<'a>(
     alloc: Global,
     on: &OnRow<'a>,
-    known: &mut Known<'a>,
+    row_texts: &mut RowTexts<'a>,
     arena: &mut Arena,
     piece: &Piece<'_>,
     hits: &[Hit],
 ) -> Result<Option<AtomSet>, NoMemory>
     requires on { IsOnRow on.now }
-    requires known { AreKnown on.now arena.old known.old }
+    requires row_texts { AreRowTexts on.now arena.old row_texts.old }
     requires piece { IsPiece on.now.settings.constants piece.now }
-    requires hits { AreHits (texts_of known.old) (piece_rest piece.now) piece.now.width hits.now }
+    requires hits { AreHits (texts_of row_texts.old) (piece_rest piece.now) piece.now.width hits.now }
     ensures set { IfOk result (IsSetOf on.now arena.new (piece_text piece.now)) }
-    ensures known { OnOk result (AreKnown on.now arena.new known.new) }
-    ensures texts { texts_of known.new ≡ texts_of known.old }
-    ensures kept { Extends arena.old arena.new }
+    ensures row_texts { OnOk result (AreRowTexts on.now arena.new row_texts.new) }
+    ensures texts { texts_of row_texts.new ≡ texts_of row_texts.old }
+    ensures extends { Extends arena.old arena.new }
 {
-    let items = piece_atoms(alloc, on, known, arena, piece, hits)?;
+    let items = piece_atoms(alloc, on, row_texts, arena, piece, hits)?;
     if items.len() == 0 {
         return Ok(None);
     }

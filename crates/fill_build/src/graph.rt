@@ -6,7 +6,7 @@ ghost use Rattle.fill_sources.specs.Found.{PlacesStand};
 ghost use Rattle.fill_build.specs.Build.{IsGraphOfExample, NoneExplains};
 
 use crate::uncut::build_uncut;
-use fill_arena::{Arena, GraphId};
+use fill_arena::{Arena, GraphId, MOST_CHARACTERS};
 use fill_edge::{Ledger, Steps};
 use fill_sheet::Sheet;
 use fill_sources::{OnRow, PlaceMemory};
@@ -30,11 +30,11 @@ pub fn build<L: Ledger>(
 ) -> Result<Option<GraphId>, NoMemory>
     requires first { 1 ≤ row }
     requires last { row ≤ length sheet.now.rows }
-    requires short { length text.now ≤ 100 }
+    requires short { length text.now ≤ MOST_CHARACTERS }
     requires settings { AreSettings settings.now }
     ensures built { IfOk result (λ made. MatchOption made (NoneExplains settings.now sheet.now tables.now row text.now) (IsGraphOfExample settings.now sheet.now tables.now row text.now arena.new)) }
     ensures none { IfOk result (λ made. IfNone made (arena.new ≡ arena.old)) }
-    ensures kept { Extends arena.old arena.new }
+    ensures extends { Extends arena.old arena.new }
     ensures err { OnErr result (arena.new ≡ arena.old) }
     ensures step { steps.new ≡ steps.old + 1 }
 {
@@ -68,12 +68,12 @@ pub fn build_with<L: Ledger>(
     requires memory { PlacesStand arena.old memory.old }
     requires first { 1 ≤ row }
     requires last { row ≤ length sheet.now.rows }
-    requires short { length text.now ≤ 100 }
+    requires short { length text.now ≤ MOST_CHARACTERS }
     requires settings { AreSettings settings.now }
     ensures built { IfOk result (λ made. MatchOption made (NoneExplains settings.now sheet.now tables.now row text.now) (IsGraphOfExample settings.now sheet.now tables.now row text.now arena.new)) }
     ensures none { IfOk result (λ made. IfNone made (arena.new ≡ arena.old)) }
     ensures memory { PlacesStand arena.new memory.new }
-    ensures kept { Extends arena.old arena.new }
+    ensures extends { Extends arena.old arena.new }
     ensures err { OnErr result (arena.new ≡ arena.old) }
     ensures step { steps.new ≡ steps.old + 1 }
 {

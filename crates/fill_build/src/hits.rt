@@ -3,7 +3,7 @@ ghost use Rattle.std.specs.Prelude.{◌≡◌, ◌<◌, length, IfOk, OnOk};
 ghost use Rattle.fill_sources.specs.Sets.{texts_of};
 ghost use Rattle.fill_build.specs.Hits.{AreHits, GoTogether, HitsText, spot_of, wide};
 
-use fill_sources::{Known, Spot};
+use fill_sources::{RowTexts, Spot};
 use fill_text::NoMemory;
 use std::alloc::Global;
 
@@ -31,14 +31,14 @@ impl Hit {
 /// The places of all known texts that begin as the rest of the example's text does.
 pub(crate) fn find_hits<'a>(
     alloc: Global,
-    known: &Known<'a>,
+    row_texts: &RowTexts<'a>,
     rest: &[char],
 ) -> Result<Vec<Hit>, NoMemory>
-    ensures { IfOk result (λ hits. AreHits (texts_of known.now) rest.now 1 hits.items) }
+    ensures { IfOk result (λ hits. AreHits (texts_of row_texts.now) rest.now 1 hits.items) }
 {
     let mut hits = Vec::new(alloc);
-    for k in 0..known.len() {
-        put_hits(&mut hits, k, known.text(k).as_slice(), rest)?;
+    for k in 0..row_texts.len() {
+        put_hits(&mut hits, k, row_texts.text(k).as_slice(), rest)?;
     }
     Ok(hits)
 }

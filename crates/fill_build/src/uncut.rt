@@ -7,9 +7,9 @@ ghost use Rattle.fill_build.specs.Build.{IsGraphOfExample, NoneExplains};
 ghost use Rattle.fill_build.specs.Edges.{AreWalks};
 
 use crate::edges::piece_edges;
-use fill_arena::{Arena, GraphId};
+use fill_arena::{Arena, GraphId, MOST_CHARACTERS};
 use fill_edge::{Ledger, Steps};
-use fill_sources::{Known, OnRow, PlaceMemory};
+use fill_sources::{OnRow, PlaceMemory, RowTexts};
 use fill_text::{NoMemory, Text};
 use fill_trim::trim::{Trimmed, trim};
 use std::alloc::Global;
@@ -26,10 +26,10 @@ pub(crate) fn build_uncut<'a, L: Ledger>(
 ) -> Result<Option<GraphId>, NoMemory>
     requires on { IsOnRow on.now }
     requires memory { PlacesStand arena.old memory.old }
-    requires short { length text.now ≤ 100 }
+    requires short { length text.now ≤ MOST_CHARACTERS }
     ensures built { IfOk result (λ made. MatchOption made (NoneExplains on.now.settings on.now.sheet.now on.now.tables.now on.now.row text.now) (IsGraphOfExample on.now.settings on.now.sheet.now on.now.tables.now on.now.row text.now arena.new)) }
     ensures memory { PlacesStand arena.new memory.new }
-    ensures kept { Extends arena.old arena.new }
+    ensures extends { Extends arena.old arena.new }
     ensures step { steps.new ≡ steps.old + 1 }
 {
     match build_walks(alloc, memory, arena, on, text) {
@@ -61,16 +61,16 @@ fn build_walks<'a>(
 ) -> Result<Option<Trimmed>, NoMemory>
     requires on { IsOnRow on.now }
     requires memory { PlacesStand arena.old memory.old }
-    requires short { length text.now ≤ 100 }
+    requires short { length text.now ≤ MOST_CHARACTERS }
     ensures walks { IfOk result (λ made. MatchOption made (NoneExplains on.now.settings on.now.sheet.now on.now.tables.now on.now.row text.now) (AreWalks on.now text.now arena.new)) }
     ensures memory { PlacesStand arena.new memory.new }
-    ensures kept { Extends arena.old arena.new }
+    ensures extends { Extends arena.old arena.new }
 {
-    let mut known = match Known::new(alloc, on, memory) {
-        Ok(known) => known,
+    let mut row_texts = match RowTexts::new(alloc, on, memory) {
+        Ok(row_texts) => row_texts,
         Err(e) => return Err(e),
     };
-    let edges = piece_edges(alloc, on, &mut known, arena, text)?;
-    known.keep_places(alloc, on, memory);
+    let edges = piece_edges(alloc, on, &mut row_texts, arena, text)?;
+    row_texts.keep_places(alloc, on, memory);
     trim(alloc, text.len() + 1, edges.as_slice())
 }

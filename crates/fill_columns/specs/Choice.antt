@@ -1,6 +1,7 @@
 -- Which column is filled, and which ones rules may read.
 use Rattle.std.specs.Prelude.{◌≡◌, ℕ, ◌+◌, ◌==◌, not, List, [], ◌∷◌, ◌++◌, length, take, filter, Result, Ok, Err, if◌then◌else◌, nat_le, min}
 use Rattle.std.specs.List.{list_any, range_with_len}
+use Rattle.fill_sheet.specs.declared.columns.TheConstants.{LAST_COLUMN, MOST_INPUTS}
 use Rattle.fill_columns.specs.Columns.{column_in, named}
 use Rattle.fill_columns.specs.declared.choice.Choice.{Choice}
 use Rattle.fill_columns.specs.declared.error.ColumnError.{ColumnError}
@@ -59,7 +60,7 @@ chosen names width word = of_word word (column_in names width word)
 
 -- the number of a new column after the last one, where these columns have its name
 abbrev pub new_among : List ℕ → ℕ → List ℕ → Result ℕ Refusal
-new_among [] width name = if nat_le 1000 width then Err Full else Ok (width + 1)
+new_among [] width name = if nat_le LAST_COLUMN width then Err Full else Ok (width + 1)
 new_among (column ∷ more) width name = Err (Present name)
 
 -- the new column of a name, after all others
@@ -71,7 +72,7 @@ abbrev pub one_more : ℕ → List ℕ → List ℕ → ℕ → Result (List ℕ
 one_more to before word n =
     if n == to then Err (Filled word) else
     if list_any (λ other. other == n) before then Err (Again word) else
-    if nat_le 8 (length before) then Err TooMany else Ok (before ++ n ∷ [])
+    if nat_le MOST_INPUTS (length before) then Err TooMany else Ok (before ++ n ∷ [])
 
 -- the columns to read with that of one more word
 abbrev pub with_word : List (List ℕ) → ℕ → ℕ → List ℕ → List ℕ → Result (List ℕ) Refusal
@@ -84,7 +85,7 @@ with_words names width to before (word ∷ more) = further (λ now. with_words n
 
 -- all columns but the one that is filled, the first eight of them
 abbrev pub others : ℕ → ℕ → List ℕ
-others width to = take 8 (filter (λ n. not (n == to)) (range_with_len 1 (min width 1000)))
+others width to = take MOST_INPUTS (filter (λ n. not (n == to)) (range_with_len 1 (min width LAST_COLUMN)))
 
 abbrev pub some_of : List ℕ → Result (List ℕ) Refusal
 some_of [] = Err Nothing

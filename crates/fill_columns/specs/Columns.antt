@@ -1,6 +1,7 @@
 -- Which column of a sheet a word names.
 use Rattle.std.specs.Prelude.{ℕ, ◌+◌, ◌&&◌, List, [], ◌∷◌, length, Option, None, Some, Result, Ok, Err, if◌then◌else◌, nat_le, min, max}
 use Rattle.std.specs.Str.{bytes_eq}
+use Rattle.fill_sheet.specs.declared.columns.TheConstants.{LAST_COLUMN}
 use Rattle.fill_script.specs.Number.{number_in}
 use Rattle.fill_columns.specs.declared.error.ColumnError.{ColumnError}
 use Rattle.fill_columns.specs.declared.error.ColumnError.TheVariants as error
@@ -22,7 +23,7 @@ named word n (name ∷ more) = if bytes_eq name word then n ∷ named word (n + 
 
 -- a column from the first to the last one that a word can name
 abbrev pub within : ℕ → ℕ → Result ℕ ColumnError
-within last column = if nat_le 1 column && nat_le column (min last 1000) then Ok column else Err error.Missing
+within last column = if nat_le 1 column && nat_le column (min last LAST_COLUMN) then Ok column else Err error.Missing
 
 -- the column of a number
 abbrev pub of_number : ℕ → Option ℕ → Result ℕ ColumnError
@@ -36,7 +37,7 @@ numbered width word = of_number width (number_in word)
 -- the column of a word that is the name of these: where there is none, the word is a number
 abbrev pub column_of : List ℕ → ℕ → List ℕ → Result ℕ ColumnError
 column_of [] width word = numbered width word
-column_of (column ∷ []) width word = within 1000 column
+column_of (column ∷ []) width word = within LAST_COLUMN column
 column_of (column ∷ other ∷ more) width word = Err error.Ambiguous
 
 -- the column of a word in a sheet with these names and this many columns

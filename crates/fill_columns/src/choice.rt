@@ -8,21 +8,16 @@ ghost use Rattle.fill_columns.specs.Choice.{Refuses, choice_after, choice_data, 
 use crate::column::{column_of, named};
 use crate::{ChoiceError, ColumnError};
 use fill_records::Record;
+use fill_sheet::{LAST_COLUMN, MOST_INPUTS};
 use fill_text::NoMemory;
 use std::alloc::Global;
-
-/// The most columns that rules may read.
-const MOST: usize = 8;
-
-/// The last column that rules may read.
-const LAST: usize = 1_000;
 
 /// The columns that words choose, counted from 1.
 #[derive(Debug, Drop)]
 pub struct Choice {
     /// The column that is filled.
     pub to: u32,
-    /// The columns that rules may read, one to eight, without the one that is filled.
+    /// The columns that rules may read, one to [`MOST_INPUTS`], without the one that is filled.
     pub from: Vec<u32>,
 }
 
@@ -90,7 +85,7 @@ fn new_among<'a>(columns: &[usize], width: usize, name: &'a str) -> Result<u32, 
     if !columns.is_empty() {
         return Err(ChoiceError::Present(name));
     }
-    if width >= 1_000 {
+    if width >= LAST_COLUMN as usize {
         return Err(ChoiceError::Full);
     }
     Ok(width as u32 + 1)
@@ -152,7 +147,7 @@ fn one_more<'a>(
     if is_among(before.as_slice(), column) {
         return Err(ChoiceError::Again(word));
     }
-    if before.len() >= MOST {
+    if before.len() >= MOST_INPUTS {
         return Err(ChoiceError::TooMany);
     }
     match before.push(column) {
@@ -189,10 +184,10 @@ fn some_others<'a>(alloc: Global, width: usize, to: u32) -> Result<Vec<u32>, Cho
 fn others(alloc: Global, width: usize, to: u32) -> Result<Vec<u32>, NoMemory>
     ensures { IfOk result (λ from. from.items ≡ others width to) }
 {
-    let last = width.min(LAST) as u32;
+    let last = width.min(LAST_COLUMN as usize) as u32;
     let mut from = Vec::new(alloc);
     for column in 1..last + 1 {
-        if from.as_slice().len() == MOST {
+        if from.as_slice().len() == MOST_INPUTS {
             break;
         }
         if column == to {

@@ -6,11 +6,9 @@ ghost use Rattle.fill_columns.specs.Columns.{column_in, column_of, named, names_
 use crate::ColumnError;
 use fill_records::Record;
 use fill_script::number_in;
+use fill_sheet::LAST_COLUMN;
 use fill_text::NoMemory;
 use std::alloc::Global;
-
-/// The last column that a word can name.
-const LAST: usize = 1_000;
 
 /// The column of a word, from 1, in a sheet of this many columns: the one of this name in the header, or else the one of
 /// this number.
@@ -46,7 +44,7 @@ fn column_among(columns: &[usize], width: usize, word: &[u8]) -> Result<u32, Col
 {
     match columns {
         [] => numbered(width, word),
-        [column] => within(LAST, *column),
+        [column] => within(LAST_COLUMN as usize, *column),
         _ => Err(ColumnError::Ambiguous),
     }
 }
@@ -87,7 +85,7 @@ fn numbered(width: usize, word: &[u8]) -> Result<u32, ColumnError>
 fn within(last: usize, column: usize) -> Result<u32, ColumnError>
     ensures { result ≡ within last column }
 {
-    if 1 <= column && column <= last.min(LAST) {
+    if 1 <= column && column <= last.min(LAST_COLUMN as usize) {
         Ok(column as u32)
     } else {
         Err(ColumnError::Missing)

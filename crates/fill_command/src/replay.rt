@@ -12,7 +12,7 @@ ghost use Rattle.fill_command.specs.Run.{Ends, world};
 
 use crate::Ending;
 use fill_edge::{Cabinet, Ledger, Sink, Steps};
-use fill_open::{Ready, open_made, open_replay};
+use fill_open::{MOST_MADE_LINES, Ready, open_made, open_replay};
 use fill_output::Halt;
 use fill_report::write_report;
 use fill_session::Session;
@@ -40,7 +40,7 @@ pub fn replay<C: Cabinet, O: Sink, L: Ledger>(
 /// Replays the generated session over `n` lines, and writes its report.
 pub fn made<O: Sink, L: Ledger>(alloc: Global, n: u32, out: &mut O, steps: &mut Steps<L>) -> Ending
     requires first { 1 ≤ n }
-    requires last { n ≤ 2000 }
+    requires last { n ≤ MOST_MADE_LINES }
     ensures { (files : Files) (unread : Counts) → Ends (made n) (world files unread (O.written out.old) (O.faults out.old) steps.old)
         (world files unread (O.written out.new) (O.faults out.new) steps.new) result }
 {

@@ -2,14 +2,15 @@
 use Rattle.std.specs.Prelude.{ℕ, ◌/◌, ◌&&◌, List, [], ◌∷◌, length, nat_eq, nat_le, nat_lt, Bool, if◌then◌else◌, Option, None, Some, option_and_then}
 use Rattle.std.specs.Str.{chars, is_utf8}
 use Rattle.strsim.specs.Edits.{levenshtein_row}
+use Rattle.fill_csv.specs.declared.near.TheConstants.{LONGEST}
 
 -- how many characters are put in, taken out or replaced on the shortest way from a word to a name (the distance of Levenshtein)
 abbrev pub edits : List ℕ → List ℕ → ℕ
 edits word name = levenshtein_row nat_eq (chars word) (chars name) (length (chars name))
 
--- a name of at most 100 bytes with at most half as many edits as the word has bytes
+-- a name that is not too long to be compared, with at most half as many edits as the word has bytes
 abbrev pub is_close : List ℕ → List ℕ → Bool
-is_close word name = nat_le (length name) 100 && nat_le (edits word name) (length word / 2)
+is_close word name = nat_le (length name) LONGEST && nat_le (edits word name) (length word / 2)
 
 abbrev pub if_close : List ℕ → List ℕ → Option (List ℕ)
 if_close word name = if is_close word name then Some name else None
@@ -31,6 +32,6 @@ abbrev pub near_from : List ℕ → Option (List ℕ) → List (List ℕ) → Op
 near_from word best [] = best
 near_from word best (name ∷ more) = near_from word (better word best (like word name)) more
 
--- of the names that are like a word of at most 100 bytes the nearest one, the first of several
+-- of the names that are like a word that is not too long to be compared the nearest one, the first of several
 abbrev pub near : List ℕ → List (List ℕ) → Option (List ℕ)
-near word names = if nat_le (length word) 100 then near_from word None names else None
+near word names = if nat_le (length word) LONGEST then near_from word None names else None

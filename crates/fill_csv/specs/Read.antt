@@ -24,7 +24,7 @@ use Rattle.fill_csv.specs.Pages.{PageData, page_of}
 use Rattle.fill_csv.specs.declared.desk.Desk.{Desk}
 use Rattle.fill_csv.specs.declared.fill.Filled.{Filled}
 use Rattle.fill_csv.specs.declared.saving.RuleFrame.{RuleFrame}
-use Rattle.fill_csv.specs.declared.opening.SheetRead.{SheetRead as Code}
+use Rattle.fill_csv.specs.declared.opening.SheetFile.{SheetFile as Code}
 
 -- the sheet of all rows of bytes in these columns
 abbrev pub sheet_in : Bool → List ℕ → Option ℕ → List ℕ → SheetData

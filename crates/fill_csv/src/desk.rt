@@ -11,7 +11,7 @@ ghost use Rattle.fill_csv.specs.Read.{AreParts, IsReady, page_data, read_data};
 use crate::columns::output_of;
 use crate::explain::Spoken;
 use crate::head;
-use crate::opening::{MOST_RECORDS, SheetRead};
+use crate::opening::{MOST_RECORDS, SheetFile};
 use crate::saving::{RuleFrame, saving_of};
 use fill_ask::{Topic, ask};
 use fill_columns::Choice;
@@ -84,7 +84,7 @@ pub(crate) struct Desk {
 
 impl Desk {
     /// The sheet that was read, for what the words ask.
-    pub(crate) fn of(alloc: Global, asked: &Asked, read: SheetRead) -> Result<Desk, NoMemory>
+    pub(crate) fn of(alloc: Global, asked: &Asked, read: SheetFile) -> Result<Desk, NoMemory>
         requires { AreParts (data_of asked.now) read }
         ensures page { IfOk result (λ desk. page_data desk ≡ page_of (data_of asked.now) (read_data (data_of asked.now) read)) }
         ensures ready { IfOk result IsReady }
@@ -94,7 +94,7 @@ impl Desk {
         let head = head::head_of(alloc, asked, &read, &form)?;
         let saving = saving_of(alloc, asked, &read)?;
         let spoken = Spoken::of(alloc, asked, &read)?;
-        let SheetRead {
+        let SheetFile {
             bytes,
             choice,
             typed,

@@ -2,7 +2,7 @@
 ghost use Rattle.std.specs.Prelude.{◌≤◌, length};
 
 use crate::desk::Doubts;
-use crate::opening::SheetRead;
+use crate::opening::SheetFile;
 use fill_blocks::Block;
 use fill_filled::Counts;
 use fill_prose::{Named, Names, program_text, put_quoted, rule_lines};
@@ -21,7 +21,7 @@ pub(crate) struct Spoken {
 
 impl Spoken {
     /// The names of a sheet and its tables.
-    pub(crate) fn of(alloc: Global, asked: &Asked, read: &SheetRead) -> Result<Spoken, NoMemory> {
+    pub(crate) fn of(alloc: Global, asked: &Asked, read: &SheetFile) -> Result<Spoken, NoMemory> {
         let mut columns = Vec::new(alloc);
         if let Some(header) = &read.header {
             for column in &read.choice.from {

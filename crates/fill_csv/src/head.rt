@@ -8,7 +8,7 @@ ghost use Rattle.fill_csv.specs.Ends.{form_of, head_of, heads_of, name_of, some_
 ghost use Rattle.fill_csv.specs.Opening.{mark_of};
 ghost use Rattle.fill_csv.specs.Read.{AreParts, read_data};
 
-use crate::opening::SheetRead;
+use crate::opening::SheetFile;
 use fill_filled::{Form, head_fields};
 use fill_records::Record;
 use fill_sheet::put_record;
@@ -20,7 +20,7 @@ use std::alloc::Global;
 const MARK: &[u8] = b"\xef\xbb\xbf";
 
 /// How answers are written into the records of a sheet.
-pub(crate) fn form_of(asked: &Asked, read: &SheetRead) -> Form
+pub(crate) fn form_of(asked: &Asked, read: &SheetFile) -> Form
     requires { AreParts (data_of asked.now) read.now }
     ensures form { result ≡ form_of (data_of asked.now) (read_data (data_of asked.now) read.now) }
     ensures column { 1 ≤ result.column }
@@ -49,7 +49,7 @@ fn states_of(states: bool, column: u32, width: usize) -> Option<usize>
 pub(crate) fn head_of(
     alloc: Global,
     asked: &Asked,
-    read: &SheetRead,
+    read: &SheetFile,
     form: &Form,
 ) -> Result<List<u8>, NoMemory>
     requires parts { AreParts (data_of asked.now) read.now }

@@ -8,7 +8,7 @@ use std::str;
 use strsim::levenshtein;
 
 /// The most bytes of a word and of a name that are compared.
-const LONGEST: usize = 100;
+pub const LONGEST: usize = 100;
 
 /// Of the names in a header that are like a word the nearest one, the first of several.
 #[tactic(auto, using(crate::proofs::Nears::near_more, crate::proofs::Nears::near_all))]
@@ -81,7 +81,7 @@ fn if_close<'a>(alloc: Global, word: &str, name: &'a str) -> Result<Option<&'a s
     }
 }
 
-/// Whether a name has at most 100 bytes, and at most half as many edits as the word has bytes.
+/// Whether a name is not too long to be compared, and has at most half as many edits as the word has bytes.
 fn is_close(alloc: Global, word: &str, name: &str) -> Result<bool, AllocError>
     ensures { IfOk result (λ is. is ≡ is_close word.now name.now) }
 {

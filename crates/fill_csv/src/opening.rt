@@ -34,7 +34,7 @@ pub(crate) const MOST_RECORDS: u32 = 16_777_216;
 
 /// A sheet that was read.
 #[derive(Drop)]
-pub(crate) struct SheetRead {
+pub(crate) struct SheetFile {
     /// The bytes of its file.
     pub bytes: List<u8>,
     /// The record that names the columns, where there is one.
@@ -54,7 +54,7 @@ pub(crate) fn open_sheet<C: Cabinet>(
     alloc: Global,
     cabinet: &mut C,
     asked: &Asked,
-) -> Result<SheetRead, Stop<Line>>
+) -> Result<SheetFile, Stop<Line>>
     requires { All IsLookup (map lookup_data asked.now.lookups.items) }
     ensures ready { IfOk result (λ read. Told (C.files cabinet.old) (λ held. (sheet_opens (data_of asked.now) held).outcome ≡ Passed (read_data (data_of asked.now) read))) }
     ensures parts { IfOk result (AreParts (data_of asked.now)) }
@@ -80,7 +80,7 @@ pub(crate) fn open_sheet<C: Cabinet>(
 }
 
 /// The sheet in the bytes of its file.
-fn sheet_in(alloc: Global, asked: &Asked, bytes: List<u8>) -> Result<SheetRead, Stop<Line>>
+fn sheet_in(alloc: Global, asked: &Asked, bytes: List<u8>) -> Result<SheetFile, Stop<Line>>
     ensures ready { IfOk result (λ read. sheet_in (data_of asked.now) bytes ≡ Passed (read_data (data_of asked.now) read)) }
     ensures parts { IfOk result (AreParts (data_of asked.now)) }
     ensures stopped { IfErr result (IsRefusedBy (sheet_in (data_of asked.now) bytes)) }
@@ -97,7 +97,7 @@ fn sheet_in(alloc: Global, asked: &Asked, bytes: List<u8>) -> Result<SheetRead, 
         Ok(typed) => typed,
         Err(stop) => return Err(stop),
     };
-    Ok(SheetRead {
+    Ok(SheetFile {
         bytes,
         header: seen.header,
         width: seen.width,

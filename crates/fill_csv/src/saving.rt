@@ -13,7 +13,7 @@ ghost use Rattle.fill_csv.specs.Read.{AreParts, frame_data, read_data};
 ghost use Rattle.fill_csv.specs.Saved.{IsSavedText, frame_of, lacks_rule, output_name, rule_with, saving_of, stored};
 
 use crate::columns::rising;
-use crate::opening::SheetRead;
+use crate::opening::SheetFile;
 use fill_blocks::Block;
 use fill_edge::Failed;
 use fill_files::Store;
@@ -41,7 +41,7 @@ pub(crate) struct RuleFrame {
 pub(crate) fn saving_of(
     alloc: Global,
     asked: &Asked,
-    read: &SheetRead,
+    read: &SheetFile,
 ) -> Result<Option<RuleFrame>, NoMemory>
     requires { AreParts (data_of asked.now) read.now }
     ensures { IfOk result (λ saving. option_map frame_data saving ≡ saving_of (data_of asked.now) (read_data (data_of asked.now) read.now)) }
@@ -53,7 +53,7 @@ pub(crate) fn saving_of(
 }
 
 /// The frame of the rule for a sheet.
-fn frame_of(alloc: Global, asked: &Asked, read: &SheetRead) -> Result<RuleFrame, NoMemory>
+fn frame_of(alloc: Global, asked: &Asked, read: &SheetFile) -> Result<RuleFrame, NoMemory>
     requires { AreParts (data_of asked.now) read.now }
     ensures { IfOk result (λ frame. frame_data frame ≡ frame_of (data_of asked.now) (read_data (data_of asked.now) read.now)) }
 {

@@ -1,5 +1,5 @@
 -- What walks spell is what the programs of a graph answer.
-use Rattle.std.proofs.Common.{◌≡◌, ◌↔◌, ℕ, ◌-◌, List, [], ◌∷◌, Option, Some, slice_get, refl, sym, subst}
+use Rattle.std.proofs.Common.{◌≡◌, ◌↔◌, ℕ, ◌-◌, List, [], ◌∷◌, Option, Some, refl, sym, subst}
 use Rattle.fill_text.specs.Data.{SheetData, TableData}
 use Rattle.fill_tables.specs.Keys.{KeysDistinguish}
 use Rattle.fill_tree.specs.Tree.{Atoms, end, more}

@@ -15,11 +15,11 @@ use Rattle.fill_tree.specs.declared.guard.Literal.{Literal}
 use Rattle.fill_tree.specs.declared.guard.Guard.{Guard}
 use Rattle.fill_tree.specs.declared.user.Settings.{Settings}
 use Rattle.fill_guard.specs.Read.{HoldsOn}
-use Rattle.fill_guard.specs.Kept.{IsSetOf, StandsFor, NotAfter}
-use Rattle.fill_guard.specs.Least.{AreKept, NoneAlone, IsFirstAlone, AreApart, NonePartner, NonePair, IsFirstPair}
-use Rattle.fill_guard.specs.declared.kept.Kept.{Kept}
+use Rattle.fill_guard.specs.Candidate.{IsSetOf, StandsFor, NotAfter}
+use Rattle.fill_guard.specs.Least.{AreCandidates, NoneAlone, IsFirstAlone, AreApart, NonePartner, NonePair, IsFirstPair}
+use Rattle.fill_guard.specs.declared.candidates.Candidate.{Candidate}
 use Rattle.fill_guard.proofs.GuardOrder.{literal_total, exact_literals}
-use Rattle.fill_guard.proofs.KeptLaws.{never_less}
+use Rattle.fill_guard.proofs.CandidateLaws.{never_less}
 use Rattle.fill_guard.proofs.MaskLaws.{mask_zero, zero_mask, mask_apart, apart_mask, common_zero}
 
 abbrev Before : Literal → Literal → Type 0
@@ -42,20 +42,20 @@ one_guard a = record { first = a; second = None }
 abbrev two_guard : Literal → Literal → Guard
 two_guard a b = record { first = a; second = Some b }
 
-module _ (settings : Settings) (sheet : SheetData) (inside outside : List ℕ) (ks : List Kept) (are : AreKept settings sheet inside outside ks) where
+module _ (settings : Settings) (sheet : SheetData) (inside outside : List ℕ) (ks : List Candidate) (are : AreCandidates settings sheet inside outside ks) where
   -- what is known of the one at a place
-  known : (i : ℕ) (k : Kept) → slice_get ks i ≡ Some k → IsLiteral settings sheet k.literal × HoldsOn sheet inside k.literal × IsSetOf sheet outside k.literal k.outside
-  known i k at = are.each k (contains_read ks i k at)
+  fact_at : (i : ℕ) (k : Candidate) → slice_get ks i ≡ Some k → IsLiteral settings sheet k.literal × HoldsOn sheet inside k.literal × IsSetOf sheet outside k.literal k.outside
+  fact_at i k at = are.each k (contains_read ks i k at)
 
-  rises : (i j : ℕ) (a b : Kept) → i < j → slice_get ks i ≡ Some a → slice_get ks j ≡ Some b → Before a.literal b.literal
+  rises : (i j : ℕ) (a b : Candidate) → i < j → slice_get ks i ≡ Some a → slice_get ks j ≡ Some b → Before a.literal b.literal
   rises i j a b lt at at2 =
-      subst (λ (z : Kept). literal_cmp z.literal b.literal ≡ Less) (get_or_from_slice_get ks i a a at)
-      (subst (λ (z : Kept). literal_cmp (get_or ks i a).literal z.literal ≡ Less) (get_or_from_slice_get ks j b a at2) (are.rising i j a lt (slice_get_within ks j b at2)))
+      subst (λ (z : Candidate). literal_cmp z.literal b.literal ≡ Less) (get_or_from_slice_get ks i a a at)
+      (subst (λ (z : Candidate). literal_cmp (get_or ks i a).literal z.literal ≡ Less) (get_or_from_slice_get ks j b a at2) (are.rising i j a lt (slice_get_within ks j b at2)))
 
   -- what is before the one at an earlier place is before the one at a later place
-  before_later : (i j : ℕ) (a b : Kept) → i ≤ j → slice_get ks i ≡ Some a → slice_get ks j ≡ Some b → (l : Literal) → Before l a.literal → Before l b.literal
+  before_later : (i j : ℕ) (a b : Candidate) → i ≤ j → slice_get ks i ≡ Some a → slice_get ks j ≡ Some b → (l : Literal) → Before l a.literal → Before l b.literal
   before_later i j a b le at at2 l before = elim (cases_order i j) [
-    | inl e ↦ (let same : a ≡ b = same_Some a b (sym at ∙ ap (slice_get ks) e ∙ at2) in subst (λ (z : Kept). Before l z.literal) same before)
+    | inl e ↦ (let same : a ≡ b = same_Some a b (sym at ∙ ap (slice_get ks) e ∙ at2) in subst (λ (z : Candidate). Before l z.literal) same before)
     | inr o ↦ elim o [
       | inl lt ↦ literal_total.trans l a.literal b.literal before (rises i j a b lt at at2)
       | inr gt ↦ absurd (omega arith)
@@ -63,7 +63,7 @@ module _ (settings : Settings) (sheet : SheetData) (inside outside : List ℕ) (
   ]
 
   -- the one that is kept for a literal
-  kept_for : (l : Literal) → IsLiteral settings sheet l → HoldsOn sheet inside l → (i : ℕ) × (k : Kept) × (slice_get ks i ≡ Some k) × StandsFor sheet outside l k × NotAfter k.literal l
+  kept_for : (l : Literal) → IsLiteral settings sheet l → HoldsOn sheet inside l → (i : ℕ) × (k : Candidate) × (slice_get ks i ≡ Some k) × StandsFor sheet outside l k × NotAfter k.literal l
   kept_for l is holds =
       let f = are.full l is holds in
       elim f.2 [
@@ -73,7 +73,7 @@ module _ (settings : Settings) (sheet : SheetData) (inside outside : List ℕ) (
 
   -- .. where none makes a guard alone
   set_for : NoneAlone ks (length ks) → (l : Literal) → IsLiteral settings sheet l → HoldsOn sheet inside l →
-      (i : ℕ) × (k : Kept) × (slice_get ks i ≡ Some k) × IsSetOf sheet outside l k.outside × NotAfter k.literal l
+      (i : ℕ) × (k : Candidate) × (slice_get ks i ≡ Some k) × IsSetOf sheet outside l k.outside × NotAfter k.literal l
   set_for alone l is holds =
       let f = kept_for l is holds in
       elim f.3 [
@@ -89,7 +89,7 @@ module _ (settings : Settings) (sheet : SheetData) (inside outside : List ℕ) (
     one_fails : All (λ row. ¬ (LiteralHolds sheet row l)) outside
     one_fails k d lt h = s.fails k d lt (h, tt)
 
-    one_kept : (i : ℕ) × (k : Kept) × (slice_get ks i ≡ Some k) × (k.outside ≡ 0) × NotAfter k.literal l
+    one_kept : (i : ℕ) × (k : Candidate) × (slice_get ks i ≡ Some k) × (k.outside ≡ 0) × NotAfter k.literal l
     one_kept =
         let f = kept_for l s.is.0 one_holds in
         let empty : f.1.outside ≡ 0 = elim f.3 [ inl is ↦ zero_mask (λ row. LiteralHolds sheet row l) outside f.1.outside is one_fails | inr none ↦ none ] in
@@ -106,7 +106,7 @@ module _ (settings : Settings) (sheet : SheetData) (inside outside : List ℕ) (
     not_both k d lt h = s.fails k d lt h
 
     -- two that are kept and apart: the first one is before the guard's first literal, or neither is after the guard's
-    two_kept : NoneAlone ks (length ks) → (i j : ℕ) × (a b : Kept) × (i < j) × (slice_get ks i ≡ Some a) × (slice_get ks j ≡ Some b) × (bit_and a.outside b.outside ≡ 0)
+    two_kept : NoneAlone ks (length ks) → (i j : ℕ) × (a b : Candidate) × (i < j) × (slice_get ks i ≡ Some a) × (slice_get ks j ≡ Some b) × (bit_and a.outside b.outside ≡ 0)
         × (Before a.literal l ⊎ (NotAfter a.literal l × NotAfter b.literal m))
     two_kept alone =
         let f = set_for alone l s.is.0 first_holds in
@@ -114,7 +114,7 @@ module _ (settings : Settings) (sheet : SheetData) (inside outside : List ℕ) (
         elim (cases_order f.0 g.0) [
           | inl e ↦
               (let same : g.1 ≡ f.1 = same_Some g.1 f.1 (sym g.2 ∙ ap (slice_get ks) (sym e) ∙ f.2) in
-              let set : IsSetOf sheet outside m f.1.outside = subst (λ (z : Kept). IsSetOf sheet outside m z.outside) same g.3 in
+              let set : IsSetOf sheet outside m f.1.outside = subst (λ (z : Candidate). IsSetOf sheet outside m z.outside) same g.3 in
               absurd (alone f.0 f.1 (slice_get_within ks f.0 f.1 f.2) f.2
               (common_zero (λ row. LiteralHolds sheet row l) (λ row. LiteralHolds sheet row m) outside f.1.outside f.3 set not_both)))
           | inr o ↦ elim o [
@@ -161,11 +161,11 @@ module _ (settings : Settings) (sheet : SheetData) (inside outside : List ℕ) (
   pub alone_least : (l : Literal) → IsFirstAlone ks l → IsLeastGuard settings sheet inside outside (one_guard l)
   alone_least l first = subst (λ z. IsLeastGuard settings sheet inside outside (one_guard z)) first.4 (record { separates = separates; least = λ h s less. least h.first h.second s less })
     where
-      k : Kept
+      k : Candidate
       k = first.1
 
       facts : IsLiteral settings sheet k.literal × HoldsOn sheet inside k.literal × IsSetOf sheet outside k.literal k.outside
-      facts = known first.0 k first.2
+      facts = fact_at first.0 k first.2
 
       nowhere : All (λ row. ¬ (LiteralHolds sheet row k.literal)) outside
       nowhere = mask_zero (λ row. LiteralHolds sheet row k.literal) outside (subst (IsSetOf sheet outside k.literal) first.3 facts.2)
@@ -187,13 +187,13 @@ module _ (settings : Settings) (sheet : SheetData) (inside outside : List ℕ) (
 
   -- the first two that hold together on no row outside
   module _ (alone : NoneAlone ks (length ks)) where
-    module _ (i j : ℕ) (a b : Kept) (lt : i < j) (at : slice_get ks i ≡ Some a) (at2 : slice_get ks j ≡ Some b) (apart : bit_and a.outside b.outside ≡ 0) (none : NonePair ks i)
+    module _ (i j : ℕ) (a b : Candidate) (lt : i < j) (at : slice_get ks i ≡ Some a) (at2 : slice_get ks j ≡ Some b) (apart : bit_and a.outside b.outside ≡ 0) (none : NonePair ks i)
         (partner : NonePartner ks i j) where
       first : IsLiteral settings sheet a.literal × HoldsOn sheet inside a.literal × IsSetOf sheet outside a.literal a.outside
-      first = known i a at
+      first = fact_at i a at
 
       second : IsLiteral settings sheet b.literal × HoldsOn sheet inside b.literal × IsSetOf sheet outside b.literal b.outside
-      second = known j b at2
+      second = fact_at j b at2
 
       separates : Separates settings sheet inside outside (two_guard a.literal b.literal)
       separates = record {
@@ -208,7 +208,7 @@ module _ (settings : Settings) (sheet : SheetData) (inside outside : List ℕ) (
       crossed c f X before (inr not) = not.0 before
 
       module _ (f m : Literal) (s : Separates settings sheet inside outside (two_guard f m)) where
-        p : (u v : ℕ) × (c d : Kept) × (u < v) × (slice_get ks u ≡ Some c) × (slice_get ks v ≡ Some d) × (bit_and c.outside d.outside ≡ 0)
+        p : (u v : ℕ) × (c d : Candidate) × (u < v) × (slice_get ks u ≡ Some c) × (slice_get ks v ≡ Some d) × (bit_and c.outside d.outside ≡ 0)
             × (Before c.literal f ⊎ (NotAfter c.literal f × NotAfter d.literal m))
         p = two_kept f m s alone
 
@@ -224,7 +224,7 @@ module _ (settings : Settings) (sheet : SheetData) (inside outside : List ℕ) (
         second_earlier : p.0 ≡ i → f ≡ a.literal → Before m b.literal → ⊥
         second_earlier e same before =
             let here : p.2 ≡ a = same_Some p.2 a (sym p.5 ∙ ap (slice_get ks) e ∙ at) in
-            let equal : p.2.literal ≡ f = ap (λ (z : Kept). z.literal) here ∙ sym same in
+            let equal : p.2.literal ≡ f = ap (λ (z : Candidate). z.literal) here ∙ sym same in
             elim (cases_lt p.1 j) [
               | inl less ↦ partner p.1 (let w = p.4 in omega arith) less (subst (λ z. AreApart ks z p.1) e are_apart)
               | inr ge ↦ elim p.8 [
@@ -276,7 +276,7 @@ module _ (settings : Settings) (sheet : SheetData) (inside outside : List ℕ) (
     least_of_pair (Some g) h = first_pair_least g h
 
 -- none of the first i has a partner, nor has the next one
-pub pair_more : (ks : List Kept) (i : ℕ) → NonePair ks i → NonePartner ks i (length ks) → NonePair ks (i + 1)
+pub pair_more : (ks : List Candidate) (i : ℕ) → NonePair ks i → NonePartner ks i (length ks) → NonePair ks (i + 1)
 pair_more ks i none here j lt = elim (cases_order j i) [
   | inl e ↦ subst (λ z. NonePartner ks z (length ks)) (sym e) here
   | inr o ↦ elim o [ inl less ↦ none j less | inr more ↦ absurd (omega arith) ]

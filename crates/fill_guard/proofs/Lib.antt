@@ -1,5 +1,5 @@
 pub mod GuardOrder
-pub mod KeptLaws
+pub mod CandidateLaws
 pub mod LeastLaws
 pub mod MaskLaws
 pub mod MatchLaws

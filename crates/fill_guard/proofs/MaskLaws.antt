@@ -9,7 +9,7 @@ use Rattle.std.proofs.lemmas.Nat.Bits.{bit_at-zero, bit_at-lt, bit_at_and, same_
 use Rattle.std.proofs.lemmas.List.Elements.{All-cons, All-head, All-tail}
 use Rattle.std.proofs.lemmas.List.{take_more, length-take}
 use Rattle.std.proofs.lemmas.Slice.Zip.{AllZip-long, all_zipped_more}
-use Rattle.fill_guard.specs.Kept.{IsMask}
+use Rattle.fill_guard.specs.Candidate.{IsMask}
 
 not_set : (b : ℕ) → b < 2 → (b ≡ 1 → ⊥) → b ≡ 0
 not_set zero small h = refl

@@ -1,4 +1,4 @@
-pub mod Kept
+pub mod Candidate
 pub mod Least
 pub mod Listed
 pub mod Matches

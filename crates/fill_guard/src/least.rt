@@ -6,43 +6,43 @@ ghost use Rattle.fill_tree.specs.Separate.{Separates, IsLeastGuard};
 ghost use Rattle.fill_tree.specs.declared.user.Settings.{Settings};
 ghost use Rattle.fill_tree.specs.declared.guard.Guard.{Guard};
 ghost use Rattle.fill_guard.specs.Read.{IsRowOf};
-ghost use Rattle.fill_guard.specs.Least.{AreKept, AreApart, NoneAlone, IsFirstAlone, NonePartner, IsPartner, NonePair, IsFirstPair};
+ghost use Rattle.fill_guard.specs.Least.{AreCandidates, AreApart, NoneAlone, IsFirstAlone, NonePartner, IsPartner, NonePair, IsFirstPair};
 
-use crate::kept::{Kept, kept_literals};
+use crate::candidates::{Candidate, candidate_literals};
 use fill_sheet::Sheet;
 use fill_text::NoMemory;
-use fill_tree::{Guard, Literal, Settings};
+use fill_tree::{Guard, Literal, MOST_EXAMPLES, Settings};
 use std::alloc::Global;
 
 /// The first literal that holds on no row outside.
-fn first_alone(kept: &[Kept]) -> Option<Literal>
-    ensures { MatchOption result (NoneAlone kept.now (length kept.now)) (IsFirstAlone kept.now) }
+fn first_alone(candidates: &[Candidate]) -> Option<Literal>
+    ensures { MatchOption result (NoneAlone candidates.now (length candidates.now)) (IsFirstAlone candidates.now) }
 {
-    for i in 0..kept.len() {
-        if kept[i].outside == 0 {
-            return Some(kept[i].literal);
+    for i in 0..candidates.len() {
+        if candidates[i].outside == 0 {
+            return Some(candidates[i].literal);
         }
     }
     None
 }
 
 /// Whether the two literals hold together on no row outside.
-fn are_apart(kept: &[Kept], i: usize, j: usize) -> bool
-    requires first { i < length kept.now }
-    requires second { j < length kept.now }
-    ensures { IsTrue result ↔ AreApart kept.now i j }
+fn are_apart(candidates: &[Candidate], i: usize, j: usize) -> bool
+    requires first { i < length candidates.now }
+    requires second { j < length candidates.now }
+    ensures { IsTrue result ↔ AreApart candidates.now i j }
 {
-    kept[i].outside & kept[j].outside == 0
+    candidates[i].outside & candidates[j].outside == 0
 }
 
 /// The place of the first later literal that the one at the place is apart from.
-fn partner(kept: &[Kept], i: usize) -> Option<usize>
-    requires { i < length kept.now }
-    ensures { MatchOption result (NonePartner kept.now i (length kept.now))
-        (λ j. (j < length kept.now) × IsPartner kept.now i j) }
+fn partner(candidates: &[Candidate], i: usize) -> Option<usize>
+    requires { i < length candidates.now }
+    ensures { MatchOption result (NonePartner candidates.now i (length candidates.now))
+        (λ j. (j < length candidates.now) × IsPartner candidates.now i j) }
 {
-    for j in i + 1..kept.len() {
-        if are_apart(kept, i, j) {
+    for j in i + 1..candidates.len() {
+        if are_apart(candidates, i, j) {
             return Some(j);
         }
     }
@@ -50,14 +50,14 @@ fn partner(kept: &[Kept], i: usize) -> Option<usize>
 }
 
 /// The first two literals that hold together on no row outside.
-fn first_pair(kept: &[Kept]) -> Option<Guard>
-    ensures { MatchOption result (NonePair kept.now (length kept.now)) (IsFirstPair kept.now) }
+fn first_pair(candidates: &[Candidate]) -> Option<Guard>
+    ensures { MatchOption result (NonePair candidates.now (length candidates.now)) (IsFirstPair candidates.now) }
 {
-    for i in 0..kept.len() {
-        if let Some(j) = partner(kept, i) {
+    for i in 0..candidates.len() {
+        if let Some(j) = partner(candidates, i) {
             return Some(Guard {
-                first: kept[i].literal,
-                second: Some(kept[j].literal),
+                first: candidates[i].literal,
+                second: Some(candidates[j].literal),
             });
         }
     }
@@ -65,16 +65,16 @@ fn first_pair(kept: &[Kept]) -> Option<Guard>
 }
 
 /// The least guard of the literals.
-fn least(kept: &[Kept]) -> Option<Guard>
-    ensures { (settings : Settings) (sheet : SheetData) (inside outside : List ℕ) → AreKept settings sheet inside outside kept.now →
+fn least(candidates: &[Candidate]) -> Option<Guard>
+    ensures { (settings : Settings) (sheet : SheetData) (inside outside : List ℕ) → AreCandidates settings sheet inside outside candidates.now →
         MatchOption result ((g : Guard) → ¬ (Separates settings sheet inside outside g)) (IsLeastGuard settings sheet inside outside) }
 {
-    match first_alone(kept) {
+    match first_alone(candidates) {
         Some(first) => Some(Guard {
             first,
             second: None,
         }),
-        None => first_pair(kept),
+        None => first_pair(candidates),
     }
 }
 
@@ -88,13 +88,13 @@ pub fn guard(
     settings: &Settings,
 ) -> Result<Option<Guard>, NoMemory>
     requires settings { AreSettings settings.now }
-    requires few { length outside.now ≤ 64 }
+    requires few { length outside.now ≤ MOST_EXAMPLES }
     requires inside { All (IsRowOf sheet.now) inside.now }
     requires outside { All (IsRowOf sheet.now) outside.now }
     ensures { IfOk result (λ made. MatchOption made
         ((g : Guard) → ¬ (Separates settings.now sheet.now inside.now outside.now g))
         (IsLeastGuard settings.now sheet.now inside.now outside.now)) }
 {
-    let kept = kept_literals(alloc, sheet, inside, outside, settings)?;
-    Ok(least(&kept))
+    let candidates = candidate_literals(alloc, sheet, inside, outside, settings)?;
+    Ok(least(&candidates))
 }

@@ -12,7 +12,7 @@
 //! After a literal that makes a guard alone nothing more is read or counted.
 #![tactic(auto)]
 
-mod kept;
+mod candidates;
 pub mod laws;
 mod least;
 mod mask;

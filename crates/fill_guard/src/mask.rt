@@ -1,9 +1,9 @@
 //! On which cells a literal holds, by the counts of matches of its sequence in them.
 ghost use Rattle.std.specs.Prelude.{◌≤◌, ◌↔◌, length, All, IsTrue};
 ghost use Rattle.fill_guard.specs.Read.{Passes};
-ghost use Rattle.fill_guard.specs.Kept.{IsMask};
+ghost use Rattle.fill_guard.specs.Candidate.{IsMask};
 
-use fill_tree::Literal;
+use fill_tree::{Literal, MOST_EXAMPLES};
 
 /// Whether the literal holds on a cell with `count` matches.
 fn passes(l: &Literal, count: usize) -> bool
@@ -26,7 +26,7 @@ pub fn passes_all(l: &Literal, counts: &[usize]) -> bool
 
 /// The cells on which the literal holds, as the bits of a number.
 pub fn mask(l: &Literal, counts: &[usize]) -> u64
-    requires { length counts.now ≤ 64 }
+    requires { length counts.now ≤ MOST_EXAMPLES }
     ensures { IsMask (Passes l.now) counts.now result }
 {
     let mut mask = 0;

@@ -71,21 +71,21 @@ fn push_keys(
     requires narrow { column_count tables.now ranked.now.table ≤ 32 }
     requires some { 1 ≤ size }
     requires few { size ≤ 3 }
-    requires begun { IsPrefix (column_count tables.now ranked.now.table) size columns.old.items }
+    requires prefix { IsPrefix (column_count tables.now ranked.now.table) size columns.old.items }
     requires next { IsNext columns.old.items next }
     requires small { next ≤ 33 }
     requires smaller { AreSmaller tables.now ranked.now.table size keys.old }
-    ensures kept { OnOk result (columns.new.items ≡ columns.old.items) }
+    ensures same_columns { OnOk result (columns.new.items ≡ columns.old.items) }
     ensures added { OnOk result (Adds keys_cmp keys.old keys.new (BeginsMinimalKey tables.now ranked.now.table size columns.old.items)) }
 {
-    let begun = columns.len();
-    if begun == size {
+    let long_before = columns.len();
+    if long_before == size {
         return push_key(*columns.allocator(), tables, ranked, columns, keys);
     }
     for column in next..tables.width(ranked.table) + 1 {
         columns.push(column)?;
         push_keys(tables, ranked, size, columns, column + 1, keys)?;
-        columns.truncate(begun);
+        columns.truncate(long_before);
     }
     Ok(())
 }

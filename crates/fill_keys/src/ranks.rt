@@ -53,9 +53,9 @@ impl RankedTable {
         requires within { All (λ column. (1 ≤ column) × (column ≤ length self.now.columns.items)) columns.now }
         ensures { (tables : Items TableData) → IsRanked tables self.now → IfOk result (λ key. IsTrue key ↔ DistinguishRows tables self.now.table columns.now) }
     {
-        let mut met = HashSet::with_capacity(alloc, self.rows)?;
+        let mut numbers_so_far = HashSet::with_capacity(alloc, self.rows)?;
         for row in 0..self.rows {
-            if !put(&mut met, self.number(columns, row))? {
+            if !put(&mut numbers_so_far, self.number(columns, row))? {
                 return Ok(false);
             }
         }
@@ -113,11 +113,11 @@ fn ranks_of(alloc: Global, tables: &Tables, table: u32, column: u32) -> Result<L
 }
 
 /// Puts a number to those that were met, and tells whether it is a new one.
-fn put(met: &mut HashSet<u64>, number: u64) -> Result<bool, NoMemory>
-    ensures told { IfOk result (λ added. added ≡ not (contains nat_eq met.old number)) }
-    ensures updates { OnOk result (Updates nat_eq met.old met.new number true) }
+fn put(numbers_so_far: &mut HashSet<u64>, number: u64) -> Result<bool, NoMemory>
+    ensures told { IfOk result (λ added. added ≡ not (contains nat_eq numbers_so_far.old number)) }
+    ensures updates { OnOk result (Updates nat_eq numbers_so_far.old numbers_so_far.new number true) }
 {
-    match met.insert(number) {
+    match numbers_so_far.insert(number) {
         Ok(added) => Ok(added),
         Err(_) => Err(NoMemory),
     }

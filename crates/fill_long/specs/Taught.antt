@@ -3,6 +3,7 @@ use Rattle.std.specs.Prelude.{◌≡◌, ◌≢◌, ◌≤◌, ℕ, List, [], �
 use Rattle.fill_text.specs.Data.{TableData}
 use Rattle.fill_tree.specs.declared.user.Edit.TheVariants.{Add}
 use Rattle.fill_tree.specs.declared.user.Example.{Example}
+use Rattle.fill_tree.specs.declared.user.TheConstants.{MOST_EXAMPLES}
 use Rattle.fill_space.specs.declared.ground.Ground.{Ground}
 use Rattle.fill_session.specs.Edits.{rows_of as example_rows}
 use Rattle.fill_session.specs.Outcome.{Answers}
@@ -38,7 +39,7 @@ tables_of (basis.Block block) = block.session.spaces.ground.tables
 pub record IsKept (s : LongSheet) (kept : List Numbered) (examples : List Example) : Type 0 where
   pub rows : AreRows s kept
   pub numbers : numbers_of kept ≡ example_rows examples
-  pub few : length kept ≤ 64
+  pub few : length kept ≤ MOST_EXAMPLES
 
 -- a block has these examples over the long sheet; tables alone have none
 abbrev pub HasLearned : LongSheet → List Example → Basis → Type 0
@@ -55,7 +56,7 @@ pub record IsTaught (s : LongSheet) (learned : Learned) (b : Basis) : Type 0 whe
 pub record IsInStep (s : LongSheet) (kept : List Numbered) (block : BlockData) : Type 0 where
   pub stands : StandsFor (ground_with s block) block (examples_of block)
   pub numbers : numbers_of kept ≡ example_rows (examples_of block)
-  pub few : length kept ≤ 64
+  pub few : length kept ≤ MOST_EXAMPLES
 
 -- what an addition was answered, over each sheet of which the block has rows
 abbrev pub Told : BlockData → BlockData → ℕ → List ℕ → Result ⊤ EditError → Type 0

@@ -125,10 +125,10 @@ fn write_rows<O: Sink>(
     requires stands { StandsFor (ground_with sheet.now block.now) block.now (examples_of block.now) }
     requires here { All (λ it. Contains block.now.numbers it.number) rows.items }
     requires rows { All (IsRow sheet.now) rows.items }
-    requires few { length written.old.shown.items ≤ 1000 }
+    requires few { length written.old.shown.items ≤ MOST_SHOWN }
     ensures states { OnOk result (TellsOf sheet.now block.now (numbers_of rows.items) written.old.summary.unsure written.new.summary.unsure) }
     ensures shown { OnOk result (AreOf written.new.shown.items (written.old.shown.items ++ rows.items)) }
-    ensures few { OnOk result (length written.new.shown.items ≤ 1000) }
+    ensures few { OnOk result (length written.new.shown.items ≤ MOST_SHOWN) }
     ensures whole { OnOk result (WritesOf sheet.now block.now (numbers_of rows.items) (O.written out.old) (O.written out.new)) }
     ensures part { IsErrOf result Halt.Fault → ((n : ℕ) × (n ≤ length rows.items) × WritesPartOf sheet.now block.now (take n (numbers_of rows.items)) (O.written out.old) (O.written out.new)) }
     ensures fault { IsErrOf result Halt.Fault → Rose (O.faults out.old) (O.faults out.new) }
@@ -180,10 +180,10 @@ fn write_row<O: Sink>(
 impl Written {
     /// Notes the state of a row's cell, and keeps the row where it is to be told of.
     fn note(&mut self, row: Numbered, state: RowState) -> Result<(), NoMemory>
-        requires { length self.old.shown.items ≤ 1000 }
+        requires { length self.old.shown.items ≤ MOST_SHOWN }
         ensures unsure { OnOk result (self.new.summary.unsure ≡ (self.old.summary.unsure || is_unsure state)) }
         ensures shown { OnOk result ((self.new.shown.items ≡ self.old.shown.items) ⊎ (self.new.shown.items ≡ self.old.shown.items ++ row ∷ [])) }
-        ensures few { OnOk result (length self.new.shown.items ≤ 1000) }
+        ensures few { OnOk result (length self.new.shown.items ≤ MOST_SHOWN) }
     {
         self.summary.add(row.number, state);
         if is_shown(state) && self.shown.len() < MOST_SHOWN {

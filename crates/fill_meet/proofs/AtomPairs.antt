@@ -27,18 +27,18 @@ pub const_apart : (c : List Entry) (u v : List ℕ) → (u ≡ v → ⊥) → Ar
 const_apart c u v n = λ d o a p q. n (const_none d u v a p q)
 
 -- of the same kind
-abbrev AreAlike : AtomItem → AtomItem → Type 0
-AreAlike (Const u) (Const v) = Unit {0}
-AreAlike (Const u) (Whole t) = ⊥
-AreAlike (Const u) (Sub t v w) = ⊥
-AreAlike (Whole s) (Const v) = ⊥
-AreAlike (Whole s) (Whole t) = Unit {0}
-AreAlike (Whole s) (Sub t v w) = ⊥
-AreAlike (Sub s p q) (Const v) = ⊥
-AreAlike (Sub s p q) (Whole t) = ⊥
-AreAlike (Sub s p q) (Sub t v w) = Unit {0}
+abbrev AreAtomsAlike : AtomItem → AtomItem → Type 0
+AreAtomsAlike (Const u) (Const v) = Unit {0}
+AreAtomsAlike (Const u) (Whole t) = ⊥
+AreAtomsAlike (Const u) (Sub t v w) = ⊥
+AreAtomsAlike (Whole s) (Const v) = ⊥
+AreAtomsAlike (Whole s) (Whole t) = Unit {0}
+AreAtomsAlike (Whole s) (Sub t v w) = ⊥
+AreAtomsAlike (Sub s p q) (Const v) = ⊥
+AreAtomsAlike (Sub s p q) (Whole t) = ⊥
+AreAtomsAlike (Sub s p q) (Sub t v w) = Unit {0}
 
-alike : (d : List Entry) (a : AtomTree) (x y : AtomItem) → AtomIn d x a → AtomIn d y a → AreAlike x y
+alike : (d : List Entry) (a : AtomTree) (x y : AtomItem) → AtomIn d x a → AtomIn d y a → AreAtomsAlike x y
 alike d (constant t) (Const u) (Const v) f g = tt
 alike d (constant t) (Const u) (Whole s) f g = g
 alike d (constant t) (Const u) (Sub s p q) f g = g
@@ -55,7 +55,7 @@ alike d (sub x l r) (Sub s p q) (Const u) f g = g
 alike d (sub x l r) (Sub s p q) (Whole t) f g = g
 alike d (sub x l r) (Sub s p q) (Sub t u v) f g = tt
 
-kinds_apart : (c : List Entry) (x y : AtomItem) → (AreAlike x y → ⊥) → AreApart AtomIn c x y
+kinds_apart : (c : List Entry) (x y : AtomItem) → (AreAtomsAlike x y → ⊥) → AreApart AtomIn c x y
 kinds_apart c x y n = λ d o a f g. n (alike d a x y f g)
 
 pub not_const : (c : List Entry) (x y : AtomItem) (u : List ℕ) → x ≡ Const u → ((v : List ℕ) → y ≡ Const v → ⊥) → AreApart AtomIn c x y

@@ -9,26 +9,26 @@ use Rattle.fill_meet.specs.declared.runs.Run.{Run}
 use Rattle.fill_meet.proofs.Lists.{length_pushed}
 
 pub grows_same : {A : Type 0} (xs : List A) → Grows xs xs
-grows_same xs = record { kept = λ k x h. h; long = omega arith }
+grows_same xs = record { extends = λ k x h. h; long = omega arith }
 
 pub grows_on : {A : Type 0} (xs ys zs : List A) → Grows xs ys → Grows ys zs → Grows xs zs
-grows_on xs ys zs f g = record { kept = λ k x h. g.kept k x (f.kept k x h); long = (let a = f.long in let b = g.long in omega arith) }
+grows_on xs ys zs f g = record { extends = λ k x h. g.extends k x (f.extends k x h); long = (let a = f.long in let b = g.long in omega arith) }
 
 pub grows_pushed : {A : Type 0} (xs : List A) (x : A) → Grows xs (xs ++ x ∷ [])
 grows_pushed xs x =
     record {
-      kept = λ k y h. get_left xs (x ∷ []) k (slice_get_within xs k y h) ∙ h;
+      extends = λ k y h. get_left xs (x ∷ []) k (slice_get_within xs k y h) ∙ h;
       long = (let n = length_pushed xs (xs ++ x ∷ []) x (length xs) refl refl in omega arith);
     }
 
 pub from_grown : (xs ys : List ℕ) (start n : ℕ) → Grows xs ys → HasFrom xs start n → HasFrom ys start n
-from_grown xs ys start n g h = record { place = h.place; past = h.past; here = g.kept h.place n h.here }
+from_grown xs ys start n g h = record { place = h.place; past = h.past; here = g.extends h.place n h.here }
 
 pub from_pushed : (xs : List ℕ) (start n : ℕ) → start ≤ length xs → HasFrom (xs ++ n ∷ []) start n
 from_pushed xs start n le = record { place = length xs; past = le; here = get_last xs n }
 
 pub in_grown : (xs ys : List ℕ) (run : Run) (n : ℕ) → Grows xs ys → HasIn xs run n → HasIn ys run n
-in_grown xs ys run n g h = record { place = h.place; past = h.past; before = h.before; here = g.kept h.place n h.here }
+in_grown xs ys run n g h = record { place = h.place; past = h.past; before = h.before; here = g.extends h.place n h.here }
 
 -- a number from the start on is in the run up to the end
 pub in_run : (xs : List ℕ) (run : Run) (start n : ℕ) → run.start ≡ start → run.end ≡ length xs → HasFrom xs start n → HasIn xs run n
@@ -61,4 +61,4 @@ has_or_not (m ∷ rest) (suc start) n = elim (has_or_not rest start n) [
 ]
 
 pub some_grown : {A : Type 0} (P : A → Type 0) (xs ys : List A) → Grows xs ys → SomeIn P xs → SomeIn P ys
-some_grown P xs ys g h = (h.0, (h.1.0, g.kept h.1.0 h.0 h.1.1), h.2)
+some_grown P xs ys g h = (h.0, (h.1.0, g.extends h.1.0 h.0 h.1.1), h.2)

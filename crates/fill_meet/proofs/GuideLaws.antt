@@ -147,10 +147,10 @@ module _ (c : List Entry) (k : Task) (hash e : ℕ) (z : Item) (hz : slice_get k
 -- a guide stays one as the arena grows
 module _ (c d : List Entry) (o : Extends c d) where
   holders_stay : (sets : List ℕ) (list : List Holder) → EachIn (IsPlaceSet c) sets → AreHolders c sets list → AreHolders d sets list
-  holders_stay sets list known are =
+  holders_stay sets list atom_sets are =
       record {
         each = λ n s p hn stands.
-            (let set = known n s hn in
+            (let set = atom_sets n s hn in
             let both : Some (kind.Places set.0) ≡ Some (kind.Places stands.0) = sym (o s (kind.Places set.0) set.1) ∙ stands.1 in
             let same : set.0 ≡ stands.0 = cc in
             are.each n s p hn (set.0, set.1, subst (In p) (sym same) stands.2));
@@ -159,18 +159,18 @@ module _ (c d : List Entry) (o : Extends c d) where
   pub index_stays : (edges : List Edge) (i : Index) → IsIndex c edges i → IsIndex d edges i
   index_stays edges i is =
       record {
-        known = λ k e at. atoms_stay c d o e.atoms (is.known k e at);
+        atom_sets = λ k e at. atoms_stay c d o e.atoms (is.atom_sets k e at);
         labels = is.labels;
         by_label = is.by_label;
-        items = items_stay c d o i.labels.sets.items (labels_sets (IsAtomSet c) edges i.labels is.labels is.known) i.places.sets.items i.items.items is.items;
+        items = items_stay c d o i.labels.sets.items (labels_sets (IsAtomSet c) edges i.labels is.labels is.atom_sets) i.places.sets.items i.items.items is.items;
         some = is.some;
         groups = is.groups;
         sets = λ k s at. places_stay c d o s (is.sets k s at);
         held = record { holders = holders_stay i.places.sets.items i.holders.list.items is.sets is.held.holders; some = is.held.some; groups = is.held.groups };
       }
 
-  pub mates_stay : (sets numbers : List ℕ) (known : List Mated) → EachIn (IsMated c sets numbers) known → EachIn (IsMated d sets numbers) known
-  mates_stay sets numbers known all = λ k m at.
+  pub mates_stay : (sets numbers : List ℕ) (mate_runs : List Mated) → EachIn (IsMated c sets numbers) mate_runs → EachIn (IsMated d sets numbers) mate_runs
+  mates_stay sets numbers mate_runs all = λ k m at.
       let is = all k m at in
       record {
         order = is.order;
@@ -182,7 +182,7 @@ module _ (c d : List Entry) (o : Extends c d) where
   guide_stays g is =
       record {
         index = (is.index.0, index_stays is.index.0 g.index is.index.1);
-        mates = mates_stay g.index.places.sets.items g.mates.lists.numbers.items g.mates.known.items is.mates;
+        mates = mates_stay g.index.places.sets.items g.mates.lists.numbers.items g.mates.mate_runs.items is.mates;
       }
 
   pub task_stays : (k : Task) → IsTask c k → IsTask d k

@@ -17,7 +17,7 @@ use Rattle.fill_meet.proofs.Lists.{in_last, same_value}
 pub hash_grown : (old new : List ℕ) (y : AtomItem) (h : ℕ) → Grows old new → IsHash old y h → IsHash new y h
 hash_grown old new (Const t) h grown is = is
 hash_grown old new (Whole b) h grown is = is
-hash_grown old new (Sub b p q) h grown is = (is.0, is.1, grown.kept is.0 p is.2, grown.kept is.1 q is.3, is.4)
+hash_grown old new (Sub b p q) h grown is = (is.0, is.1, grown.extends is.0 p is.2, grown.extends is.1 q is.3, is.4)
 
 module _ (c : List Entry) (labels : List ℕ) where
   pub items_start : (items : List Item) (places : List ℕ) → items ≡ [] → places ≡ [] → ItemsSoFar c labels 0 0 items places
@@ -92,13 +92,13 @@ module _ (c : List Entry) (labels : List ℕ) where
   items_end n items places le so = record { real = so.real; each = λ m k y at. (let w = slice_get_within labels m at.0 at.2 in so.each m k y (inl (omega arith)) at) }
 
 -- an index stays one as the arena grows
-module _ (c d : List Entry) (o : Extends c d) (labels : List ℕ) (known : EachIn (IsAtomSet c) labels) where
+module _ (c d : List Entry) (o : Extends c d) (labels : List ℕ) (atom_sets : EachIn (IsAtomSet c) labels) where
   listed_forth : (n j : ℕ) (y : AtomItem) → IsListed c labels n j y → IsListed d labels n j y
   listed_forth n j y at = (at.0, at.1, at.2, o at.0 (kind.Atoms at.1) at.3, at.4)
 
   pub listed_back : (n j : ℕ) (y : AtomItem) → IsListed d labels n j y → IsListed c labels n j y
   listed_back n j y at =
-      let set = known n at.0 at.2 in
+      let set = atom_sets n at.0 at.2 in
       let both : Some (kind.Atoms set.0) ≡ Some (kind.Atoms at.1) = sym (o at.0 (kind.Atoms set.0) set.1) ∙ at.3 in
       let same : set.0 ≡ at.1 = cc in
       (at.0, set.0, at.2, set.1, subst (λ l. slice_get l j ≡ Some y) (sym same) at.4)

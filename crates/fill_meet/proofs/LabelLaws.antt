@@ -53,7 +53,7 @@ labels_more edges k e sets of more next n he en numbered to =
         | inl less ↦
             let old = to.each a f less hf in
             let within = slice_get_within of a old.0 old.1 in
-            (old.0, subst (λ l. slice_get l a ≡ Some old.0) (sym en) (get_left of (n ∷ []) a within ∙ old.1), grown.kept old.0 f.atoms old.2)
+            (old.0, subst (λ l. slice_get l a ≡ Some old.0) (sym en) (get_left of (n ∷ []) a within ∙ old.1), grown.extends old.0 f.atoms old.2)
         | inr past ↦
             let here : k ≡ a = omega arith in
             let same : e ≡ f = same_value edges k a e f here he hf in

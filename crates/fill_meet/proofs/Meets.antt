@@ -1,5 +1,5 @@
 -- The programs of the product's walks are those of both graphs.
-use Rattle.std.proofs.Common.{◌≡◌, ◌↔◌, ℕ, zero, suc, ◌+◌, ◌-◌, ◌*◌, ◌<◌, ◌≤◌, List, length, Option, Some, None, Result, Ok, Err, slice_get, sym, subst, arith}
+use Rattle.std.proofs.Common.{◌≡◌, ◌↔◌, ℕ, zero, suc, ◌+◌, ◌-◌, ◌*◌, ◌<◌, ◌≤◌, List, length, Option, Some, None, Result, Ok, Err, slice_get, subst, arith}
 use Rattle.std.specs.Prelude.{IfOk, MatchOption}
 use Rattle.fill_text.specs.declared.error.NoMemory.{NoMemory}
 use Rattle.std.proofs.Math.Nat.{suc-mul}
@@ -87,7 +87,7 @@ module _ (c : List Entry) (a b height width : ℕ) (xs ys : List Edge) (made : I
             some = trimmed.some;
             each = λ k e h.
                 (let on = trimmed.are.onward k e h in
-                let f = trimmed.kept k e h in
+                let f = trimmed.origin k e h in
                 let s = product.sound f.1.0 f.0 f.1.1 in
                 let set = (s.2.2.met.some d (λ n x i. i)).1 in
                 record { onward = on.0; within = on.1; atoms = subst (λ n. OlderAtoms d (length d) n) f.2 (atoms_within d f.0.atoms (set.0, set.1)) });

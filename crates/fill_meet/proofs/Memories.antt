@@ -5,23 +5,23 @@ use Rattle.fill_arena.specs.Contents.{Extends}
 use Rattle.fill_arena.specs.Stands.{PlaceStands}
 use Rattle.fill_arena.specs.declared.entry.Entry.{Entry}
 use Rattle.fill_meet.specs.declared.memo.Memo.{Memo}
-use Rattle.fill_meet.specs.declared.tried.Told.{Told}
+use Rattle.fill_meet.specs.declared.verdicts.Verdict.{Verdict}
 use Rattle.fill_meet.specs.Memory.{pair_eq, AreRight, IsRight, CommonTold, WithinTold}
 use Rattle.fill_meet.proofs.Grows.{met_stay, place_sets_stay, source_sets_stay, atom_sets_stay}
 
-within_stays : (c d : List Entry) → Extends c d → (r : Option (Told Bool)) → WithinTold c r → WithinTold d r
+within_stays : (c d : List Entry) → Extends c d → (r : Option (Verdict Bool)) → WithinTold c r → WithinTold d r
 within_stays c d o None h = h
-within_stays c d o (Some told) h = λ e. met_stay c d o PlaceStands told.s told.t told.s (h e)
+within_stays c d o (Some verdict) h = λ e. met_stay c d o PlaceStands verdict.s verdict.t verdict.s (h e)
 
-common_stays : (c d : List Entry) → Extends c d → (r : Option (Told (Option ℕ))) → CommonTold c r → CommonTold d r
+common_stays : (c d : List Entry) → Extends c d → (r : Option (Verdict (Option ℕ))) → CommonTold c r → CommonTold d r
 common_stays c d o None h = h
-common_stays c d o (Some told) h = place_sets_stay c d o told.s told.t told.told h
+common_stays c d o (Some verdict) h = place_sets_stay c d o verdict.s verdict.t verdict.verdict h
 
 pub right_stays : (c d : List Entry) → Extends c d → (memo : Memo) → IsRight c memo → IsRight d memo
 right_stays c d o memo r =
     record {
-      within = λ k told h. within_stays c d o told (r.within k told h);
-      places = λ k told h. common_stays c d o told (r.places k told h);
+      within = λ k verdict h. within_stays c d o verdict (r.within k verdict h);
+      places = λ k verdict h. common_stays c d o verdict (r.places k verdict h);
       sources = record { each = λ k made h. source_sets_stay c d o k.0 k.1 made (r.sources.each k made h) };
       atoms = record { each = λ k made h. atom_sets_stay c d o k.0 k.1 made (r.atoms.each k made h) };
     }

@@ -16,7 +16,7 @@ use Rattle.fill_meet.specs.Runs.{Grows, HasFrom}
 use Rattle.fill_meet.specs.Sets.{AtomIn}
 use Rattle.fill_meet.specs.declared.index.Index.{Index}
 use Rattle.fill_meet.specs.declared.index.Item.{Item}
-use Rattle.fill_meet.specs.declared.rows.Known.{Known}
+use Rattle.fill_meet.specs.declared.rows.Slot.{Slot}
 use Rattle.fill_meet.specs.declared.runs.Run.{Run}
 use Rattle.fill_meet.proofs.AtomPairs as atoms
 use Rattle.fill_meet.proofs.Grown.{from_grown, has_or_not, in_grown, in_run}
@@ -35,9 +35,9 @@ module _ (c : List Entry) (i : Index) (P Q : ℕ → ℕ → AtomItem → Type 0
   ends_on mates l from to h = record { each = λ k r le lt at. alike_on (piece_hash l r) (h.each k r le lt at) }
 
 -- the same in a later arena
-module _ (c d : List Entry) (o : Extends c d) (i : Index) (known : EachIn (IsAtomSet c) i.labels.sets.items) (P Q : ℕ → ℕ → AtomItem → Type 0) (on : (n j : ℕ) (y : AtomItem) → P n j y → Q n j y) where
+module _ (c d : List Entry) (o : Extends c d) (i : Index) (atom_sets : EachIn (IsAtomSet c) i.labels.sets.items) (P Q : ℕ → ℕ → AtomItem → Type 0) (on : (n j : ℕ) (y : AtomItem) → P n j y → Q n j y) where
   pub entry_stays : (hash e : ℕ) → IsEntryDone c i P hash e → IsEntryDone d i Q hash e
-  entry_stays hash e h = record { each = λ z y hz same listed. on z.set z.place y (h.each z y hz same (listed_back c d o i.labels.sets.items known z.set z.place y listed)) }
+  entry_stays hash e h = record { each = λ z y hz same listed. on z.set z.place y (h.each z y hz same (listed_back c d o i.labels.sets.items atom_sets z.set z.place y listed)) }
 
   pub alike_stays : (hash : ℕ) → AreAlikeDone c i P hash → AreAlikeDone d i Q hash
   alike_stays hash h = record { each = λ e. entry_stays hash e (h.each e) }
@@ -118,7 +118,7 @@ module _ (c : List Entry) (i : Index) where
 
 -- the entries before a place, in a later arena
 pub entries_stay : (c d : List Entry) → Extends c d → (i : Index) → EachIn (IsAtomSet c) i.labels.sets.items → (P Q : ℕ → ℕ → AtomItem → Type 0) → ((n j : ℕ) (y : AtomItem) → P n j y → Q n j y) → (hash e : ℕ) → EntriesBelow c i P hash e → EntriesBelow d i Q hash e
-entries_stay c d o i known P Q on hash e below = record { each = λ k lt. entry_stays c d o i known P Q on hash k (below.each k lt) }
+entries_stay c d o i atom_sets P Q on hash e below = record { each = λ k lt. entry_stays c d o i atom_sets P Q on hash k (below.each k lt) }
 
 -- the list of numbers may grow
 pub covered_on : (c : List Entry) (old new : List ℕ) (start : ℕ) (x : AtomItem) → Grows old new → (n j : ℕ) (y : AtomItem) → IsCovered c old start x n j y → IsCovered c new start x n j y
@@ -207,9 +207,9 @@ module _ (c : List Entry) (labels : List ℕ) (start : ℕ) where
       }
 
 -- what a slot tells holds of a longer list too
-pub told_grown : (c : List Entry) (labels old new : List ℕ) → Grows old new → (r : Option Known) → IsRowTold c labels old r → IsRowTold c labels new r
+pub told_grown : (c : List Entry) (labels old new : List ℕ) → Grows old new → (r : Option Slot) → IsRowTold c labels old r → IsRowTold c labels new r
 told_grown c labels old new grown None h = h
-told_grown c labels old new grown (Some told) h = row_grown c labels 0 old new told.set told.row grown h
+told_grown c labels old new grown (Some slot) h = row_grown c labels 0 old new slot.set slot.row grown h
 
 -- one entry
 module _ (c : List Entry) (i : Index) (hash e : ℕ) (z : Item) (hz : slice_get i.items.items e ≡ Some z) where

@@ -65,13 +65,13 @@ module _ (c : List Entry) (x y : SelectItem) (zs : List ConditionItem) (e : leng
         }
 
 -- the same column, or two lookups
-abbrev pub AreAlike : SourceItem → SourceItem → Type 0
-AreAlike (Col m) (Col n) = m ≡ n
-AreAlike (Col m) (Select y) = ⊥
-AreAlike (Select x) (Col n) = ⊥
-AreAlike (Select x) (Select y) = Unit {0}
+abbrev pub AreSourcesAlike : SourceItem → SourceItem → Type 0
+AreSourcesAlike (Col m) (Col n) = m ≡ n
+AreSourcesAlike (Col m) (Select y) = ⊥
+AreSourcesAlike (Select x) (Col n) = ⊥
+AreSourcesAlike (Select x) (Select y) = Unit {0}
 
-alike : (d : List Entry) (a : SourceTree) (x y : SourceItem) → SourceIn d x a → SourceIn d y a → AreAlike x y
+alike : (d : List Entry) (a : SourceTree) (x y : SourceItem) → SourceIn d x a → SourceIn d y a → AreSourcesAlike x y
 alike d (col n) (Col u) (Col v) f g = f ∙ sym g
 alike d (col n) (Col u) (Select y) f g = g
 alike d (col n) (Select x) y f g = absurd f
@@ -79,7 +79,7 @@ alike d (select column table key row) (Col u) y f g = absurd f
 alike d (select column table key row) (Select x) (Col v) f g = g
 alike d (select column table key row) (Select x) (Select y) f g = tt
 
-pub kinds_apart : (c : List Entry) (x y : SourceItem) → (AreAlike x y → ⊥) → AreApart SourceIn c x y
+pub kinds_apart : (c : List Entry) (x y : SourceItem) → (AreSourcesAlike x y → ⊥) → AreApart SourceIn c x y
 kinds_apart c x y n = λ d o a f g. n (alike d a x y f g)
 
 pub col_met : (c : List Entry) (u v : ℕ) → u ≡ v → AreMet SourceIn c (Col u) (Col v) (Col u)

@@ -79,5 +79,5 @@ places_mirror c s t None m = apart_mirror PlaceStands c s t m
 places_mirror c s t (Some n) m = met_mirror PlaceStands c s t n m
 
 -- what a table tells of a pair
-pub told : {S : Type 0} (Meet : ℕ → ℕ → Option ℕ → Type 0) (table : HashMap (ℕ × ℕ) (Option ℕ) S) (s t : ℕ) (made : Option ℕ) → AreRight Meet table → get pair_eq table (s, t) ≡ Some made → Meet s t made
-told Meet table s t made right h = right.each (s, t) made h
+pub entry_right : {S : Type 0} (Meet : ℕ → ℕ → Option ℕ → Type 0) (table : HashMap (ℕ × ℕ) (Option ℕ) S) (s t : ℕ) (made : Option ℕ) → AreRight Meet table → get pair_eq table (s, t) ≡ Some made → Meet s t made
+entry_right Meet table s t made right h = right.each (s, t) made h

@@ -201,7 +201,7 @@ module _ (xs ys : List Edge) (h w : ℕ) (first : AreEdges h xs) (second : AreEd
 
 -- the room of a sweep
 pub tried_room : (h w : ℕ) (x y : Edge) (p q : Sweep) → IsTried w x y p q → HasRoom h w p.reached → HasRoom h w q.reached
-tried_room h w x y p q tried room = elim tried [
+tried_room h w x y p q end_of_tie room = elim end_of_tie [
   | inl e ↦ subst (HasRoom h w) (sym e.1) room
   | inr e ↦ room_stays h w x.to y.to p.reached q.reached e.2 room
 ]
@@ -239,7 +239,7 @@ module _ (c : List Entry) (g : Graphs) (first : AreEdges g.height g.xs.now) (sec
   -- one more pair of edges
   pub set_put : (l : ℕ) (x y : Edge) (s q : Sweep) → slice_get g.xs.now k ≡ Some x → slice_get g.ys.now l ≡ Some y → slice_get labels l ≡ Some n → IsTried g.width x y s q
       → SweepState c g k (IsInRowTo labels numbers start p n l) s → SweepState c g k (IsInRowTo labels numbers start p n (l + 1)) q
-  set_put l x y s q hx hy label tried state =
+  set_put l x y s q hx hy label end_of_tie state =
       let D = IsInRowTo labels numbers start p n l in
       let E = IsInRowTo labels numbers start p n (l + 1) in
       let back : (m : ℕ) → E m → D m ⊎ (m ≡ l) = λ m d. elim d [
@@ -250,8 +250,8 @@ module _ (c : List Entry) (g : Graphs) (first : AreEdges g.height g.xs.now) (sec
         ]
       ] in
       record {
-        room = tried_room g.height g.width x y s q tried state.room;
-        swept = elim tried [
+        room = tried_room g.height g.width x y s q end_of_tie state.room;
+        swept = elim end_of_tie [
           | inl e ↦
               let moved = swept_move g.xs.now g.ys.now g.height g.width first second c k D s.reached s.ties state.swept E (λ m u v hu hv marked d. elim (back m d) [
                 | inl old ↦ inl old

@@ -16,7 +16,7 @@ use Rattle.fill_arena.proofs.Lists.{get_of_taken}
 use Rattle.fill_trim.proofs.Ranks.{set_other}
 use Rattle.fill_meet.specs.Meet.{AreApart}
 use Rattle.fill_meet.specs.Sets.{AtomIn, SourceIn}
-use Rattle.fill_meet.specs.Tried.{AreAlike}
+use Rattle.fill_meet.specs.Verdicts.{AreAlike}
 use Rattle.fill_meet.proofs.Listed.{set_apart, ListsPlace, ListsSource, ListsAtom, one_places, one_sources, one_atoms}
 
 -- two items that one source stands in

@@ -41,7 +41,7 @@ pub record AreItems (c : List Entry) (labels sets : List ℕ) (items : List Item
 
 -- a graph's edges by their labels, and the items of its sets by their hashes
 pub record IsIndex (c : List Entry) (edges : List Edge) (i : Index) : Type 0 where
-  pub known : EachIn (λ e. IsAtomSet c e.atoms) edges
+  pub atom_sets : EachIn (λ e. IsAtomSet c e.atoms) edges
   pub labels : AreLabels edges i.labels
   pub by_label : AreGroups i.labels.of.items i.by_label
   pub items : AreItems c i.labels.sets.items i.places.sets.items i.items.items

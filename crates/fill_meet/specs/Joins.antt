@@ -1,5 +1,5 @@
 -- The ties that lead to the last pair of nodes, and their edges.
-use Rattle.std.specs.Prelude.{◌≡◌, ◌⊎◌, ℕ, ◌-◌, ◌<◌, Bool, List, [], ◌∷◌, ◌++◌, length, Some, slice_get}
+use Rattle.std.specs.Prelude.{◌≡◌, ◌⊎◌, ℕ, ◌-◌, Bool, List, [], ◌∷◌, ◌++◌, length}
 use Rattle.fill_arena.specs.Contents.{In, SomeIn, EachIn}
 use Rattle.fill_arena.specs.Order.{IsTopological}
 use Rattle.fill_arena.specs.Stands.{AtomStands}
@@ -11,7 +11,7 @@ use Rattle.fill_meet.specs.declared.ties.Tie.{Tie}
 
 -- marks that the others had, and where a tie leads to a marked node its first node is marked
 pub record AreClosed (ties : List Tie) (old new : List Bool) : Type 0 where
-  pub kept : (m : ℕ) → IsMarked old m → IsMarked new m
+  pub extends : (m : ℕ) → IsMarked old m → IsMarked new m
   pub closed : EachIn (λ t. IsMarked new t.to → IsMarked new t.from) ties
 
 -- a mark for each node, set at least where the node leads to the last one

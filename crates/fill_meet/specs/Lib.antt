@@ -13,5 +13,5 @@ pub mod Runs
 pub mod Sets
 pub mod Tied
 pub mod Ties
-pub mod Tried
+pub mod Verdicts
 pub mod Walked

@@ -35,4 +35,4 @@ pub record IsMated (c : List Entry) (sets numbers : List ℕ) (m : Mated) : Type
 
 -- the sets that were asked for, with their mates
 abbrev pub AreMates : List Entry → List ℕ → Mates → Type 0
-AreMates c sets m = EachIn (IsMated c sets m.lists.numbers.items) m.known.items
+AreMates c sets m = EachIn (IsMated c sets m.lists.numbers.items) m.mate_runs.items

@@ -4,7 +4,7 @@ use Rattle.std.specs.HashMap.{HashMap, get}
 use Rattle.fill_arena.specs.Contents.{EachIn}
 use Rattle.fill_arena.specs.declared.entry.Entry.{Entry}
 use Rattle.fill_meet.specs.declared.memo.Memo.{Memo}
-use Rattle.fill_meet.specs.declared.tried.Told.{Told}
+use Rattle.fill_meet.specs.declared.verdicts.Verdict.{Verdict}
 use Rattle.fill_meet.specs.Sets.{PlaceSetsMeet, SourceSetsMeet, AtomSetsMeet, IsWithin}
 
 abbrev pub pair_eq : ℕ × ℕ → ℕ × ℕ → Bool
@@ -15,12 +15,12 @@ pub record AreRight {S V : Type 0} (Meet : ℕ → ℕ → V → Type 0) (table 
   pub each : (k : ℕ × ℕ) (made : V) → get pair_eq table k ≡ Some made → Meet k.0 k.1 made
 
 -- where a slot tells that a set of places stands within another one, it does
-abbrev pub WithinTold : List Entry → Option (Told Bool) → Type 0
-WithinTold c r = IfSome r (λ told. IsTrue told.told → IsWithin c told.s told.t)
+abbrev pub WithinTold : List Entry → Option (Verdict Bool) → Type 0
+WithinTold c r = IfSome r (λ verdict. IsTrue verdict.verdict → IsWithin c verdict.s verdict.t)
 
 -- where a slot tells the common set of two sets of places, it is that
-abbrev pub CommonTold : List Entry → Option (Told (Option ℕ)) → Type 0
-CommonTold c r = IfSome r (λ told. PlaceSetsMeet c told.s told.t told.told)
+abbrev pub CommonTold : List Entry → Option (Verdict (Option ℕ)) → Type 0
+CommonTold c r = IfSome r (λ verdict. PlaceSetsMeet c verdict.s verdict.t verdict.verdict)
 
 -- what the tables tell is so in the arena
 pub record IsRight (c : List Entry) (memo : Memo) : Type 0 where

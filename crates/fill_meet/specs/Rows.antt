@@ -9,10 +9,10 @@ use Rattle.fill_meet.specs.Mates.{AreMates}
 use Rattle.fill_meet.specs.Meet.{AreApart}
 use Rattle.fill_meet.specs.Runs.{HasFrom, HasIn}
 use Rattle.fill_meet.specs.Sets.{AtomIn}
-use Rattle.fill_meet.specs.Tried.{AreTried}
+use Rattle.fill_meet.specs.Verdicts.{AreVerdicts}
 use Rattle.fill_meet.specs.declared.index.Index.{Index}
 use Rattle.fill_meet.specs.declared.index.Item.{Item}
-use Rattle.fill_meet.specs.declared.rows.Known.{Known}
+use Rattle.fill_meet.specs.declared.rows.Slot.{Slot}
 use Rattle.fill_meet.specs.declared.rows.Rows.{Rows}
 use Rattle.fill_meet.specs.declared.rows.Search.{Search}
 use Rattle.fill_meet.specs.declared.runs.Run.{Run}
@@ -20,7 +20,7 @@ use Rattle.fill_meet.specs.declared.runs.Run.{Run}
 -- what a search remembers is so
 pub record IsSearch (c : List Entry) (i : Index) (s : Search) : Type 0 where
   pub mates : AreMates c i.places.sets.items s.mates
-  pub tried : AreTried c s.found.tried
+  pub verdicts : AreVerdicts c s.findings.verdicts
 
 -- the set is in the list from the start on, or its item has nothing in common with x
 abbrev pub IsCovered : List Entry → List ℕ → ℕ → AtomItem → ℕ → ℕ → AtomItem → Type 0
@@ -53,10 +53,10 @@ pub record IsRow (c : List Entry) (labels numbers : List ℕ) (s : ℕ) (run : R
   pub each : (n t : ℕ) → slice_get labels n ≡ Some t → HasIn numbers run n ⊎ AreApart AtomStands c s t
 
 -- what a slot tells is so
-abbrev pub IsRowTold : List Entry → List ℕ → List ℕ → Option Known → Type 0
-IsRowTold c labels numbers r = IfSome r (λ told. IsRow c labels numbers told.set told.row)
+abbrev pub IsRowTold : List Entry → List ℕ → List ℕ → Option Slot → Type 0
+IsRowTold c labels numbers r = IfSome r (λ slot. IsRow c labels numbers slot.set slot.row)
 
 -- rows of sets of the first graph
 pub record AreRows (c : List Entry) (i : Index) (r : Rows) : Type 0 where
   pub search : IsSearch c i r.search
-  pub known : EachIn (IsRowTold c i.labels.sets.items r.search.found.rows.numbers.items) r.known.items
+  pub slots : EachIn (IsRowTold c i.labels.sets.items r.search.findings.rows.numbers.items) r.slots.items

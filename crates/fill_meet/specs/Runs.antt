@@ -4,7 +4,7 @@ use Rattle.fill_meet.specs.declared.runs.Run.{Run}
 
 -- the earlier list is the beginning of the later one
 pub record Grows {A : Type 0} (old new : List A) : Type 0 where
-  pub kept : (k : ℕ) (x : A) → slice_get old k ≡ Some x → slice_get new k ≡ Some x
+  pub extends : (k : ℕ) (x : A) → slice_get old k ≡ Some x → slice_get new k ≡ Some x
   pub long : length old ≤ length new
 
 -- the number stands in the list from a place on

@@ -1,14 +1,14 @@
 //! Whether sets are apart, told without a new set.
 ghost use Rattle.std.specs.Prelude.{◌≡◌, ◌↔◌, ℕ, false, IsTrue};
 ghost use Rattle.fill_arena.specs.Contents.{EachIn, In, IsPlaceSet, IsSourceSet, SomeIn};
-ghost use Rattle.fill_arena.specs.Stands.{PlaceStands, SourceStands};
+ghost use Rattle.fill_arena.specs.Stands.{SourceStands};
 ghost use Rattle.fill_arena.specs.WellMade.{ArePlaces, IsAtomItem};
 ghost use Rattle.fill_meet.specs.Meet.{AreApart};
 ghost use Rattle.fill_meet.specs.Sets.{AtomIn};
-ghost use Rattle.fill_meet.specs.Tried.{AreAlike, AreTried, PlacesTried};
+ghost use Rattle.fill_meet.specs.Verdicts.{AreAlike, AreVerdicts, PlacesTried};
 
 use crate::sets::have_same_numbers;
-use crate::tried::{Told, Tried, tell_places, told_places, told_sources};
+use crate::verdicts::{Verdict, Verdicts, tell_places, told_places, told_sources};
 use fill_arena::{Arena, AtomItem, PlaceSet, SourceItem, SourceSet};
 use fill_tokens::Place;
 use std::cmp::Ordering;
@@ -24,18 +24,18 @@ pub(crate) fn are_many(xs: usize, ys: usize) -> bool {
 /// Whether some atom may be of an item of each list, told by the items in pairs.
 pub(crate) fn atoms_may_meet(
     arena: &Arena,
-    tried: &mut Tried,
+    verdicts: &mut Verdicts,
     xs: &[AtomItem],
     ys: &[AtomItem],
 ) -> bool
-    requires tried { AreTried arena.now tried.old }
+    requires verdicts { AreVerdicts arena.now verdicts.old }
     requires first { (n : ℕ) × EachIn (IsAtomItem arena.now n) xs.now }
     requires second { (n : ℕ) × EachIn (IsAtomItem arena.now n) ys.now }
-    ensures tried { AreTried arena.now tried.new }
+    ensures verdicts { AreVerdicts arena.now verdicts.new }
     ensures apart { result ≡ false → EachIn (λ x. EachIn (AreApart AtomIn arena.now x) ys.now) xs.now }
 {
     for i in 0..xs.len() {
-        if meets_some(arena, tried, &xs[i], ys) {
+        if meets_some(arena, verdicts, &xs[i], ys) {
             return true;
         }
     }
@@ -43,15 +43,15 @@ pub(crate) fn atoms_may_meet(
 }
 
 /// Whether the item may have an atom in common with one of the others.
-fn meets_some(arena: &Arena, tried: &mut Tried, x: &AtomItem, ys: &[AtomItem]) -> bool
-    requires tried { AreTried arena.now tried.old }
+fn meets_some(arena: &Arena, verdicts: &mut Verdicts, x: &AtomItem, ys: &[AtomItem]) -> bool
+    requires verdicts { AreVerdicts arena.now verdicts.old }
     requires first { (n : ℕ) × IsAtomItem arena.now n x.now }
     requires second { (n : ℕ) × EachIn (IsAtomItem arena.now n) ys.now }
-    ensures tried { AreTried arena.now tried.new }
+    ensures verdicts { AreVerdicts arena.now verdicts.new }
     ensures apart { result ≡ false → EachIn (AreApart AtomIn arena.now x.now) ys.now }
 {
     for j in 0..ys.len() {
-        if items_may_meet(arena, tried, x, &ys[j]) {
+        if items_may_meet(arena, verdicts, x, &ys[j]) {
             return true;
         }
     }
@@ -62,48 +62,51 @@ fn meets_some(arena: &Arena, tried: &mut Tried, x: &AtomItem, ys: &[AtomItem]) -
 ///
 /// The ends of pieces are tried before their starts: something leads to a pair of nodes, so pieces from there mostly start at a
 /// common place.
-fn items_may_meet(arena: &Arena, tried: &mut Tried, x: &AtomItem, y: &AtomItem) -> bool
-    requires tried { AreTried arena.now tried.old }
+fn items_may_meet(arena: &Arena, verdicts: &mut Verdicts, x: &AtomItem, y: &AtomItem) -> bool
+    requires verdicts { AreVerdicts arena.now verdicts.old }
     requires first { (n : ℕ) × IsAtomItem arena.now n x.now }
     requires second { (n : ℕ) × IsAtomItem arena.now n y.now }
-    ensures tried { AreTried arena.now tried.new }
+    ensures verdicts { AreVerdicts arena.now verdicts.new }
     ensures apart { result ≡ false → AreApart AtomIn arena.now x.now y.now }
 {
     match (x, y) {
         (AtomItem::Const(u), AtomItem::Const(v)) => u.same(v),
-        (AtomItem::Whole(s), AtomItem::Whole(t)) => sources_may_meet(arena, tried, *s, *t),
+        (AtomItem::Whole(s), AtomItem::Whole(t)) => sources_may_meet(arena, verdicts, *s, *t),
         (AtomItem::Sub(s, p, q), AtomItem::Sub(t, u, v)) => {
             if *s != *t {
-                if !sources_may_meet(arena, tried, *s, *t) {
+                if !sources_may_meet(arena, verdicts, *s, *t) {
                     return false;
                 }
             }
-            if !places_may_meet(arena, tried, *q, *v) {
+            if !places_may_meet(arena, verdicts, *q, *v) {
                 return false;
             }
-            places_may_meet(arena, tried, *p, *u)
+            places_may_meet(arena, verdicts, *p, *u)
         }
         _ => false,
     }
 }
 
 /// Whether some place stands in both sets.
-fn places_may_meet(arena: &Arena, tried: &mut Tried, s: PlaceSet, t: PlaceSet) -> bool
-    requires tried { AreTried arena.now tried.old }
+fn places_may_meet(arena: &Arena, verdicts: &mut Verdicts, s: PlaceSet, t: PlaceSet) -> bool
+    requires verdicts { AreVerdicts arena.now verdicts.old }
     requires first { IsPlaceSet arena.now s }
     requires second { IsPlaceSet arena.now t }
-    ensures tried { AreTried arena.now tried.new }
+    ensures verdicts { AreVerdicts arena.now verdicts.new }
     ensures apart { PlacesTried arena.now s t result }
 {
     if s == t {
         return true;
     }
-    if let Some(may) = told_places(tried.places.as_slice(), s, t) {
+    if let Some(may) = told_places(verdicts.places.as_slice(), s, t) {
         return may;
     }
     arena.keeps_made();
     let may = share_place(arena.places(s), arena.places(t));
-    tell_places(tried.places.as_mut_slice(), Told { s, t, told: may });
+    tell_places(
+        verdicts.places.as_mut_slice(),
+        Verdict { s, t, verdict: may },
+    );
     may
 }
 
@@ -126,11 +129,16 @@ fn share_place(xs: &[Place], ys: &[Place]) -> bool
 }
 
 /// Whether some source may stand in both sets.
-pub(crate) fn sources_may_meet(arena: &Arena, tried: &mut Tried, s: SourceSet, t: SourceSet) -> bool
-    requires tried { AreTried arena.now tried.old }
+pub(crate) fn sources_may_meet(
+    arena: &Arena,
+    verdicts: &mut Verdicts,
+    s: SourceSet,
+    t: SourceSet,
+) -> bool
+    requires verdicts { AreVerdicts arena.now verdicts.old }
     requires first { IsSourceSet arena.now s }
     requires second { IsSourceSet arena.now t }
-    ensures tried { AreTried arena.now tried.new }
+    ensures verdicts { AreVerdicts arena.now verdicts.new }
     ensures apart { result ≡ false → AreApart SourceStands arena.now s t }
 {
     if s == t {
@@ -141,11 +149,11 @@ pub(crate) fn sources_may_meet(arena: &Arena, tried: &mut Tried, s: SourceSet, t
     if !are_many(xs.len(), ys.len()) {
         return share_source(xs, ys);
     }
-    if let Some(may) = told_sources(&tried.sources, s, t) {
+    if let Some(may) = told_sources(&verdicts.sources, s, t) {
         return may;
     }
     let may = share_source(xs, ys);
-    tried.keep(s, t, may);
+    verdicts.keep(s, t, may);
     may
 }
 

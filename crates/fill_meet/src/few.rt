@@ -8,13 +8,13 @@ ghost use Rattle.fill_meet.specs.Groups.{AreGroupsOf, AreKeys};
 ghost use Rattle.fill_meet.specs.Meet.{AreApart};
 ghost use Rattle.fill_meet.specs.Product.{ArePairable};
 ghost use Rattle.fill_meet.specs.Ties.{AreOrdered, AreTies, IsBelow, IsPutTie, NameSets, SweepState};
-ghost use Rattle.fill_meet.specs.Tried.{AreTried};
+ghost use Rattle.fill_meet.specs.Verdicts.{AreVerdicts};
 
 use crate::apart::atoms_may_meet;
 use crate::bits::Bits;
 use crate::groups::Groups;
 use crate::ties::{Graphs, Sweep, Tie, tie_reached};
-use crate::tried::Tried;
+use crate::verdicts::Verdicts;
 use fill_arena::{Arena, AtomItem, Edge};
 use fill_text::{List, NoMemory};
 use std::alloc::Global;
@@ -31,7 +31,7 @@ const ANSWERS_AN_EDGE: usize = 2;
 #[derive(Drop)]
 pub(crate) struct Few {
     pub(crate) sweep: Sweep,
-    pub(crate) tried: Tried,
+    pub(crate) verdicts: Verdicts,
 }
 
 /// Whether the graphs are so small that an index takes longer than their edges in pairs. Each set has an item, so the items of
@@ -78,8 +78,8 @@ pub(crate) fn find_few(
     };
     let froms = first_nodes(alloc, graphs.ys)?;
     let by_from = Groups::new(alloc, graphs.width, froms.as_slice())?;
-    let tried = Tried::new(alloc, graphs.ys.len().saturating_mul(ANSWERS_AN_EDGE))?;
-    let mut few = Few { sweep, tried };
+    let verdicts = Verdicts::new(alloc, graphs.ys.len().saturating_mul(ANSWERS_AN_EDGE))?;
+    let mut few = Few { sweep, verdicts };
     for k in 0..graphs.xs.len() {
         try_edge(arena, graphs, &by_from, k, &mut few)?;
     }
@@ -110,9 +110,9 @@ fn try_edge(
     requires edges { ArePairable arena.now graphs.height graphs.width graphs.xs.now graphs.ys.now }
     requires groups { AreGroupsOf (λ e. e.from) graphs.ys.now by_from.now }
     requires within { k < length graphs.xs.now }
-    requires tried { AreTried arena.now few.old.tried }
+    requires verdicts { AreVerdicts arena.now few.old.verdicts }
     requires state { SweepState arena.now graphs k (λ b. ⊥) few.old.sweep }
-    ensures tried { OnOk result (AreTried arena.now few.new.tried) }
+    ensures verdicts { OnOk result (AreVerdicts arena.now few.new.verdicts) }
     ensures state { OnOk result (SweepState arena.now graphs.entry (k + 1) (λ b. ⊥) few.new.sweep) }
 {
     let from = graphs.xs[k].from;
@@ -138,9 +138,9 @@ fn try_node(
     requires edges { ArePairable arena.now graphs.height graphs.width graphs.xs.now graphs.ys.now }
     requires groups { AreGroupsOf (λ e. e.from) graphs.ys.now by_from.now }
     requires within { k < length graphs.xs.now }
-    requires tried { AreTried arena.now few.old.tried }
+    requires verdicts { AreVerdicts arena.now few.old.verdicts }
     requires state { SweepState arena.now graphs k (IsBelow graphs.ys.now v) few.old.sweep }
-    ensures tried { OnOk result (AreTried arena.now few.new.tried) }
+    ensures verdicts { OnOk result (AreVerdicts arena.now few.new.verdicts) }
     ensures state { OnOk result (SweepState arena.now graphs.entry k (IsBelow graphs.entry.ys.now (v + 1)) few.new.sweep) }
 {
     let items = arena.atoms(graphs.xs[k].atoms);
@@ -169,12 +169,12 @@ fn try_edges(
     requires place { IsPlace x.now.to y.now.to few.old.sweep.reached }
     requires from { x.now.from * width + y.now.from < 2 ^ 64 }
     requires to { x.now.to * width + y.now.to < 2 ^ 64 }
-    requires tried { AreTried arena.now few.old.tried }
-    ensures tried { OnOk result (AreTried arena.now few.new.tried) }
+    requires verdicts { AreVerdicts arena.now few.old.verdicts }
+    ensures verdicts { OnOk result (AreVerdicts arena.now few.new.verdicts) }
     ensures tie { OnOk result (IsPutTie width x.now y.now few.old.sweep few.new.sweep ⊎ (AreApart AtomStands arena.now x.now.atoms y.now.atoms × (few.new.sweep ≡ few.old.sweep))) }
 {
     arena.keeps_made();
-    if !atoms_may_meet(arena, &mut few.tried, items, arena.atoms(y.atoms)) {
+    if !atoms_may_meet(arena, &mut few.verdicts, items, arena.atoms(y.atoms)) {
         return Ok(());
     }
     tie_reached(width, x, y, &mut few.sweep)

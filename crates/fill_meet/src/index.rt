@@ -5,7 +5,7 @@ ghost use Rattle.fill_arena.specs.WellMade.{IsAtomItem};
 ghost use Rattle.fill_meet.specs.Groups.{AreKeys};
 ghost use Rattle.fill_meet.specs.Index.{IsHash, IsIndex, IsListed, IsSomeIndex, ItemsSoFar, constant_hash, piece_hash};
 ghost use Rattle.fill_meet.specs.Runs.{Grows};
-ghost use Rattle.fill_meet.specs.declared.index.Item.{Item as Found};
+ghost use Rattle.fill_meet.specs.declared.index.Item.{Item as ItemData};
 
 use crate::groups::{Groups, group_of};
 use crate::holders::Holders;
@@ -139,7 +139,7 @@ pub(crate) fn hash_piece(left: usize, right: usize) -> u64
 pub(crate) fn item_at<'a>(arena: &'a Arena, index: &Index, e: usize) -> &'a AtomItem
     requires within { e < length index.now.items.items }
     requires index { IsSomeIndex arena.now index.now }
-    ensures { (x : Found) → slice_get index.now.items.items e ≡ Some x → IsListed arena.now index.now.labels.sets.items x.set x.place result.now }
+    ensures { (x : ItemData) → slice_get index.now.items.items e ≡ Some x → IsListed arena.now index.now.labels.sets.items x.set x.place result.now }
 {
     let item = index.items[e];
     &arena.atoms(index.labels.sets[item.set])[item.place]

@@ -50,10 +50,10 @@ impl Labels {
     pub(crate) fn number(&self, s: AtomSet) -> Option<usize>
         ensures { IfSome result (IsNumber self.now.sets.items s) }
     {
-        let Some(told) = self.table.get(&s) else {
+        let Some(number_there) = self.table.get(&s) else {
             return None;
         };
-        let number = *told;
+        let number = *number_there;
         if number >= self.sets.len() {
             return None;
         }
@@ -106,10 +106,10 @@ impl PlaceSets {
     fn number(&self, s: PlaceSet) -> Option<usize>
         ensures { IfSome result (IsNumber self.now.sets.items s) }
     {
-        let Some(told) = self.table.get(&s) else {
+        let Some(number_there) = self.table.get(&s) else {
             return None;
         };
-        let number = *told;
+        let number = *number_there;
         if number >= self.sets.len() {
             return None;
         }

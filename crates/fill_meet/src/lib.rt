@@ -24,5 +24,5 @@ mod rows;
 mod runs;
 mod sets;
 mod ties;
-mod tried;
+mod verdicts;
 mod within;

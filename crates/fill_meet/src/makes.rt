@@ -46,7 +46,7 @@ pub(crate) fn make_guided(
     requires guide { IsGuide arena.old guide.now }
     requires first { IsAtomSet arena.old s }
     requires second { IsAtomSet arena.old t }
-    ensures kept { Extends arena.old arena.new }
+    ensures extends { Extends arena.old arena.new }
     ensures memo { OnOk result (IsRight arena.new memo.new) }
     ensures met { IfOk result (AtomSetsMeet arena.new s t) }
 {
@@ -81,7 +81,7 @@ fn make_row(
     requires memo { IsRight arena.old memo.old }
     requires task { IsTask arena.old task.now }
     requires made { IsMadeTo arena.old task.now task.now.place zs.old }
-    ensures kept { Extends arena.old arena.new }
+    ensures extends { Extends arena.old arena.new }
     ensures memo { OnOk result (IsRight arena.new memo.new) }
     ensures made { OnOk result (IsMadeTo arena.new task.now (task.now.place + 1) zs.new) }
 {
@@ -93,10 +93,10 @@ fn make_row(
         AtomItem::Whole(_) => make_alike(arena, memo, task, WHOLE, zs),
         AtomItem::Sub(_, lefts, rights) => {
             let (lefts, rights) = (*lefts, *rights);
-            let Some(begins) = task.guide.mates.told(lefts) else {
+            let Some(begins) = task.guide.mates.run_of(lefts) else {
                 return meet_atom_row(arena, memo, task.first, task.place, task.second, zs);
             };
-            let Some(ends) = task.guide.mates.told(rights) else {
+            let Some(ends) = task.guide.mates.run_of(rights) else {
                 return meet_atom_row(arena, memo, task.first, task.place, task.second, zs);
             };
             make_pieces(arena, memo, task, begins, ends, zs)
@@ -119,7 +119,7 @@ fn make_pieces(
     requires begins { begins.end ≤ length task.now.guide.now.mates.lists.numbers.items }
     requires ends { ends.end ≤ length task.now.guide.now.mates.lists.numbers.items }
     requires made { IsMadeTo arena.old task.now task.now.place zs.old }
-    ensures kept { Extends arena.old arena.new }
+    ensures extends { Extends arena.old arena.new }
     ensures memo { OnOk result (IsRight arena.new memo.new) }
     ensures made { OnOk result (IsMadeTo arena.new task.now task.now.place zs.new) }
     ensures grown { OnOk result (Grows zs.old zs.new) }
@@ -146,7 +146,7 @@ fn make_ends(
     requires task { IsTask arena.old task.now }
     requires ends { ends.end ≤ length task.now.guide.now.mates.lists.numbers.items }
     requires made { IsMadeTo arena.old task.now task.now.place zs.old }
-    ensures kept { Extends arena.old arena.new }
+    ensures extends { Extends arena.old arena.new }
     ensures memo { OnOk result (IsRight arena.new memo.new) }
     ensures made { OnOk result (IsMadeTo arena.new task.now task.now.place zs.new) }
     ensures grown { OnOk result (Grows zs.old zs.new) }
@@ -170,7 +170,7 @@ fn make_alike(
     requires memo { IsRight arena.old memo.old }
     requires task { IsTask arena.old task.now }
     requires made { IsMadeTo arena.old task.now task.now.place zs.old }
-    ensures kept { Extends arena.old arena.new }
+    ensures extends { Extends arena.old arena.new }
     ensures memo { OnOk result (IsRight arena.new memo.new) }
     ensures made { OnOk result (IsMadeTo arena.new task.now task.now.place zs.new) }
     ensures grown { OnOk result (Grows zs.old zs.new) }
@@ -198,7 +198,7 @@ fn make_one(
     requires task { IsTask arena.old task.now }
     requires within { e < length task.now.guide.now.index.items.items }
     requires made { IsMadeTo arena.old task.now task.now.place zs.old }
-    ensures kept { Extends arena.old arena.new }
+    ensures extends { Extends arena.old arena.new }
     ensures memo { OnOk result (IsRight arena.new memo.new) }
     ensures made { OnOk result (IsMadeTo arena.new task.now task.now.place zs.new) }
     ensures grown { OnOk result (Grows zs.old zs.new) }

@@ -28,17 +28,17 @@ pub(crate) struct Mated {
 /// list.
 #[derive(Drop)]
 pub(crate) struct Mates {
-    pub(crate) known: Vec<Mated>,
+    pub(crate) mate_runs: Vec<Mated>,
     pub(crate) table: HashMap<PlaceSet, usize>,
     pub(crate) lists: Runs,
 }
 
 impl Mates {
     pub(crate) fn new(alloc: Global, index: &Index) -> Result<Mates, NoMemory>
-        ensures { IfOk result (λ m. m.known.items ≡ []) }
+        ensures { IfOk result (λ m. m.mate_runs.items ≡ []) }
     {
         Ok(Mates {
-            known: Vec::new(alloc),
+            mate_runs: Vec::new(alloc),
             table: HashMap::new(alloc),
             lists: Runs::new(alloc, index.places.sets.len())?,
         })
@@ -59,7 +59,7 @@ impl Mates {
         ensures grown { OnOk result (Grows self.old.lists.numbers.items self.new.lists.numbers.items) }
         ensures found { IfOk result (λ run. IsMated arena.now index.now.places.sets.items self.new.lists.numbers.items (record { set = s; run = run })) }
     {
-        if let Some(run) = self.told(s) {
+        if let Some(run) = self.run_of(s) {
             return Ok(run);
         }
         let start = self.lists.numbers.len();
@@ -68,23 +68,23 @@ impl Mates {
             start,
             end: self.lists.numbers.len(),
         };
-        note_places(&mut self.table, s, self.known.len());
-        self.known.push(Mated { set: s, run })?;
+        note_places(&mut self.table, s, self.mate_runs.len());
+        self.mate_runs.push(Mated { set: s, run })?;
         Ok(run)
     }
 
     /// The mates of the set, if the table tells them.
-    pub(crate) fn told(&self, s: PlaceSet) -> Option<Run>
-        ensures { IfSome result (λ run. In (record { set = s; run = run }) self.now.known.items) }
+    pub(crate) fn run_of(&self, s: PlaceSet) -> Option<Run>
+        ensures { IfSome result (λ run. In (record { set = s; run = run }) self.now.mate_runs.items) }
     {
-        let Some(told) = self.table.get(&s) else {
+        let Some(number_there) = self.table.get(&s) else {
             return None;
         };
-        let number = *told;
-        if number >= self.known.len() {
+        let number = *number_there;
+        if number >= self.mate_runs.len() {
             return None;
         }
-        let mated = self.known[number];
+        let mated = self.mate_runs[number];
         if mated.set != s {
             return None;
         }

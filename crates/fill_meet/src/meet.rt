@@ -31,7 +31,7 @@ pub fn meet<L: Ledger>(
     ensures some { IfOk result (λ made. OnSome made ((p : Atoms) × ProgramStands arena.old a p × ProgramStands arena.old b p)) }
     ensures none { IfOk result (λ made. IfNone made (arena.new ≡ arena.old)) }
     ensures same { a ≡ b → (result ≡ Ok (Some a)) × (arena.new ≡ arena.old) }
-    ensures kept { Extends arena.old arena.new }
+    ensures extends { Extends arena.old arena.new }
     ensures err { OnErr result (arena.new ≡ arena.old) }
     ensures step { steps.new ≡ steps.old + 1 }
 {
@@ -68,7 +68,7 @@ fn meet_uncut<L: Ledger>(
     requires first { IsGraph arena.old a }
     requires second { IsGraph arena.old b }
     ensures met { IfOk result (λ made. MatchOption made (NoneInBoth arena.old a b) (IsMeet arena.old a b arena.new)) }
-    ensures kept { Extends arena.old arena.new }
+    ensures extends { Extends arena.old arena.new }
     ensures step { steps.new ≡ steps.old + 1 }
 {
     match meet_walks(alloc, arena, a, b) {
@@ -97,7 +97,7 @@ fn meet_walks(
     requires first { IsGraph arena.old a }
     requires second { IsGraph arena.old b }
     ensures met { IfOk result (λ made. MatchOption made (NoneInBoth arena.old a b) (IsWalked arena.old a b arena.new)) }
-    ensures kept { Extends arena.old arena.new }
+    ensures extends { Extends arena.old arena.new }
 {
     arena.keeps_made();
     let height = arena.nodes(a);

@@ -5,7 +5,7 @@ ghost use Rattle.fill_arena.specs.declared.entry.Entry.{Entry};
 ghost use Rattle.fill_meet.specs.Memory.{IsRight, pair_eq};
 ghost use Rattle.fill_meet.specs.Sets.{AtomSetsMeet, PlaceSetsMeet, SourceSetsMeet};
 
-use crate::tried::{MOST_ANSWERS, Told, blanks, tell_places};
+use crate::verdicts::{MOST_ANSWERS, Verdict, blanks, tell_places};
 use fill_arena::{AtomSet, PlaceSet, SourceSet};
 use fill_text::NoMemory;
 use std::alloc::Global;
@@ -27,8 +27,8 @@ const MOST_COMMON: usize = 65_536;
 #[derive(Drop)]
 pub(crate) struct Memo {
     pub(crate) alloc: Global,
-    pub(crate) within: Vec<Option<Told<bool>>>,
-    pub(crate) places: Vec<Option<Told<Option<PlaceSet>>>>,
+    pub(crate) within: Vec<Option<Verdict<bool>>>,
+    pub(crate) places: Vec<Option<Verdict<Option<PlaceSet>>>>,
     pub(crate) sources: HashMap<(SourceSet, SourceSet), Option<SourceSet>>,
     pub(crate) atoms: HashMap<(AtomSet, AtomSet), Option<AtomSet>>,
 }
@@ -51,7 +51,14 @@ impl Memo {
     pub(crate) fn keep_places(&mut self, s: PlaceSet, t: PlaceSet, made: &Option<PlaceSet>)
         ensures { (c : List Entry) → IsRight c self.old → PlaceSetsMeet c s t made.now → IsRight c self.new }
     {
-        tell_places(self.places.as_mut_slice(), Told { s, t, told: *made });
+        tell_places(
+            self.places.as_mut_slice(),
+            Verdict {
+                s,
+                t,
+                verdict: *made,
+            },
+        );
     }
 
     /// Keeps what was found for the pair of sets of sources. Where there is no room for it, all such pairs are forgotten.

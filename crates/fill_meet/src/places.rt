@@ -10,7 +10,7 @@ ghost use Rattle.fill_meet.specs.Memory.{IsRight};
 ghost use Rattle.fill_meet.specs.Sets.{IsWithin, PlaceSetsMeet};
 
 use crate::memo::Memo;
-use crate::tried::told_places;
+use crate::verdicts::told_places;
 use crate::within::are_places_within;
 use fill_arena::{Arena, PlaceSet};
 use fill_text::{List, NoMemory};
@@ -28,7 +28,7 @@ pub(crate) fn meet_places(
     requires memo { IsRight arena.old memo.old }
     requires first { IsPlaceSet arena.old s }
     requires second { IsPlaceSet arena.old t }
-    ensures kept { Extends arena.old arena.new }
+    ensures extends { Extends arena.old arena.new }
     ensures memo { OnOk result (IsRight arena.new memo.new) }
     ensures met { IfOk result (PlaceSetsMeet arena.new s t) }
 {
@@ -56,7 +56,7 @@ fn make_places(
     requires memo { IsRight arena.old memo.old }
     requires first { IsPlaceSet arena.old s }
     requires second { IsPlaceSet arena.old t }
-    ensures kept { Extends arena.old arena.new }
+    ensures extends { Extends arena.old arena.new }
     ensures memo { IsRight arena.new memo.new }
     ensures met { IfOk result (PlaceSetsMeet arena.new s t) }
 {
@@ -135,7 +135,7 @@ fn intern_common(
 ) -> Result<Option<PlaceSet>, NoMemory>
     requires first { IsPlaceSet arena.old s }
     requires second { IsPlaceSet arena.old t }
-    ensures kept { Extends arena.old arena.new }
+    ensures extends { Extends arena.old arena.new }
     ensures met { IfOk result (PlaceSetsMeet arena.new s t) }
 {
     arena.keeps_made();

@@ -68,7 +68,7 @@ pub(crate) fn pair_edges(
     requires ordered { AreOrdered nodes tied.now.ties }
     requires sets { NameSets arena.old tied.now.ties }
     requires guide { IfSome tied.now.guide (IsGuide arena.old) }
-    ensures kept { Extends arena.old arena.new }
+    ensures extends { Extends arena.old arena.new }
     ensures product { (h w : ℕ) (xs ys : Listed Edge) → nodes ≡ h * w → AreTies arena.old w xs ys tied.now.ties → IfOk result (IsProduct arena.new h w xs ys) }
     ensures edges { IfOk result (AreEdges nodes) }
 {
@@ -124,7 +124,7 @@ fn join_ties(
     requires guide { IfSome guide.now (IsGuide arena.old) }
     requires ties { AreOrdered (length live.now) ties.now }
     requires sets { NameSets arena.old ties.now }
-    ensures kept { Extends arena.old arena.new }
+    ensures extends { Extends arena.old arena.new }
     ensures joined { IfOk result (AreJoined arena.new live.now ties.now) }
 {
     let mut memo = Memo::new(alloc, ties.len())?;
@@ -163,7 +163,7 @@ fn join(
     requires guide { IfSome guide.now (IsGuide arena.old) }
     requires first { IsAtomSet arena.old tie.left }
     requires second { IsAtomSet arena.old tie.right }
-    ensures kept { Extends arena.old arena.new }
+    ensures extends { Extends arena.old arena.new }
     ensures memo { OnOk result (IsRight arena.new memo.new) }
     ensures joined { OnOk result (IsJoinedTo arena.new tie edges.old edges.new) }
 {
@@ -191,7 +191,7 @@ fn edge_atoms(
     requires guide { IfSome guide.now (IsGuide arena.old) }
     requires first { IsAtomSet arena.old s }
     requires second { IsAtomSet arena.old t }
-    ensures kept { Extends arena.old arena.new }
+    ensures extends { Extends arena.old arena.new }
     ensures memo { OnOk result (IsRight arena.new memo.new) }
     ensures met { IfOk result (AtomSetsMeet arena.new s t) }
 {

@@ -1,5 +1,5 @@
 //! The sets of a graph that may have an atom in common with a given one.
-ghost use Rattle.std.specs.Prelude.{◌≡◌, ◌⊎◌, ◌≤◌, ◌<◌, ℕ, List, false, length, set, slice_get, IfOk, IfSome, None, OnOk, Some};
+ghost use Rattle.std.specs.Prelude.{◌≡◌, ◌⊎◌, ◌≤◌, ◌<◌, ℕ, List, false, length, set, IfOk, IfSome, None, OnOk, Some};
 ghost use Rattle.fill_arena.specs.Contents.{EachIn, In, IsAtomSet};
 ghost use Rattle.fill_arena.specs.WellMade.{IsAtomItem};
 ghost use Rattle.fill_arena.specs.declared.entry.Entry.{Entry};
@@ -8,29 +8,29 @@ ghost use Rattle.fill_meet.specs.Meet.{AreApart};
 ghost use Rattle.fill_meet.specs.Rows.{AreAlikeDone, AreDone, AreEndsDone, ArePiecesDone, AreRows, IsCovered, IsEntryDone, IsRow, IsSearch};
 ghost use Rattle.fill_meet.specs.Runs.{Grows};
 ghost use Rattle.fill_meet.specs.Sets.{AtomIn};
-ghost use Rattle.fill_meet.specs.Tried.{AreTried};
+ghost use Rattle.fill_meet.specs.Verdicts.{AreVerdicts};
 
 use crate::apart::sources_may_meet;
 use crate::index::{Index, WHOLE, hash_constant, hash_piece, item_at};
 use crate::mates::Mates;
 use crate::runs::{Run, Runs};
-use crate::tried::Tried;
+use crate::verdicts::Verdicts;
 use fill_arena::{Arena, AtomItem, AtomSet};
 use fill_text::NoMemory;
 use std::alloc::Global;
 
 /// The rows so far, and answers about sets of sources.
 #[derive(Drop)]
-pub(crate) struct Found {
+pub(crate) struct Findings {
     pub(crate) rows: Runs,
-    pub(crate) tried: Tried,
+    pub(crate) verdicts: Verdicts,
 }
 
 /// What was found so far, with the mates of sets of places.
 #[derive(Drop)]
 pub(crate) struct Search {
     pub(crate) mates: Mates,
-    pub(crate) found: Found,
+    pub(crate) findings: Findings,
 }
 
 /// An item whose row is looked for in the index, and the place from which on the row stands in the list of all rows.
@@ -47,9 +47,9 @@ impl Search {
     {
         let mates = Mates::new(alloc, index)?;
         let rows = Runs::new(alloc, index.labels.sets.len())?;
-        let tried = Tried::new(alloc, 0)?;
-        let found = Found { rows, tried };
-        Ok(Search { mates, found })
+        let verdicts = Verdicts::new(alloc, 0)?;
+        let findings = Findings { rows, verdicts };
+        Ok(Search { mates, findings })
     }
 
     /// The numbers of the sets that may have an atom in common with this one.
@@ -58,18 +58,18 @@ impl Search {
         requires set { IsAtomSet arena.now s }
         requires state { IsSearch arena.now index.now self.old }
         ensures state { OnOk result (IsSearch arena.now index.now self.new) }
-        ensures row { IfOk result (IsRow arena.now index.now.labels.sets.items self.new.found.rows.numbers.items s) }
-        ensures grown { OnOk result (Grows self.old.found.rows.numbers.items self.new.found.rows.numbers.items) }
+        ensures row { IfOk result (IsRow arena.now index.now.labels.sets.items self.new.findings.rows.numbers.items s) }
+        ensures grown { OnOk result (Grows self.old.findings.rows.numbers.items self.new.findings.rows.numbers.items) }
     {
         arena.keeps_made();
-        let start = self.found.rows.numbers.len();
+        let start = self.findings.rows.numbers.len();
         let items = arena.atoms(s);
         for i in 0..items.len() {
             put_item(arena, index, self, start, &items[i])?;
         }
         Ok(Run {
             start,
-            end: self.found.rows.numbers.len(),
+            end: self.findings.rows.numbers.len(),
         })
     }
 }
@@ -79,7 +79,7 @@ const MOST_ROWS: usize = 262_144;
 
 /// A set of the first graph, and its row.
 #[derive(Clone, Copy)]
-pub(crate) struct Known {
+pub(crate) struct Slot {
     pub(crate) set: AtomSet,
     pub(crate) row: Run,
 }
@@ -87,7 +87,7 @@ pub(crate) struct Known {
 /// Rows of sets of the first graph, each in the slot that its set's number tells. A row that gave way to another is found again.
 #[derive(Drop)]
 pub(crate) struct Rows {
-    pub(crate) known: Vec<Option<Known>>,
+    pub(crate) slots: Vec<Option<Slot>>,
     pub(crate) search: Search,
 }
 
@@ -97,7 +97,7 @@ impl Rows {
         ensures { IfOk result (λ rows. (c : List Entry) → AreRows c index.now rows) }
     {
         Ok(Rows {
-            known: no_rows(alloc, edges.min(MOST_ROWS))?,
+            slots: no_rows(alloc, edges.min(MOST_ROWS))?,
             search: Search::new(alloc, index)?,
         })
     }
@@ -113,52 +113,52 @@ impl Rows {
         requires set { IsAtomSet arena.now s }
         requires state { AreRows arena.now index.now self.old }
         ensures state { OnOk result (AreRows arena.now index.now self.new) }
-        ensures row { IfOk result (IsRow arena.now index.now.labels.sets.items self.new.search.found.rows.numbers.items s) }
+        ensures row { IfOk result (IsRow arena.now index.now.labels.sets.items self.new.search.findings.rows.numbers.items s) }
     {
-        if let Some(row) = told_row(self.known.as_slice(), s) {
+        if let Some(row) = told_row(self.slots.as_slice(), s) {
             return Ok(row);
         }
         let row = self.search.find_row(arena, index, s)?;
-        keep_row(self.known.as_mut_slice(), Known { set: s, row });
+        keep_row(self.slots.as_mut_slice(), Slot { set: s, row });
         Ok(row)
     }
 }
 
 /// Slots without a row.
 #[tactic(auto, using(crate::proofs::Trials::each_same))]
-fn no_rows(alloc: Global, count: usize) -> Result<Vec<Option<Known>>, NoMemory>
+fn no_rows(alloc: Global, count: usize) -> Result<Vec<Option<Slot>>, NoMemory>
     ensures { IfOk result (λ made. EachIn (λ r. r ≡ None) made.items) }
 {
-    let none: Option<Known> = None;
+    let none: Option<Slot> = None;
     let made = vec![in alloc; none; count]?;
     Ok(made)
 }
 
 /// The set's row, if its slot has that.
-fn told_row(known: &[Option<Known>], s: AtomSet) -> Option<Run>
-    ensures { IfSome result (λ row. In (Some (record { set = s; row = row })) known.now) }
+fn told_row(slots: &[Option<Slot>], s: AtomSet) -> Option<Run>
+    ensures { IfSome result (λ row. In (Some (record { set = s; row = row })) slots.now) }
 {
-    if known.len() == 0 {
+    if slots.len() == 0 {
         return None;
     }
-    let Some(told) = known[s.index() % known.len()] else {
+    let Some(slot) = slots[s.index() % slots.len()] else {
         return None;
     };
-    if told.set != s {
+    if slot.set != s {
         return None;
     }
-    Some(told.row)
+    Some(slot.row)
 }
 
 /// Keeps a set's row in its slot, in place of what stands there.
-fn keep_row(known: &mut [Option<Known>], told: Known)
-    ensures { (known.new ≡ known.old) ⊎ ((at : ℕ) × (known.new ≡ set known.old at (Some told))) }
+fn keep_row(slots: &mut [Option<Slot>], slot: Slot)
+    ensures { (slots.new ≡ slots.old) ⊎ ((at : ℕ) × (slots.new ≡ set slots.old at (Some slot))) }
 {
-    if known.len() == 0 {
+    if slots.len() == 0 {
         return;
     }
-    let at = told.set.index() % known.len();
-    known[at] = Some(told);
+    let at = slot.set.index() % slots.len();
+    slots[at] = Some(slot);
 }
 
 /// Puts the sets that may have an atom in common with the item.
@@ -171,23 +171,23 @@ fn put_item(
 ) -> Result<(), NoMemory>
     requires index { IsSomeIndex arena.now index.now }
     requires item { (n : ℕ) × IsAtomItem arena.now n x.now }
-    requires start { start ≤ length search.old.found.rows.numbers.items }
+    requires start { start ≤ length search.old.findings.rows.numbers.items }
     requires state { IsSearch arena.now index.now search.old }
     ensures state { OnOk result (IsSearch arena.now index.now search.new) }
-    ensures grown { OnOk result (Grows search.old.found.rows.numbers.items search.new.found.rows.numbers.items) }
-    ensures done { OnOk result (AreDone arena.now index.now.labels.sets.items (IsCovered arena.now search.new.found.rows.numbers.items start x.now)) }
+    ensures grown { OnOk result (Grows search.old.findings.rows.numbers.items search.new.findings.rows.numbers.items) }
+    ensures done { OnOk result (AreDone arena.now index.now.labels.sets.items (IsCovered arena.now search.new.findings.rows.numbers.items start x.now)) }
 {
     let ask = Ask { index, x, start };
     match x {
         AtomItem::Const(text) => {
-            put_alike(arena, ask, &mut search.found, hash_constant(text.len()))
+            put_alike(arena, ask, &mut search.findings, hash_constant(text.len()))
         }
-        AtomItem::Whole(_) => put_alike(arena, ask, &mut search.found, WHOLE),
+        AtomItem::Whole(_) => put_alike(arena, ask, &mut search.findings, WHOLE),
         AtomItem::Sub(_, lefts, rights) => {
             let begins = search.mates.find(arena, index, *lefts)?;
             let ends = search.mates.find(arena, index, *rights)?;
             let numbers = search.mates.lists.numbers.as_slice();
-            put_pieces(arena, ask, &mut search.found, numbers, begins, ends)
+            put_pieces(arena, ask, &mut search.findings, numbers, begins, ends)
         }
     }
 }
@@ -196,23 +196,23 @@ fn put_item(
 fn put_pieces(
     arena: &Arena,
     ask: Ask<'_>,
-    found: &mut Found,
+    findings: &mut Findings,
     numbers: &[usize],
     begins: Run,
     ends: Run,
 ) -> Result<(), NoMemory>
     requires index { IsSomeIndex arena.now ask.index.now }
     requires item { (n : ℕ) × IsAtomItem arena.now n ask.x.now }
-    requires start { ask.start ≤ length found.old.rows.numbers.items }
+    requires start { ask.start ≤ length findings.old.rows.numbers.items }
     requires begins { begins.end ≤ length numbers.now }
     requires ends { ends.end ≤ length numbers.now }
-    requires tried { AreTried arena.now found.old.tried }
-    ensures tried { OnOk result (AreTried arena.now found.new.tried) }
-    ensures grown { OnOk result (Grows found.old.rows.numbers.items found.new.rows.numbers.items) }
-    ensures done { OnOk result (ArePiecesDone arena.now ask.entry.index.now (IsCovered arena.now found.new.rows.numbers.items ask.entry.start ask.entry.x.now) numbers.now begins ends) }
+    requires verdicts { AreVerdicts arena.now findings.old.verdicts }
+    ensures verdicts { OnOk result (AreVerdicts arena.now findings.new.verdicts) }
+    ensures grown { OnOk result (Grows findings.old.rows.numbers.items findings.new.rows.numbers.items) }
+    ensures done { OnOk result (ArePiecesDone arena.now ask.entry.index.now (IsCovered arena.now findings.new.rows.numbers.items ask.entry.start ask.entry.x.now) numbers.now begins ends) }
 {
     for k in begins.start..begins.end {
-        put_ends(arena, ask, found, numbers, numbers[k], ends)?;
+        put_ends(arena, ask, findings, numbers, numbers[k], ends)?;
     }
     Ok(())
 }
@@ -221,40 +221,45 @@ fn put_pieces(
 fn put_ends(
     arena: &Arena,
     ask: Ask<'_>,
-    found: &mut Found,
+    findings: &mut Findings,
     numbers: &[usize],
     left: usize,
     ends: Run,
 ) -> Result<(), NoMemory>
     requires index { IsSomeIndex arena.now ask.index.now }
     requires item { (n : ℕ) × IsAtomItem arena.now n ask.x.now }
-    requires start { ask.start ≤ length found.old.rows.numbers.items }
+    requires start { ask.start ≤ length findings.old.rows.numbers.items }
     requires ends { ends.end ≤ length numbers.now }
-    requires tried { AreTried arena.now found.old.tried }
-    ensures tried { OnOk result (AreTried arena.now found.new.tried) }
-    ensures grown { OnOk result (Grows found.old.rows.numbers.items found.new.rows.numbers.items) }
-    ensures done { OnOk result (AreEndsDone arena.now ask.entry.index.now (IsCovered arena.now found.new.rows.numbers.items ask.entry.start ask.entry.x.now) numbers.now left ends.start ends.end) }
+    requires verdicts { AreVerdicts arena.now findings.old.verdicts }
+    ensures verdicts { OnOk result (AreVerdicts arena.now findings.new.verdicts) }
+    ensures grown { OnOk result (Grows findings.old.rows.numbers.items findings.new.rows.numbers.items) }
+    ensures done { OnOk result (AreEndsDone arena.now ask.entry.index.now (IsCovered arena.now findings.new.rows.numbers.items ask.entry.start ask.entry.x.now) numbers.now left ends.start ends.end) }
 {
     for k in ends.start..ends.end {
-        put_alike(arena, ask, found, hash_piece(left, numbers[k]))?;
+        put_alike(arena, ask, findings, hash_piece(left, numbers[k]))?;
     }
     Ok(())
 }
 
 /// Puts the sets of the items of this hash that may have an atom in common with the given one.
-fn put_alike(arena: &Arena, ask: Ask<'_>, found: &mut Found, hash: u64) -> Result<(), NoMemory>
+fn put_alike(
+    arena: &Arena,
+    ask: Ask<'_>,
+    findings: &mut Findings,
+    hash: u64,
+) -> Result<(), NoMemory>
     requires index { IsSomeIndex arena.now ask.index.now }
     requires item { (n : ℕ) × IsAtomItem arena.now n ask.x.now }
-    requires start { ask.start ≤ length found.old.rows.numbers.items }
-    requires tried { AreTried arena.now found.old.tried }
-    ensures tried { OnOk result (AreTried arena.now found.new.tried) }
-    ensures grown { OnOk result (Grows found.old.rows.numbers.items found.new.rows.numbers.items) }
-    ensures done { OnOk result (AreAlikeDone arena.now ask.entry.index.now (IsCovered arena.now found.new.rows.numbers.items ask.entry.start ask.entry.x.now) hash) }
+    requires start { ask.start ≤ length findings.old.rows.numbers.items }
+    requires verdicts { AreVerdicts arena.now findings.old.verdicts }
+    ensures verdicts { OnOk result (AreVerdicts arena.now findings.new.verdicts) }
+    ensures grown { OnOk result (Grows findings.old.rows.numbers.items findings.new.rows.numbers.items) }
+    ensures done { OnOk result (AreAlikeDone arena.now ask.entry.index.now (IsCovered arena.now findings.new.rows.numbers.items ask.entry.start ask.entry.x.now) hash) }
 {
     let groups = &ask.index.groups;
     let mut e = groups.first_of(hash);
     while e < ask.index.items.len() {
-        put_entry(arena, ask, found, e, hash)?;
+        put_entry(arena, ask, findings, e, hash)?;
         e = groups.next(e);
     }
     Ok(())
@@ -264,47 +269,47 @@ fn put_alike(arena: &Arena, ask: Ask<'_>, found: &mut Found, hash: u64) -> Resul
 fn put_entry(
     arena: &Arena,
     ask: Ask<'_>,
-    found: &mut Found,
+    findings: &mut Findings,
     e: usize,
     hash: u64,
 ) -> Result<(), NoMemory>
     requires index { IsSomeIndex arena.now ask.index.now }
     requires within { e < length ask.index.now.items.items }
     requires item { (n : ℕ) × IsAtomItem arena.now n ask.x.now }
-    requires start { ask.start ≤ length found.old.rows.numbers.items }
-    requires tried { AreTried arena.now found.old.tried }
-    ensures tried { OnOk result (AreTried arena.now found.new.tried) }
-    ensures grown { OnOk result (Grows found.old.rows.numbers.items found.new.rows.numbers.items) }
-    ensures done { OnOk result (IsEntryDone arena.now ask.entry.index.now (IsCovered arena.now found.new.rows.numbers.items ask.entry.start ask.entry.x.now) hash e) }
+    requires start { ask.start ≤ length findings.old.rows.numbers.items }
+    requires verdicts { AreVerdicts arena.now findings.old.verdicts }
+    ensures verdicts { OnOk result (AreVerdicts arena.now findings.new.verdicts) }
+    ensures grown { OnOk result (Grows findings.old.rows.numbers.items findings.new.rows.numbers.items) }
+    ensures done { OnOk result (IsEntryDone arena.now ask.entry.index.now (IsCovered arena.now findings.new.rows.numbers.items ask.entry.start ask.entry.x.now) hash e) }
 {
     let item = ask.index.items[e];
     if item.hash != hash {
         return Ok(());
     }
-    if found.rows.has(ask.start, item.set) {
+    if findings.rows.has(ask.start, item.set) {
         return Ok(());
     }
     arena.keeps_made();
     let y = item_at(arena, ask.index, e);
-    if !may_meet(arena, &mut found.tried, ask.x, y) {
+    if !may_meet(arena, &mut findings.verdicts, ask.x, y) {
         return Ok(());
     }
-    found.rows.put(ask.start, item.set)
+    findings.rows.put(ask.start, item.set)
 }
 
 /// Whether some atom may be of both items, whose places are not looked at.
-fn may_meet(arena: &Arena, tried: &mut Tried, x: &AtomItem, y: &AtomItem) -> bool
+fn may_meet(arena: &Arena, verdicts: &mut Verdicts, x: &AtomItem, y: &AtomItem) -> bool
     requires first { (n : ℕ) × IsAtomItem arena.now n x.now }
     requires second { (n : ℕ) × IsAtomItem arena.now n y.now }
-    requires tried { AreTried arena.now tried.old }
-    ensures tried { AreTried arena.now tried.new }
+    requires verdicts { AreVerdicts arena.now verdicts.old }
+    ensures verdicts { AreVerdicts arena.now verdicts.new }
     ensures apart { result ≡ false → AreApart AtomIn arena.now x.now y.now }
 {
     match (x, y) {
         (AtomItem::Const(u), AtomItem::Const(v)) => u.same(v),
-        (AtomItem::Whole(s), AtomItem::Whole(t)) => sources_may_meet(arena, tried, *s, *t),
+        (AtomItem::Whole(s), AtomItem::Whole(t)) => sources_may_meet(arena, verdicts, *s, *t),
         (AtomItem::Sub(s, _, _), AtomItem::Sub(t, _, _)) => {
-            sources_may_meet(arena, tried, *s, *t)
+            sources_may_meet(arena, verdicts, *s, *t)
         }
         _ => false,
     }

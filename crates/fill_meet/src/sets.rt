@@ -27,7 +27,7 @@ pub(crate) fn meet_atoms(
     requires memo { IsRight arena.old memo.old }
     requires first { IsAtomSet arena.old s }
     requires second { IsAtomSet arena.old t }
-    ensures kept { Extends arena.old arena.new }
+    ensures extends { Extends arena.old arena.new }
     ensures memo { OnOk result (IsRight arena.new memo.new) }
     ensures met { IfOk result (AtomSetsMeet arena.new s t) }
 {
@@ -54,7 +54,7 @@ pub(crate) fn make_atoms(
     requires memo { IsRight arena.old memo.old }
     requires first { IsAtomSet arena.old s }
     requires second { IsAtomSet arena.old t }
-    ensures kept { Extends arena.old arena.new }
+    ensures extends { Extends arena.old arena.new }
     ensures memo { OnOk result (IsRight arena.new memo.new) }
     ensures met { IfOk result (AtomSetsMeet arena.new s t) }
 {
@@ -85,7 +85,7 @@ pub(crate) fn meet_atom_row(
     requires memo { IsRight arena.old memo.old }
     requires within { HasItem arena.old s i }
     requires paired { ArePaired arena.old s t i 0 zs.old }
-    ensures kept { Extends arena.old arena.new }
+    ensures extends { Extends arena.old arena.new }
     ensures memo { OnOk result (IsRight arena.new memo.new) }
     ensures paired { OnOk result (ArePaired arena.new s t (i + 1) 0 zs.new) }
 {
@@ -109,7 +109,7 @@ pub(crate) fn meet_atom_items(
     requires memo { IsRight arena.old memo.old }
     requires first { HasItem arena.old s i }
     requires second { HasItem arena.old t j }
-    ensures kept { Extends arena.old arena.new }
+    ensures extends { Extends arena.old arena.new }
     ensures memo { OnOk result (IsRight arena.new memo.new) }
     ensures met { IfOk result (ItemsAtMeet arena.new s i t j) }
 {
@@ -168,7 +168,7 @@ fn meet_sources(
     requires memo { IsRight arena.old memo.old }
     requires first { IsSourceSet arena.old s }
     requires second { IsSourceSet arena.old t }
-    ensures kept { Extends arena.old arena.new }
+    ensures extends { Extends arena.old arena.new }
     ensures memo { OnOk result (IsRight arena.new memo.new) }
     ensures met { IfOk result (SourceSetsMeet arena.new s t) }
 {
@@ -194,7 +194,7 @@ fn make_sources(
     requires memo { IsRight arena.old memo.old }
     requires first { IsSourceSet arena.old s }
     requires second { IsSourceSet arena.old t }
-    ensures kept { Extends arena.old arena.new }
+    ensures extends { Extends arena.old arena.new }
     ensures memo { OnOk result (IsRight arena.new memo.new) }
     ensures met { IfOk result (SourceSetsMeet arena.new s t) }
 {
@@ -228,7 +228,7 @@ fn meet_source_row(
     requires memo { IsRight arena.old memo.old }
     requires within { i < length xs.now }
     requires pairs { PairsState SourceIn NamesOlder arena.old of xs.now ys.now i 0 zs.old }
-    ensures kept { Extends arena.old arena.new }
+    ensures extends { Extends arena.old arena.new }
     ensures memo { OnOk result (IsRight arena.new memo.new) }
     ensures pairs { OnOk result (PairsState SourceIn NamesOlder arena.new of xs.now ys.now (i + 1) 0 zs.new) }
 {
@@ -251,7 +251,7 @@ fn meet_source_items(
     requires memo { IsRight arena.old memo.old }
     requires first { NamesOlder arena.old of x.now }
     requires second { (n : ℕ) × NamesOlder arena.old n y.now }
-    ensures kept { Extends arena.old arena.new }
+    ensures extends { Extends arena.old arena.new }
     ensures memo { OnOk result (IsRight arena.new memo.new) }
     ensures met { IfOk result (SourceItemsMeet arena.new x.now y.now) }
 {
@@ -285,7 +285,7 @@ fn meet_selects(
     requires memo { IsRight arena.old memo.old }
     requires first { AreConditions arena.old of x.now.conditions }
     requires second { (n : ℕ) × AreConditions arena.old n y.now.conditions }
-    ensures kept { Extends arena.old arena.new }
+    ensures extends { Extends arena.old arena.new }
     ensures memo { OnOk result (IsRight arena.new memo.new) }
     ensures met { IfOk result (SelectsMeet arena.new x.now y.now) }
 {
@@ -325,7 +325,7 @@ fn meet_conditions(
     requires first { EachIn (IsConditionItem arena.old of) xs.now }
     requires second { (n : ℕ) × EachIn (IsConditionItem arena.old n) ys.now }
     requires long { length xs.now ≡ length ys.now }
-    ensures kept { Extends arena.old arena.new }
+    ensures extends { Extends arena.old arena.new }
     ensures memo { OnOk result (IsRight arena.new memo.new) }
     ensures long { IfOk result (λ zs. length zs ≡ length xs.now) }
     ensures met { IfOk result (RowsMeet arena.new xs.now ys.now) }
@@ -349,7 +349,7 @@ fn meet_condition(
     requires memo { IsRight arena.old memo.old }
     requires first { IsConditionItem arena.old of x.now }
     requires second { (n : ℕ) × IsConditionItem arena.old n y.now }
-    ensures kept { Extends arena.old arena.new }
+    ensures extends { Extends arena.old arena.new }
     ensures memo { OnOk result (IsRight arena.new memo.new) }
     ensures met { IfOk result (ConditionsMeet arena.new x.now y.now) }
 {
@@ -370,7 +370,7 @@ fn meet_parts(
     requires memo { IsRight arena.old memo.old }
     requires first { IfSome x (OlderAtoms arena.old of) }
     requires second { (n : ℕ) × IfSome y (OlderAtoms arena.old n) }
-    ensures kept { Extends arena.old arena.new }
+    ensures extends { Extends arena.old arena.new }
     ensures memo { OnOk result (IsRight arena.new memo.new) }
     ensures met { IfOk result (PartsMeet arena.new x y) }
 {

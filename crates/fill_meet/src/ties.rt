@@ -1,6 +1,5 @@
 //! The pairs of edges that may have an atom in common.
 ghost use Rattle.std.specs.Prelude.{◌≡◌, ◌<◌, ◌≤◌, ◌+◌, ◌*◌, ◌^◌, ℕ, List, length, IfOk, OnOk};
-ghost use Rattle.fill_arena.specs.Contents.{EachIn, IsAtomSet};
 ghost use Rattle.fill_arena.specs.declared.entry.Entry.{Entry};
 ghost use Rattle.fill_trim.specs.Trim.{AreEdges};
 ghost use Rattle.fill_meet.specs.Bits.{HasRoom, IsPlace};
@@ -108,7 +107,7 @@ fn tie_edge(
         return Ok(());
     }
     let row = net.rows.row_of(arena, index, edge.atoms)?;
-    let numbers = net.rows.search.found.rows.numbers.as_slice();
+    let numbers = net.rows.search.findings.rows.numbers.as_slice();
     tie_row(index, graphs, k, numbers, row, &mut net.sweep)
 }
 

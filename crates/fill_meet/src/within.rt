@@ -7,7 +7,7 @@ ghost use Rattle.fill_meet.specs.Sets.{AreAtomsMet, IsItemWithin, IsWithin};
 
 use crate::memo::Memo;
 use crate::places::is_within;
-use crate::tried::{Told, tell_places, told_places};
+use crate::verdicts::{Verdict, tell_places, told_places};
 use fill_arena::{Arena, AtomItem, AtomSet, PlaceSet};
 
 /// Whether the first set has nothing but what stands in the second one, so that it is what they have in common. Where it
@@ -89,6 +89,13 @@ pub(crate) fn are_places_within(arena: &Arena, memo: &mut Memo, s: PlaceSet, t: 
         return within;
     }
     let within = is_within(arena, s, t);
-    tell_places(memo.within.as_mut_slice(), Told { s, t, told: within });
+    tell_places(
+        memo.within.as_mut_slice(),
+        Verdict {
+            s,
+            t,
+            verdict: within,
+        },
+    );
     within
 }

@@ -33,14 +33,14 @@ module _ {E : Type 0} (serves : E → E → Type 0) (old : List E) (next : E) wh
   pub pushed : Takes serves old next (old ++ next ∷ [])
   pushed = record {
     from = λ n x h. elim (get_pushed old next n x h) [ inl a ↦ inl (n, a.1) | inr b ↦ inr (sym b.1) ];
-    kept = λ n y h. (y, (n, get_left old (next ∷ []) n (slice_get_within old n y h) ∙ h), inl refl);
+    covers = λ n y h. (y, (n, get_left old (next ∷ []) n (slice_get_within old n y h) ∙ h), inl refl);
     there = (next, (length old, get_last old next), inl refl);
   }
 
   pub not_taken : (i : ℕ) (x : E) → slice_get old i ≡ Some x → serves x next → Takes serves old next old
   not_taken i x at h = record {
     from = λ n y there. inl (n, there);
-    kept = λ n y there. (y, (n, there), inl refl);
+    covers = λ n y there. (y, (n, there), inl refl);
     there = (x, (i, at), inr h);
   }
 
@@ -54,7 +54,7 @@ module _ {E : Type 0} (serves : E → E → Type 0) (old : List E) (next : E) wh
           inr one
       | inr apart ↦ inl (n, sym (set_apart old i next n apart) ∙ there)
     ];
-    kept = λ n y there. elim (cases_eq n i) [
+    covers = λ n y there. elim (cases_eq n i) [
       | inl same ↦
           let moved : slice_get old i ≡ Some y = subst (λ m. slice_get old m ≡ Some y) same there in
           let one : x ≡ y = cc in
@@ -72,7 +72,7 @@ module _ {E A : Type 0} (k : Kind E A) (law : Laws k) where
   pub gains_none : (Q : A → Type 0) → ((a : A) → ¬ (Q a)) → (xs : List E) → Gains k Q xs xs
   gains_none Q none xs = record {
     from = λ n x h. inl (n, h);
-    kept = λ n y h. (y, (n, h), law.itself y);
+    covers = λ n y h. (y, (n, h), law.itself y);
     there = λ a q. absurd (none a q);
   }
 
@@ -80,7 +80,7 @@ module _ {E A : Type 0} (k : Kind E A) (law : Laws k) where
   pub gains_take : (Q : A → Type 0) (old new : List E) (x : E) → Takes k.Like old x new → Q (k.tree x) → k.Right x → ((a : A) → Q a → k.For a x) → Gains k Q old new
   gains_take Q old new x takes has right all = record {
     from = λ n y h. elim (takes.from n y h) [ inl there ↦ inl there | inr same ↦ inr (subst (λ z. Q (k.tree z) × k.Right z) (sym same) (has, right)) ];
-    kept = λ n y h. let there = takes.kept n y h in (there.0, there.1, like_of there.0 y there.2);
+    covers = λ n y h. let there = takes.covers n y h in (there.0, there.1, like_of there.0 y there.2);
     there = λ a q. let there = takes.there in (there.0, there.1, law.on there.0 x a (like_of there.0 x there.2) (all a q));
   }
 
@@ -92,14 +92,14 @@ module _ {E A : Type 0} (k : Kind E A) (law : Laws k) where
       | inl there ↦ elim (first.from there.0 x there.1) [ inl before ↦ inl before | inr p ↦ inr (left (k.tree x) p.0, p.1) ]
       | inr q ↦ inr (right (k.tree x) q.0, q.1)
     ];
-    kept = λ n y h.
-        let one = first.kept n y h in
-        let two = second.kept one.1.0 one.0 one.1.1 in
+    covers = λ n y h.
+        let one = first.covers n y h in
+        let two = second.covers one.1.0 one.0 one.1.1 in
         (two.0, two.1, law.then two.0 one.0 y two.2 one.2);
     there = λ a s. elim (split a s) [
       | inl p ↦
           let one = first.there a p in
-          let two = second.kept one.1.0 one.0 one.1.1 in
+          let two = second.covers one.1.0 one.0 one.1.1 in
           (two.0, two.1, law.on two.0 one.0 a two.2 one.2)
       | inr q ↦ second.there a q
     ];
@@ -110,7 +110,7 @@ module _ {E A : Type 0} (k : Kind E A) (law : Laws k) where
       (old new : List E) → Gains k P old new → Gains k S old new
   gains_through P S from to old new gains = record {
     from = λ n x h. elim (gains.from n x h) [ inl there ↦ inl there | inr p ↦ inr (from (k.tree x) p.0, p.1) ];
-    kept = gains.kept;
+    covers = gains.covers;
     there = λ a s. let b = to a s in let x = gains.there b.0 b.1 in (x.0, x.1, b.2 x.0 x.2);
   }
 
@@ -141,7 +141,7 @@ module _ {E A : Type 0} (k : Kind E A) (law : Laws k) where
     least = λ a s. elim (split a s) [
       | inl p ↦
           let one = first.least a p in
-          let two = second.kept one.1.0 one.0 one.1.1 in
+          let two = second.covers one.1.0 one.0 one.1.1 in
           (two.0, two.1, law.on two.0 one.0 a two.2 one.2)
       | inr q ↦ second.there a q
     ];

@@ -37,8 +37,8 @@ source-itself : (prices : Prices) (x : SourceTree) → AtMost (source_rank price
 source-itself prices x = at_most-itself (source_rank prices) (source_rank-total prices) (source_rank-exact prices) x
 
 module _ (on : OnRow) where
-  abbrev Is : SourceTree → List ℕ → Type 0
-  Is x = SourceIs on.sheet.now on.tables.now on.row x
+  abbrev SourceGives : SourceTree → List ℕ → Type 0
+  SourceGives x = SourceIs on.sheet.now on.tables.now on.row x
 
   -- wholes of sources
   module _ (s : ℕ) (sources : List ValuedSource) (are : AreLeasts (sources_on on) (SourceStands on.arena.now s) sources) where
@@ -52,10 +52,10 @@ module _ (on : OnRow) where
         let found = are.least y h.1 in
         let x = found.0 in
         let right = (are.each found.1.0 x found.1.1).1 in
-        let same = same_value (Is (source_tree x.source)) (Is y) x.text right found.2.1 in (
+        let same = same_value (SourceGives (source_tree x.source)) (SourceGives y) x.text right found.2.1 in (
           whole (source_tree x.source),
           (x, found.1, refl),
-          atom_for on (whole y) (whole (source_tree x.source)) (whole-at_most on.prices.now (source_tree x.source) y found.2.0) (whole_alike (Is (source_tree x.source)) (Is y) same),
+          atom_for on (whole y) (whole (source_tree x.source)) (whole-at_most on.prices.now (source_tree x.source) y found.2.0) (whole_alike (SourceGives (source_tree x.source)) (SourceGives y) same),
         )
     fits_whole (sub y p q) h = absurd h.1
 
@@ -74,11 +74,11 @@ module _ (on : OnRow) where
           let found = are.least y h.1.0 in
           let x = found.0 in
           let right = (are.each found.1.0 x found.1.1).1 in
-          let same = same_value (Is (source_tree x.source)) (Is y) x.text right found.2.1 in (
+          let same = same_value (SourceGives (source_tree x.source)) (SourceGives y) x.text right found.2.1 in (
             sub (source_tree x.source) p q,
             (x, found.1, (refl, h.1.1, h.1.2)),
             atom_for on (sub y p q) (sub (source_tree x.source) p q) (sub-at_most on.prices.now (source_tree x.source) y p q p q found.2.0 (place-itself on.prices.now p) (place-itself on.prices.now q))
-                (piece_alike (Is (source_tree x.source)) (Is y) same p q),
+                (piece_alike (SourceGives (source_tree x.source)) (SourceGives y) same p q),
           )
 
   -- pieces of one source
@@ -100,7 +100,7 @@ module _ (on : OnRow) where
         let same_left = same_value (HasValue left.0.place (text_or_empty o)) (HasValue p (text_or_empty o)) left.0.at (from.each left.1.0 left.0 left.1.1).1 left.2.1 in
         let same_right = same_value (HasValue right.0.place (text_or_empty o)) (HasValue q (text_or_empty o)) right.0.at (to.each right.1.0 right.0 right.1.1).1 right.2.1 in
         let served = atom_for on (sub x p q) (sub x left.0.place right.0.place) (sub-at_most on.prices.now x x left.0.place right.0.place p q (source-itself on.prices.now x) left.2.0 right.2.0)
-        (places_alike (Is x) o is left.0.place right.0.place p q same_left same_right) in (
+        (places_alike (SourceGives x) o is left.0.place right.0.place p q same_left same_right) in (
           sub x left.0.place right.0.place,
           (left.0, left.1, (right.0, right.1, refl)),
           subst (λ z. (v : ValuedAtom) → (atoms_on on).For (sub x left.0.place right.0.place) v → (atoms_on on).For (sub z p q) v) (sym h.0) served,

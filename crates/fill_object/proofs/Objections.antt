@@ -37,16 +37,16 @@ not_before : (o q : Ordering) → q ≡ ordering_reverse o → AtMost o → ¬ (
 not_before o q e (inl h) less = cc
 not_before o q e (inr h) less = cc
 
-module _ (on : OnRow) (g nodes : ℕ) (edges : List Edge) (told : Option (List ℕ)) (said : List ℕ) (w : Wanted) (is : slice_get on.arena.now g ≡ Some (Graph nodes edges))
-    (first : w ≡ wanted_first told) (chars : said ≡ text_or_empty told) where
+module _ (on : OnRow) (g nodes : ℕ) (edges : List Edge) (told : Option (List ℕ)) (answer : List ℕ) (w : Wanted) (is : slice_get on.arena.now g ≡ Some (Graph nodes edges))
+    (first : w ≡ wanted_first told) (chars : answer ≡ text_or_empty told) where
   abbrev Value : Atoms → List ℕ → Type 0
   Value p = ProgramIs on.sheet.now on.tables.now on.row p
 
-  answers_of : (p : Atoms) → RestAgrees on said w p → Answers on.sheet.now on.tables.now on.row told p
-  answers_of p h = agrees_first (Value p) told (subst (λ t. Agrees t (wanted_first told) (Value p)) chars (subst (λ v. Agrees said v (Value p)) first h))
+  answers_of : (p : Atoms) → RestAgrees on answer w p → Answers on.sheet.now on.tables.now on.row told p
+  answers_of p h = agrees_first (Value p) told (subst (λ t. Agrees t (wanted_first told) (Value p)) chars (subst (λ v. Agrees answer v (Value p)) first h))
 
-  agrees_of : (p : Atoms) → Answers on.sheet.now on.tables.now on.row told p → RestAgrees on said w p
-  agrees_of p h = subst (λ v. Agrees said v (Value p)) (sym first) (subst (λ t. Agrees t (wanted_first told) (Value p)) (sym chars) (first_agrees (Value p) told h))
+  agrees_of : (p : Atoms) → Answers on.sheet.now on.tables.now on.row told p → RestAgrees on answer w p
+  agrees_of p h = subst (λ v. Agrees answer v (Value p)) (sym first) (subst (λ t. Agrees t (wanted_first told) (Value p)) (sym chars) (first_agrees (Value p) told h))
 
   walk_of : (p : Atoms) → ProgramStands on.arena.now g p → Walks p on.arena.now edges (nodes - 1) 0
   walk_of p h =
@@ -58,14 +58,14 @@ module _ (on : OnRow) (g nodes : ℕ) (edges : List Edge) (told : Option (List �
   stands_of : (p : Atoms) → Walks p on.arena.now edges (nodes - 1) 0 → ProgramStands on.arena.now g p
   stands_of p walk = (nodes, edges, is, walk)
 
-  abbrev Rests : Atoms → Type 0
-  Rests p = Walks p on.arena.now edges (nodes - 1) 0
+  abbrev FirstWalks : Atoms → Type 0
+  FirstWalks p = Walks p on.arena.now edges (nodes - 1) 0
 
   abbrev Answered : Atoms → Type 0
   Answered p = Answers on.sheet.now on.tables.now on.row told p
 
   -- what holds of the rests from the first node on holds of the graph's programs
-  pub of_programs : (limit : ℕ) (o : Least) → IsLeastWithin on.prices.now limit (λ p. Walks p on.arena.now edges (nodes - 1) 0) (RestAgrees on said w) o →
+  pub of_programs : (limit : ℕ) (o : Least) → IsLeastWithin on.prices.now limit (λ p. Walks p on.arena.now edges (nodes - 1) 0) (RestAgrees on answer w) o →
       IsLeastWithin on.prices.now limit (ProgramStands on.arena.now g) (Answers on.sheet.now on.tables.now on.row told) o
   of_programs limit Absent h = λ p stands few. answers_of p (h p (walk_of p stands) few)
   of_programs limit Dearer h =

@@ -36,7 +36,7 @@ use Rattle.fill_object.proofs.Within.{copied_found, copied_within, no_dearer, pr
 -- the least of a set's atoms by their texts before rests
 module _ (s : Search) (limit : ℕ) (w : Wanted) (T : Atoms → Type 0) (b : ℕ) (xs : List ValuedAtom) (are : AreLeasts (atoms_on s.on) (AtomStands s.on.arena.now b) xs) where
   abbrev AsSaid : Atoms → Type 0
-  AsSaid = RestAgrees s.on s.said.now w
+  AsSaid = RestAgrees s.on s.answer.now w
 
   along_from : (p : Atoms) → SomeIn (λ x. IsThen (λ a. a ≡ atom_tree x.atom) T p) xs → IsThen (AtomStands s.on.arena.now b) T p
   along_from end h = absurd h.2
@@ -56,7 +56,7 @@ module _ (s : Search) (limit : ℕ) (w : Wanted) (T : Atoms → Type 0) (b : ℕ
         more (atom_tree x.atom) q,
         (x, found.1, (refl, h.1)),
         program-at_most s.on.prices.now own a q q found.2.0 (program-itself s.on.prices.now q),
-        agrees_alike s.said.now w _ _ (joined_alike First Second Rest (same_value First Second x.text right found.2.1)),
+        agrees_alike s.answer.now w _ _ (joined_alike First Second Rest (same_value First Second x.text right found.2.1)),
       )
 
   pub along_all : (o : Least) → IsLeastWithin s.on.prices.now limit (λ p. SomeIn (λ x. IsThen (λ a. a ≡ atom_tree x.atom) T p) xs) AsSaid o → IsLeastWithin s.on.prices.now limit (IsThen (AtomStands s.on.arena.now b) T) AsSaid o
@@ -65,14 +65,14 @@ module _ (s : Search) (limit : ℕ) (w : Wanted) (T : Atoms → Type 0) (b : ℕ
 -- along one edge from the node
 module _ (s : Search) (n : ℕ) (e : Edge) (limit : ℕ) (w : Wanted) (from : e.from ≡ n) where
   pub along_done : (xs : List ValuedAtom) → AreLeasts (atoms_on s.on) (AtomStands s.on.arena.now e.atoms) xs → (o : Least) →
-      IsLeastWithin s.on.prices.now limit (λ p. SomeIn (λ x. IsThen (λ a. a ≡ atom_tree x.atom) (RestStands s e.to) p) xs) (RestAgrees s.on s.said.now w) o →
-      IsLeastWithin s.on.prices.now limit (IsAlong s n e) (RestAgrees s.on s.said.now w) o
+      IsLeastWithin s.on.prices.now limit (λ p. SomeIn (λ x. IsThen (λ a. a ≡ atom_tree x.atom) (RestStands s e.to) p) xs) (RestAgrees s.on s.answer.now w) o →
+      IsLeastWithin s.on.prices.now limit (IsAlong s n e) (RestAgrees s.on s.answer.now w) o
   along_done xs are o h =
-      within_same s.on.prices.now limit (IsThen (AtomStands s.on.arena.now e.atoms) (RestStands s e.to)) (IsAlong s n e) (RestAgrees s.on s.said.now w) (λ p t. (from, t)) (λ p t. t.1) o
+      within_same s.on.prices.now limit (IsThen (AtomStands s.on.arena.now e.atoms) (RestStands s e.to)) (IsAlong s n e) (RestAgrees s.on s.answer.now w) (λ p t. (from, t)) (λ p t. t.1) o
       (along_all s limit w (RestStands s e.to) e.atoms xs are o h)
 
 -- an edge that is no edge from the node
-pub along_other : (s : Search) (n : ℕ) (e : Edge) (limit : ℕ) (w : Wanted) → ¬ (e.from ≡ n) → IsLeastWithin s.on.prices.now limit (IsAlong s n e) (RestAgrees s.on s.said.now w) Absent
+pub along_other : (s : Search) (n : ℕ) (e : Edge) (limit : ℕ) (w : Wanted) → ¬ (e.from ≡ n) → IsLeastWithin s.on.prices.now limit (IsAlong s n e) (RestAgrees s.on s.answer.now w) Absent
 along_other s n e limit w apart p h few = absurd (apart h.0)
 
 -- an edge along which all is dearer
@@ -85,12 +85,12 @@ module _ (s : Search) (is : IsSearch s) (n i : ℕ) (e : Edge) (at : slice_get s
       omega arith
 
   pub along_dear : (bound : ℕ) → bound ≤ number_at s.guide.now.bounds.edges.items i + number_at s.guide.now.bounds.rests.items e.to → limit < bound →
-      IsLeastWithin s.on.prices.now limit (IsAlong s n e) (RestAgrees s.on s.said.now w) Absent
+      IsLeastWithin s.on.prices.now limit (IsAlong s n e) (RestAgrees s.on s.answer.now w) Absent
   along_dear bound le dear p h few = let cost = along_costs p h in absurd (omega arith)
 
 -- a node from which all is dearer
 pub rest_dear : (s : Search) → IsSearch s → (n : ℕ) (limit : ℕ) (w : Wanted) → limit < number_at s.guide.now.bounds.rests.items n →
-    IsLeastWithin s.on.prices.now limit (RestStands s n) (RestAgrees s.on s.said.now w) Absent
+    IsLeastWithin s.on.prices.now limit (RestStands s n) (RestAgrees s.on s.answer.now w) Absent
 rest_dear s is n limit w dear p h few =
     let cost = walk_cost s.on.prices.now s.on.arena.now s.edges.now s.last s.guide.now.bounds is.guide.bounds p n h in
     absurd (omega arith)
@@ -164,17 +164,17 @@ module _ (s : Search) (n : ℕ) (limit : ℕ) (A : Atoms → Type 0) where
       go (more a q) h = absurd h.0
 
 -- what is known already
-pub memo_rest : (s : Search) (rests : Rests) (n : ℕ) (w : Wanted) (limit : ℕ) (o q r : Least) → AreRests s rests → IsKnown rests.found.items n w limit o → IsCopy q o → IsNoDearer q limit r →
-    IsLeastWithin s.on.prices.now limit (RestStands s n) (RestAgrees s.on s.said.now w) r
+pub memo_rest : (s : Search) (rests : Rests) (n : ℕ) (w : Wanted) (limit : ℕ) (o q r : Least) → AreRests s rests → IsKnown rests.entries.items n w limit o → IsCopy q o → IsNoDearer q limit r →
+    IsLeastWithin s.on.prices.now limit (RestStands s n) (RestAgrees s.on s.answer.now w) r
 memo_rest s rests n w limit o q r are h copy is =
-    let kept = h.0 in
-    let found = are.each h.1.0 kept h.1.1 in
-    let le : (limit ≤ kept.limit) ⊎ IsFound q = elim h.5 [ inl most ↦ inl most | inr there ↦ inr (copied_found q o copy there) ] in
-    no_dearer s.on.prices.now kept.limit limit (RestStands s n) (RestAgrees s.on s.said.now w) q r is le
-    (copied_within s.on.prices.now kept.limit (RestStands s n) (RestAgrees s.on s.said.now w) q o copy
-    (subst (λ m. IsLeastWithin s.on.prices.now kept.limit (RestStands s m) (RestAgrees s.on s.said.now w) o) h.2
-    (subst (λ v. IsLeastWithin s.on.prices.now kept.limit (RestStands s kept.node) (RestAgrees s.on s.said.now v) o) h.3
-    (subst (λ l. IsLeastWithin s.on.prices.now kept.limit (RestStands s kept.node) (RestAgrees s.on s.said.now kept.wanted) l) h.4 found))))
+    let own_rest = h.0 in
+    let found = are.each h.1.0 own_rest h.1.1 in
+    let le : (limit ≤ own_rest.limit) ⊎ IsFound q = elim h.5 [ inl most ↦ inl most | inr there ↦ inr (copied_found q o copy there) ] in
+    no_dearer s.on.prices.now own_rest.limit limit (RestStands s n) (RestAgrees s.on s.answer.now w) q r is le
+    (copied_within s.on.prices.now own_rest.limit (RestStands s n) (RestAgrees s.on s.answer.now w) q o copy
+    (subst (λ m. IsLeastWithin s.on.prices.now own_rest.limit (RestStands s m) (RestAgrees s.on s.answer.now w) o) h.2
+    (subst (λ v. IsLeastWithin s.on.prices.now own_rest.limit (RestStands s own_rest.node) (RestAgrees s.on s.answer.now v) o) h.3
+    (subst (λ l. IsLeastWithin s.on.prices.now own_rest.limit (RestStands s own_rest.node) (RestAgrees s.on s.answer.now own_rest.wanted) l) h.4 found))))
 
 -- the atoms that were found, as a slice
 pub leasts_slice : (on : OnRow) (b : ℕ) (list held : Vec ValuedAtom Global) (slice : List ValuedAtom) → held ≡ list → slice ≡ held.items →

@@ -58,8 +58,8 @@ module _ (on : OnRow) where
   fixed_or_part fixed parts rests old mid new first second =
       gains_then (rows_on on) row_laws (IsFixed fixed rests) (λ y. SomeIn (λ x. IsFront (atom_tree x.atom) rests y) parts) (IsLonger fixed parts rests) (λ y h. h) (λ y h. inl h) (λ y h. inr h) old mid new first second
 
-  abbrev Is : AtomTree → List ℕ → Type 0
-  Is a = ConditionIs on.sheet.now on.tables.now on.row a
+  abbrev ConditionGives : AtomTree → List ℕ → Type 0
+  ConditionGives a = ConditionIs on.sheet.now on.tables.now on.row a
 
   abbrev Are : Atoms → List (List ℕ) → Type 0
   Are q = ConditionsAre on.sheet.now on.tables.now on.row q
@@ -72,10 +72,10 @@ module _ (on : OnRow) where
   constant_front t p q h = record {
     at_most = same_row-at_most on.prices.now (constant t) p q h.at_most;
     part = later (constant t) (constant t) p q (λ z. z) h.part;
-    texts = front_alike (Is (constant t)) (Is (constant t)) (Are p) (Are q) (λ v. ((λ z. z), (λ z. z))) h.texts;
+    texts = front_alike (ConditionGives (constant t)) (ConditionGives (constant t)) (Are p) (Are q) (λ v. ((λ z. z), (λ z. z))) h.texts;
   }
 
-  condition_same : (a b : AtomTree) → IsPart a → IsPart b → (o : Option (List ℕ)) → IsValue (AtomIs on.sheet.now on.tables.now on.row a) o → IsValue (AtomIs on.sheet.now on.tables.now on.row b) o → (v : List ℕ) → Is a v ↔ Is b v
+  condition_same : (a b : AtomTree) → IsPart a → IsPart b → (o : Option (List ℕ)) → IsValue (AtomIs on.sheet.now on.tables.now on.row a) o → IsValue (AtomIs on.sheet.now on.tables.now on.row b) o → (v : List ℕ) → ConditionGives a v ↔ ConditionGives b v
   condition_same a b first second o p q v =
       let same = same_value (AtomIs on.sheet.now on.tables.now on.row a) (AtomIs on.sheet.now on.tables.now on.row b) o p q v in
       let one = part_value on.sheet.now on.tables.now on.row a first v in
@@ -92,10 +92,10 @@ module _ (on : OnRow) where
         let front = h.2 in
         subst (λ z. ConditionsFit z on.arena.now (i ∷ is)) (sym front.2) ((first.each h.1.0 h.0 h.1.1).0.1, (rest.each front.1.0 front.0 front.1.1).0)
 
-    abbrev Found : Atoms → Type 0
-    Found y = (b : Atoms) × IsLonger i.constant parts rests b × ((x : Program) → (rows_on on).For b x → (rows_on on).For y x)
+    abbrev Fitting : Atoms → Type 0
+    Fitting y = (b : Atoms) × IsLonger i.constant parts rests b × ((x : Program) → (rows_on on).For b x → (rows_on on).For y x)
 
-    part_front : (a : AtomTree) (q : Atoms) → IsPart a → ConditionFits a on.arena.now i (AtomFits a on.arena.now) → ConditionsFit q on.arena.now is → Found (more a q)
+    part_front : (a : AtomTree) (q : Atoms) → IsPart a → ConditionFits a on.arena.now i (AtomFits a on.arena.now) → ConditionsFit q on.arena.now is → Fitting (more a q)
     part_front a q part fits others =
         let x = first.least a (part, fits) in
         let r = rest.least q others in
@@ -105,11 +105,11 @@ module _ (on : OnRow) where
         let serves : IsRowFor on (more a q) (more (atom_tree x.0.atom) (program_tree r.0)) = record {
           at_most = part_row-at_most on.prices.now own a row q right.0.0 part x.2.0 r.2.at_most;
           part = later own a row q (λ z. right.0.0) r.2.part;
-          texts = front_alike (Is own) (Is a) (Are row) (Are q) (condition_same own a right.0.0 part x.0.text right.1 x.2.1) r.2.texts;
+          texts = front_alike (ConditionGives own) (ConditionGives a) (Are row) (Are q) (condition_same own a right.0.0 part x.0.text right.1 x.2.1) r.2.texts;
         } in
         (more (atom_tree x.0.atom) (program_tree r.0), inr (x.0, x.1, (r.0, r.1, refl)), λ z h. row_then (program_tree z) (more own row) (more a q) h serves)
 
-    fits_longer : (y : Atoms) → ConditionsFit y on.arena.now (i ∷ is) → Found y
+    fits_longer : (y : Atoms) → ConditionsFit y on.arena.now (i ∷ is) → Fitting y
     fits_longer end h = absurd h
     fits_longer (more (constant t) q) h =
         let r = rest.least q h.1 in

@@ -30,10 +30,10 @@ cancel : {A : Type 0} (t x y : List A) → t ++ x ≡ t ++ y → x ≡ y
 cancel t x y e = sym (drop_front t x) ∙ ap (drop (length t)) e ∙ drop_front t y
 
 -- the value that is the same for properties that hold together
-pub agrees_alike : (said : List ℕ) (w : Wanted) (P Q : List ℕ → Type 0) → ((v : List ℕ) → P v ↔ Q v) → Agrees said w P → Agrees said w Q
-agrees_alike said Any P Q same h = h
-agrees_alike said (Other from) P Q same h = alike P Q (Some (drop from said)) same h
-agrees_alike said Value P Q same h = alike P Q None same h
+pub agrees_alike : (answer : List ℕ) (w : Wanted) (P Q : List ℕ → Type 0) → ((v : List ℕ) → P v ↔ Q v) → Agrees answer w P → Agrees answer w Q
+agrees_alike answer Any P Q same h = h
+agrees_alike answer (Other from) P Q same h = alike P Q (Some (drop from answer)) same h
+agrees_alike answer Value P Q same h = alike P Q None same h
 
 -- an atom of a value, and then the rest
 module _ (P Q : List ℕ → Type 0) where
@@ -63,41 +63,41 @@ module _ (P Q : List ℕ → Type 0) where
     pub no_front : (w : List ℕ) → ((r : List ℕ) → w ≢ t ++ r) → ¬ (IsValue (IsJoined P Q) (Some w))
     no_front w apart whole = let u = text_of w (has (IsJoined P Q) w whole) in apart u.0 u.2
 
-module _ (on : OnRow) (said : List ℕ) (a : AtomTree) (q : Atoms) where
+module _ (on : OnRow) (answer : List ℕ) (a : AtomTree) (q : Atoms) where
   abbrev First : List ℕ → Type 0
   First = AtomIs on.sheet.now on.tables.now on.row a
 
-  abbrev Rest : List ℕ → Type 0
-  Rest = ProgramIs on.sheet.now on.tables.now on.row q
+  abbrev RestGives : List ℕ → Type 0
+  RestGives = ProgramIs on.sheet.now on.tables.now on.row q
 
-  pub value_some : (t : List ℕ) → IsValue (AtomIs on.sheet.now on.tables.now on.row a) (Some t) → RestAgrees on said Value q ↔ RestAgrees on said Value (more a q)
-  value_some t is = (none_joined First Rest t is, none_rest First Rest t is)
+  pub value_some : (t : List ℕ) → IsValue (AtomIs on.sheet.now on.tables.now on.row a) (Some t) → RestAgrees on answer Value q ↔ RestAgrees on answer Value (more a q)
+  value_some t is = (none_joined First RestGives t is, none_rest First RestGives t is)
 
-  pub other_none : (from : ℕ) → IsValue (AtomIs on.sheet.now on.tables.now on.row a) None → RestAgrees on said Any q ↔ RestAgrees on said (Other from) (more a q)
-  other_none from is = ((λ h. absurd h), (λ h. absurd (never (IsJoined First Rest) (drop from said) (joined_none First Rest is) (has (IsJoined First Rest) (drop from said) h))))
+  pub other_none : (from : ℕ) → IsValue (AtomIs on.sheet.now on.tables.now on.row a) None → RestAgrees on answer Any q ↔ RestAgrees on answer (Other from) (more a q)
+  other_none from is = ((λ h. absurd h), (λ h. absurd (never (IsJoined First RestGives) (drop from answer) (joined_none First RestGives is) (has (IsJoined First RestGives) (drop from answer) h))))
 
   pub other_some : (from : ℕ) (t : List ℕ) (next : Wanted) → IsValue (AtomIs on.sheet.now on.tables.now on.row a) (Some t) →
-      ((rest : List ℕ) × (drop from said ≡ t ++ rest) × (next ≡ Other (from + length t))) ⊎ (((rest : List ℕ) → drop from said ≢ t ++ rest) × (next ≡ Any)) →
-      RestAgrees on said next q ↔ RestAgrees on said (Other from) (more a q)
+      ((rest : List ℕ) × (drop from answer ≡ t ++ rest) × (next ≡ Other (from + length t))) ⊎ (((rest : List ℕ) → drop from answer ≢ t ++ rest) × (next ≡ Any)) →
+      RestAgrees on answer next q ↔ RestAgrees on answer (Other from) (more a q)
   other_some from t next is (inl h) =
-      let later : drop (from + length t) said ≡ h.0 = drop_more from (length t) said ∙ ap (drop (length t)) h.1 ∙ drop_front t h.0 in
-      subst (λ w. RestAgrees on said w q ↔ RestAgrees on said (Other from) (more a q)) (sym h.2) (
-        (λ r. subst (λ w. IsValue (IsJoined First Rest) (Some w)) (sym h.1) (some_joined First Rest t is h.0 (subst (λ w. IsValue Rest (Some w)) later r))),
-        (λ r. subst (λ w. IsValue Rest (Some w)) (sym later) (some_rest First Rest t is h.0 (subst (λ w. IsValue (IsJoined First Rest) (Some w)) h.1 r))),
+      let later : drop (from + length t) answer ≡ h.0 = drop_more from (length t) answer ∙ ap (drop (length t)) h.1 ∙ drop_front t h.0 in
+      subst (λ w. RestAgrees on answer w q ↔ RestAgrees on answer (Other from) (more a q)) (sym h.2) (
+        (λ r. subst (λ w. IsValue (IsJoined First RestGives) (Some w)) (sym h.1) (some_joined First RestGives t is h.0 (subst (λ w. IsValue RestGives (Some w)) later r))),
+        (λ r. subst (λ w. IsValue RestGives (Some w)) (sym later) (some_rest First RestGives t is h.0 (subst (λ w. IsValue (IsJoined First RestGives) (Some w)) h.1 r))),
       )
   other_some from t next is (inr h) =
-      subst (λ w. RestAgrees on said w q ↔ RestAgrees on said (Other from) (more a q)) (sym h.1)
-      ((λ r. absurd r), (λ r. absurd (no_front First Rest t is (drop from said) h.0 r)))
+      subst (λ w. RestAgrees on answer w q ↔ RestAgrees on answer (Other from) (more a q)) (sym h.1)
+      ((λ r. absurd r), (λ r. absurd (no_front First RestGives t is (drop from answer) h.0 r)))
 
 -- the end of a program
-pub end_other : (on : OnRow) (said : List ℕ) (from : ℕ) → from < length said → ¬ (RestAgrees on said (Other from) end)
-end_other on said from lt h =
-    let nil : drop from said ≡ [] = has (λ v. v ≡ []) (drop from said) h in
-    let none : length (drop from said) ≡ 0 = ap length nil in
-    absurd (omega (arith, length-drop from said))
+pub end_other : (on : OnRow) (answer : List ℕ) (from : ℕ) → from < length answer → ¬ (RestAgrees on answer (Other from) end)
+end_other on answer from lt h =
+    let nil : drop from answer ≡ [] = has (λ v. v ≡ []) (drop from answer) h in
+    let none : length (drop from answer) ≡ 0 = ap length nil in
+    absurd (omega (arith, length-drop from answer))
 
-pub end_value : (on : OnRow) (said : List ℕ) → ¬ (RestAgrees on said Value end)
-end_value on said h = never (λ v. v ≡ []) [] h refl
+pub end_value : (on : OnRow) (answer : List ℕ) → ¬ (RestAgrees on answer Value end)
+end_value on answer h = never (λ v. v ≡ []) [] h refl
 
 -- a whole program
 module _ (P : List ℕ → Type 0) where

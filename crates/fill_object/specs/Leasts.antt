@@ -12,7 +12,7 @@ IsOrServes serves x y = (x ≡ y) ⊎ serves x y
 -- one more was taken into a list; for each that is left out one is there that serves for it
 pub record Takes {E : Type 0} (serves : E → E → Type 0) (old : List E) (next : E) (new : List E) : Type 0 where
   pub from : EachIn (λ x. In x old ⊎ (x ≡ next)) new
-  pub kept : EachIn (λ y. SomeIn (λ x. IsOrServes serves x y) new) old
+  pub covers : EachIn (λ y. SomeIn (λ x. IsOrServes serves x y) new) old
   pub there : SomeIn (λ x. IsOrServes serves x next) new
 
 -- how trees are listed
@@ -38,7 +38,7 @@ valued tree value order Is = record {
 -- the list has grown by trees of the property, among them one that serves for each of these
 pub record Gains {E A : Type 0} (k : Kind E A) (Q : A → Type 0) (old new : List E) : Type 0 where
   pub from : EachIn (λ x. In x old ⊎ (Q (k.tree x) × k.Right x)) new
-  pub kept : EachIn (λ y. SomeIn (λ x. k.Like x y) new) old
+  pub covers : EachIn (λ y. SomeIn (λ x. k.Like x y) new) old
   pub there : (y : A) → Q y → SomeIn (k.For y) new
 
 -- each tree that is listed has the property, and for each that has it one is listed that serves for it

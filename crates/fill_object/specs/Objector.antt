@@ -13,18 +13,18 @@ use Rattle.fill_object.specs.declared.graph.Objection.{Objection}
 
 -- the program's value on the row is what was said: a text, or none
 abbrev pub Answers : SheetData → List TableData → ℕ → Option (List ℕ) → Atoms → Type 0
-Answers sheet tables row said p = IsValue (ProgramIs sheet tables row p) said
+Answers sheet tables row answer p = IsValue (ProgramIs sheet tables row p) answer
 
 -- the program stands in the graph, and its value on the row is not what was said
-pub record Objects (c : List Entry) (g : ℕ) (sheet : SheetData) (tables : List TableData) (row : ℕ) (said : Option (List ℕ)) (p : Atoms) : Type 0 where
+pub record Objects (c : List Entry) (g : ℕ) (sheet : SheetData) (tables : List TableData) (row : ℕ) (answer : Option (List ℕ)) (p : Atoms) : Type 0 where
   pub stands : ProgramStands c g p
-  pub otherwise : ¬ (Answers sheet tables row said p)
+  pub otherwise : ¬ (Answers sheet tables row answer p)
 
 -- the program objects, and no program that does is before it by the prices; with its value on the row
-pub record IsObjection (prices : Prices) (c : List Entry) (g : ℕ) (sheet : SheetData) (tables : List TableData) (row : ℕ) (said : Option (List ℕ)) (o : Objection) : Type 0 where
-  pub least : IsLeast prices (Objects c g sheet tables row said) (program_tree o.program)
+pub record IsObjection (prices : Prices) (c : List Entry) (g : ℕ) (sheet : SheetData) (tables : List TableData) (row : ℕ) (answer : Option (List ℕ)) (o : Objection) : Type 0 where
+  pub least : IsLeast prices (Objects c g sheet tables row answer) (program_tree o.program)
   pub value : IsValue (ProgramIs sheet tables row (program_tree o.program)) o.text
 
 -- each program that objects costs more
 abbrev pub AllDearer : Prices → List Entry → ℕ → SheetData → List TableData → ℕ → Option (List ℕ) → ℕ → Type 0
-AllDearer prices c g sheet tables row said limit = (p : Atoms) → Objects c g sheet tables row said p → limit < program_cost prices p
+AllDearer prices c g sheet tables row answer limit = (p : Atoms) → Objects c g sheet tables row answer p → limit < program_cost prices p

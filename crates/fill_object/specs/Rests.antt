@@ -16,7 +16,7 @@ use Rattle.fill_object.specs.declared.graph.Objection.{Objection}
 use Rattle.fill_object.specs.declared.rests.Rest.{Rest}
 use Rattle.fill_object.specs.declared.rests.Rests.{Rests}
 use Rattle.fill_object.specs.declared.row.OnRow.{OnRow}
-use Rattle.fill_object.specs.declared.search.Found.{Found}
+use Rattle.fill_object.specs.declared.search.Findings.{Findings}
 use Rattle.fill_object.specs.declared.search.Search.{Search}
 use Rattle.fill_object.specs.declared.wanted.Wanted.{Wanted}
 
@@ -47,14 +47,14 @@ IsAlong s n e p = (e.from ≡ n) × IsThen (AtomStands s.on.arena.now e.atoms) (
 
 -- what was found is so
 abbrev pub IsRest : Search → Rest → Type 0
-IsRest s r = IsLeastWithin s.on.prices.now r.limit (RestStands s r.node) (RestAgrees s.on s.said.now r.wanted) r.least
+IsRest s r = IsLeastWithin s.on.prices.now r.limit (RestStands s r.node) (RestAgrees s.on s.answer.now r.wanted) r.least
 
 pub record AreRests (s : Search) (rests : Rests) : Type 0 where
-  pub each : EachIn (IsRest s) rests.found.items
+  pub each : EachIn (IsRest s) rests.entries.items
 
-pub record AreFound (s : Search) (found : Found) : Type 0 where
-  pub memo : IsMemoOf s.on found.memo
-  pub rests : AreRests s found.rests
+pub record AreFound (s : Search) (findings : Findings) : Type 0 where
+  pub memo : IsMemoOf s.on findings.memo
+  pub rests : AreRests s findings.rests
 
 -- it was found for the node and what is wanted, within no less than the limit or whatever it costs
 abbrev pub IsKnown : List Rest → ℕ → Wanted → ℕ → Least → Type 0

@@ -14,4 +14,4 @@ abbrev pub IsSpotted : Prices → List Entry → Spotted → Type 0
 IsSpotted prices c x = AreLeasts (spots_in prices x.text) (PlaceStands c x.set) x.spots.value.items
 
 pub record AreSpotted (prices : Prices) (c : List Entry) (spots : Spots) : Type 0 where
-  pub each : EachIn (IsSpotted prices c) spots.found.items
+  pub each : EachIn (IsSpotted prices c) spots.readings.items

@@ -8,13 +8,13 @@ use Rattle.fill_object.specs.declared.wanted.Wanted.TheVariants.{Any, Other, Val
 
 -- the value that a property has is the one that is not wanted
 abbrev pub Agrees : List ℕ → Wanted → (List ℕ → Type 0) → Type 0
-Agrees said Any P = ⊥
-Agrees said (Other from) P = IsValue P (Some (drop from said))
-Agrees said Value P = IsValue P None
+Agrees answer Any P = ⊥
+Agrees answer (Other from) P = IsValue P (Some (drop from answer))
+Agrees answer Value P = IsValue P None
 
 -- the same of what the rest of a program answers on the row
 abbrev pub RestAgrees : OnRow → List ℕ → Wanted → Atoms → Type 0
-RestAgrees on said w q = Agrees said w (ProgramIs on.sheet.now on.tables.now on.row q)
+RestAgrees on answer w q = Agrees answer w (ProgramIs on.sheet.now on.tables.now on.row q)
 
 -- what is not wanted of a whole program: what was said
 abbrev pub wanted_first : Option (List ℕ) → Wanted

@@ -8,8 +8,8 @@ ghost use Rattle.fill_object.specs.Memo.{IsMemoOf, IsOnRow};
 ghost use Rattle.fill_object.specs.Leasts.{AreLeasts, Gains};
 ghost use Rattle.fill_object.specs.Pieces.{IsPieceBetweenSpots, IsPieceOf, IsPieceTo, text_or_empty};
 
-use crate::kept::take;
 use crate::memo::Memo;
+use crate::rivals::take;
 use crate::row::OnRow;
 use crate::valued::{Spot, ValuedAtom, ValuedSource};
 use fill_arena::{AtomItem, PlaceSet};
@@ -23,28 +23,28 @@ use std::alloc::Global;
 pub(crate) fn put_atom(
     on: &OnRow<'_>,
     atom: Atom,
-    kept: &mut Vec<ValuedAtom>,
+    rivals: &mut Vec<ValuedAtom>,
 ) -> Result<(), NoMemory>
     requires { IsOnRow on.now }
-    ensures { OnOk result (Gains (atoms_on on.now) (λ a. a ≡ atom_tree atom) kept.old.items kept.new.items) }
+    ensures { OnOk result (Gains (atoms_on on.now) (λ a. a ≡ atom_tree atom) rivals.old.items rivals.new.items) }
 {
     let text = atom_value(on.alloc, &atom, on.row, on.sheet, on.tables)?;
-    take(on.prices, kept, ValuedAtom { atom, text })
+    take(on.prices, rivals, ValuedAtom { atom, text })
 }
 
 /// Puts the wholes of sources that serve for all of a set.
 pub(crate) fn put_wholes(
     on: &OnRow<'_>,
     sources: &[ValuedSource],
-    kept: &mut Vec<ValuedAtom>,
+    rivals: &mut Vec<ValuedAtom>,
 ) -> Result<(), NoMemory>
     requires { IsOnRow on.now }
     ensures { OnOk result ((s : _) → AreLeasts (sources_on on.now) (SourceStands on.now.arena.now s) sources.now →
-        Gains (atoms_on on.now) (PartFits on.now.arena.now (AtomItem.Whole s)) kept.old.items kept.new.items) }
+        Gains (atoms_on on.now) (PartFits on.now.arena.now (AtomItem.Whole s)) rivals.old.items rivals.new.items) }
 {
     for source in sources {
         let copied = source.source.copy(on.alloc)?;
-        put_atom(on, Atom::Whole(copied), kept)?;
+        put_atom(on, Atom::Whole(copied), rivals)?;
     }
     Ok(())
 }
@@ -56,7 +56,7 @@ pub(crate) fn put_pieces(
     sources: &[ValuedSource],
     lefts: PlaceSet,
     rights: PlaceSet,
-    kept: &mut Vec<ValuedAtom>,
+    rivals: &mut Vec<ValuedAtom>,
 ) -> Result<(), NoMemory>
     requires lefts { IsPlaceSet on.now.arena.now lefts }
     requires rights { IsPlaceSet on.now.arena.now rights }
@@ -65,10 +65,10 @@ pub(crate) fn put_pieces(
     requires memo { IsMemoOf on.now memo.old }
     ensures memo { OnOk result (IsMemoOf on.now memo.new) }
     ensures gains { OnOk result ((s : _) → AreLeasts (sources_on on.now) (SourceStands on.now.arena.now s) sources.now →
-        Gains (atoms_on on.now) (PartFits on.now.arena.now (AtomItem.Sub s lefts rights)) kept.old.items kept.new.items) }
+        Gains (atoms_on on.now) (PartFits on.now.arena.now (AtomItem.Sub s lefts rights)) rivals.old.items rivals.new.items) }
 {
     for source in sources {
-        put_pieces_of(on, memo, source, lefts, rights, kept)?;
+        put_pieces_of(on, memo, source, lefts, rights, rivals)?;
     }
     Ok(())
 }
@@ -91,7 +91,7 @@ fn put_pieces_of(
     source: &ValuedSource,
     lefts: PlaceSet,
     rights: PlaceSet,
-    kept: &mut Vec<ValuedAtom>,
+    rivals: &mut Vec<ValuedAtom>,
 ) -> Result<(), NoMemory>
     requires lefts { IsPlaceSet on.now.arena.now lefts }
     requires rights { IsPlaceSet on.now.arena.now rights }
@@ -99,13 +99,13 @@ fn put_pieces_of(
     requires source { (sources_on on.now).Right source.now }
     requires memo { IsMemoOf on.now memo.old }
     ensures memo { OnOk result (IsMemoOf on.now memo.new) }
-    ensures gains { OnOk result (Gains (atoms_on on.now) (IsPieceOf on.now.arena.now (source_tree source.now.source) lefts rights) kept.old.items kept.new.items) }
+    ensures gains { OnOk result (Gains (atoms_on on.now) (IsPieceOf on.now.arena.now (source_tree source.now.source) lefts rights) rivals.old.items rivals.new.items) }
 {
     let empty = Text::new(on.alloc);
     let text = text_or(&source.text, &empty);
     let from = memo.spots.of(on.alloc, on.prices, on.arena, lefts, text)?;
     let to = memo.spots.of(on.alloc, on.prices, on.arena, rights, text)?;
-    put_between(on, &source.source, from.as_slice(), to.as_slice(), kept)
+    put_between(on, &source.source, from.as_slice(), to.as_slice(), rivals)
 }
 
 /// Puts the pieces of a source from each of some places to each of others.
@@ -114,13 +114,13 @@ fn put_between(
     source: &Source,
     lefts: &[Spot],
     rights: &[Spot],
-    kept: &mut Vec<ValuedAtom>,
+    rivals: &mut Vec<ValuedAtom>,
 ) -> Result<(), NoMemory>
     requires { IsOnRow on.now }
-    ensures { OnOk result (Gains (atoms_on on.now) (IsPieceBetweenSpots (source_tree source.now) lefts.now rights.now) kept.old.items kept.new.items) }
+    ensures { OnOk result (Gains (atoms_on on.now) (IsPieceBetweenSpots (source_tree source.now) lefts.now rights.now) rivals.old.items rivals.new.items) }
 {
     for left in lefts {
-        put_from(on, source, &left.place, rights, kept)?;
+        put_from(on, source, &left.place, rights, rivals)?;
     }
     Ok(())
 }
@@ -131,14 +131,14 @@ fn put_from(
     source: &Source,
     left: &Place,
     rights: &[Spot],
-    kept: &mut Vec<ValuedAtom>,
+    rivals: &mut Vec<ValuedAtom>,
 ) -> Result<(), NoMemory>
     requires { IsOnRow on.now }
-    ensures { OnOk result (Gains (atoms_on on.now) (IsPieceTo (source_tree source.now) left.now rights.now) kept.old.items kept.new.items) }
+    ensures { OnOk result (Gains (atoms_on on.now) (IsPieceTo (source_tree source.now) left.now rights.now) rivals.old.items rivals.new.items) }
 {
     for right in rights {
         let copied = source.copy(on.alloc)?;
-        put_atom(on, Atom::Sub(copied, *left, right.place), kept)?;
+        put_atom(on, Atom::Sub(copied, *left, right.place), rivals)?;
     }
     Ok(())
 }

@@ -17,12 +17,16 @@ use fill_tree::Atom;
 use std::rc::Rc;
 
 /// Puts the constant that an item stands for, if it is one.
-fn put_constant(on: &OnRow<'_>, item: &AtomItem, kept: &mut Vec<ValuedAtom>) -> Result<(), NoMemory>
+fn put_constant(
+    on: &OnRow<'_>,
+    item: &AtomItem,
+    rivals: &mut Vec<ValuedAtom>,
+) -> Result<(), NoMemory>
     requires { IsOnRow on.now }
-    ensures { OnOk result (Gains (atoms_on on.now) (ConstantFits on.now.arena.now item.now) kept.old.items kept.new.items) }
+    ensures { OnOk result (Gains (atoms_on on.now) (ConstantFits on.now.arena.now item.now) rivals.old.items rivals.new.items) }
 {
     match item {
-        AtomItem::Const(text) => put_atom(on, Atom::Const(text.copy()?), kept),
+        AtomItem::Const(text) => put_atom(on, Atom::Const(text.copy()?), rivals),
         _ => Ok(()),
     }
 }
@@ -31,13 +35,13 @@ fn put_constant(on: &OnRow<'_>, item: &AtomItem, kept: &mut Vec<ValuedAtom>) -> 
 fn put_constants(
     on: &OnRow<'_>,
     items: &[AtomItem],
-    kept: &mut Vec<ValuedAtom>,
+    rivals: &mut Vec<ValuedAtom>,
 ) -> Result<(), NoMemory>
     requires { IsOnRow on.now }
-    ensures { OnOk result (Gains (atoms_on on.now) (λ a. SomeIn (λ i. ConstantFits on.now.arena.now i a) items.now) kept.old.items kept.new.items) }
+    ensures { OnOk result (Gains (atoms_on on.now) (λ a. SomeIn (λ i. ConstantFits on.now.arena.now i a) items.now) rivals.old.items rivals.new.items) }
 {
     for item in items {
-        put_constant(on, item, kept)?;
+        put_constant(on, item, rivals)?;
     }
     Ok(())
 }
@@ -52,14 +56,14 @@ pub(crate) fn atoms_of(
     requires row { IsOnRow on.now }
     requires memo { IsMemoOf on.now memo.old }
     ensures memo { OnOk result (IsMemoOf on.now memo.new) }
-    ensures least { IfOk result (λ found. AreLeasts (atoms_on on.now) (AtomStands on.now.arena.now s) found.value.items) }
+    ensures least { IfOk result (λ leasts. AreLeasts (atoms_on on.now) (AtomStands on.now.arena.now s) leasts.value.items) }
 {
-    if let Some(found) = memo.atoms(s) {
-        return Ok(found.clone()?);
+    if let Some(leasts) = memo.atoms(s) {
+        return Ok(leasts.clone()?);
     }
-    let found = Rc::new(on.alloc, scan_atoms(on, memo, s)?)?;
-    memo.keep_atoms(s, found.clone()?)?;
-    Ok(found)
+    let leasts = Rc::new(on.alloc, scan_atoms(on, memo, s)?)?;
+    memo.keep_atoms(s, leasts.clone()?)?;
+    Ok(leasts)
 }
 
 fn scan_atoms(on: &OnRow<'_>, memo: &mut Memo, s: AtomSet) -> Result<Vec<ValuedAtom>, NoMemory>
@@ -67,9 +71,9 @@ fn scan_atoms(on: &OnRow<'_>, memo: &mut Memo, s: AtomSet) -> Result<Vec<ValuedA
     requires row { IsOnRow on.now }
     requires memo { IsMemoOf on.now memo.old }
     ensures memo { OnOk result (IsMemoOf on.now memo.new) }
-    ensures least { IfOk result (λ kept. AreLeasts (atoms_on on.now) (AtomStands on.now.arena.now s) kept.items) }
+    ensures least { IfOk result (λ rivals. AreLeasts (atoms_on on.now) (AtomStands on.now.arena.now s) rivals.items) }
 {
-    let mut kept = scan_parts(on, memo, s)?;
-    put_constants(on, on.arena.atoms(s), &mut kept)?;
-    Ok(kept)
+    let mut rivals = scan_parts(on, memo, s)?;
+    put_constants(on, on.arena.atoms(s), &mut rivals)?;
+    Ok(rivals)
 }

@@ -18,7 +18,7 @@ use crate::guide::Guide;
 use crate::memo::Memo;
 use crate::rests::Rests;
 use crate::row::OnRow;
-use crate::search::{Found, Search, least_rest};
+use crate::search::{Findings, Search, least_rest};
 use crate::wanted::Wanted;
 use fill_arena::{Arena, GraphId};
 use fill_eval::program_value;
@@ -46,14 +46,14 @@ pub fn object(
     arena: &Arena,
     g: GraphId,
     row: u32,
-    said: Option<&Text>,
+    answer: Option<&Text>,
     sheet: &Sheet,
     tables: &Tables,
 ) -> Result<Option<Objection>, NoMemory>
     requires first { 1 ≤ row }
     requires last { row ≤ length sheet.now.rows }
     requires graph { IsGraph arena.now g }
-    ensures objection { let told = option_copied said.entry in IfOk result (λ found. MatchOption found
+    ensures objection { let told = option_copied answer.entry in IfOk result (λ found. MatchOption found
         ((p : Atoms) → ProgramStands arena.now g p → Answers sheet.now tables.now row told p)
         (IsObjection prices.now arena.now g sheet.now tables.now row told)) }
     ensures few { IfOk result (λ found. IfSome found (λ o. program_cost prices.now (program_tree o.program) < 2 ^ 64)) }
@@ -69,7 +69,7 @@ pub fn object(
     };
     arena.keeps_made();
     prices.keep_small();
-    let least = least_on(&on, &guide, g, said, u64::MAX)?;
+    let least = least_on(&on, &guide, g, answer, u64::MAX)?;
     match least {
         Least::Found(chain) => objection_of(&on, &chain),
         Least::Absent => Ok(None),
@@ -83,18 +83,18 @@ pub fn object_within(
     on: &OnRow<'_>,
     guide: &Guide,
     g: GraphId,
-    said: Option<&Text>,
+    answer: Option<&Text>,
     limit: u64,
 ) -> Result<Option<Objection>, NoMemory>
     requires row { IsOnRow on.now }
     requires graph { IsGraph on.now.arena.now g }
     requires guide { IsGuideOf on.now.prices.now on.now.arena.now g guide.now }
-    ensures objection { let told = option_copied said.entry in IfOk result (λ found. MatchOption found
+    ensures objection { let told = option_copied answer.entry in IfOk result (λ found. MatchOption found
         (AllDearer on.now.prices.now on.now.arena.now g on.now.sheet.now on.now.tables.now on.now.row told limit)
         (IsObjection on.now.prices.now on.now.arena.now g on.now.sheet.now on.now.tables.now on.now.row told)) }
     ensures few { IfOk result (λ found. IfSome found (λ o. program_cost on.now.prices.now (program_tree o.program) < 2 ^ 64)) }
 {
-    let least = least_on(on, guide, g, said, limit)?;
+    let least = least_on(on, guide, g, answer, limit)?;
     match least {
         Least::Found(chain) => objection_of(on, &chain),
         Least::Absent => Ok(None),
@@ -121,13 +121,13 @@ fn least_on(
     on: &OnRow<'_>,
     guide: &Guide,
     g: GraphId,
-    said: Option<&Text>,
+    answer: Option<&Text>,
     limit: u64,
 ) -> Result<Least, NoMemory>
     requires row { IsOnRow on.now }
     requires graph { IsGraph on.now.arena.now g }
     requires guide { IsGuideOf on.now.prices.now on.now.arena.now g guide.now }
-    ensures { IfOk result (IsLeastWithin on.now.prices.now limit (ProgramStands on.now.arena.now g) (Answers on.now.sheet.now on.now.tables.now on.now.row (option_copied said.entry))) }
+    ensures { IfOk result (IsLeastWithin on.now.prices.now limit (ProgramStands on.now.arena.now g) (Answers on.now.sheet.now on.now.tables.now on.now.row (option_copied answer.entry))) }
 {
     on.arena.keeps_made();
     let edges = on.arena.edges(g);
@@ -136,21 +136,21 @@ fn least_on(
         edges,
         guide,
         last: on.arena.nodes(g) - 1,
-        said: characters(said),
+        answer: characters(answer),
     };
-    least_of(&search, first_wanted(said), limit)
+    least_of(&search, first_wanted(answer), limit)
 }
 
 /// The least rest from the first node on, within a limit of its cost.
 fn least_of(search: &Search<'_>, wanted: Wanted, limit: u64) -> Result<Least, NoMemory>
     requires search { IsSearch search.now }
-    ensures { IfOk result (IsLeastWithin search.now.on.prices.now limit (RestStands search.now 0) (RestAgrees search.now.on search.now.said.now wanted)) }
+    ensures { IfOk result (IsLeastWithin search.now.on.prices.now limit (RestStands search.now 0) (RestAgrees search.now.on search.now.answer.now wanted)) }
 {
     let alloc = search.on.alloc;
     let memo = Memo::new(alloc);
     let rests = Rests::new(alloc, search.last)?;
-    let mut found = Found { memo, rests };
-    least_rest(search, &mut found, 0, wanted, limit)
+    let mut findings = Findings { memo, rests };
+    least_rest(search, &mut findings, 0, wanted, limit)
 }
 
 /// The program of a chain, with its value on the row.
@@ -174,10 +174,10 @@ fn characters(text: Option<&Text>) -> &[char]
 }
 
 /// What is wanted of a whole program.
-fn first_wanted(said: Option<&Text>) -> Wanted
-    ensures { result ≡ wanted_first (option_copied said.entry) }
+fn first_wanted(answer: Option<&Text>) -> Wanted
+    ensures { result ≡ wanted_first (option_copied answer.entry) }
 {
-    match said {
+    match answer {
         Some(_) => Wanted::Other(0),
         None => Wanted::Value,
     }

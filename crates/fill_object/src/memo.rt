@@ -60,32 +60,32 @@ impl Memo {
     pub fn keep_sources(
         &mut self,
         s: SourceSet,
-        found: Rc<Vec<ValuedSource>>,
+        leasts: Rc<Vec<ValuedSource>>,
     ) -> Result<(), NoMemory>
         ensures { OnOk result ((on : Row) → IsMemoOf on self.old →
-            AreLeasts (sources_on on) (SourceStands on.arena.now s) found.value.items → IsMemoOf on self.new) }
+            AreLeasts (sources_on on) (SourceStands on.arena.now s) leasts.value.items → IsMemoOf on self.new) }
     {
-        match self.sources.insert(s, found) {
+        match self.sources.insert(s, leasts) {
             Ok(_) => Ok(()),
             Err(_) => Err(NoMemory),
         }
     }
 
-    pub fn keep_parts(&mut self, s: AtomSet, found: Rc<Vec<ValuedAtom>>) -> Result<(), NoMemory>
+    pub fn keep_parts(&mut self, s: AtomSet, leasts: Rc<Vec<ValuedAtom>>) -> Result<(), NoMemory>
         ensures { OnOk result ((on : Row) → IsMemoOf on self.old →
-            AreLeasts (atoms_on on) (PartStands on.arena.now s) found.value.items → IsMemoOf on self.new) }
+            AreLeasts (atoms_on on) (PartStands on.arena.now s) leasts.value.items → IsMemoOf on self.new) }
     {
-        match self.parts.insert(s, found) {
+        match self.parts.insert(s, leasts) {
             Ok(_) => Ok(()),
             Err(_) => Err(NoMemory),
         }
     }
 
-    pub fn keep_atoms(&mut self, s: AtomSet, found: Rc<Vec<ValuedAtom>>) -> Result<(), NoMemory>
+    pub fn keep_atoms(&mut self, s: AtomSet, leasts: Rc<Vec<ValuedAtom>>) -> Result<(), NoMemory>
         ensures { OnOk result ((on : Row) → IsMemoOf on self.old →
-            AreLeasts (atoms_on on) (AtomStands on.arena.now s) found.value.items → IsMemoOf on self.new) }
+            AreLeasts (atoms_on on) (AtomStands on.arena.now s) leasts.value.items → IsMemoOf on self.new) }
     {
-        match self.atoms.insert(s, found) {
+        match self.atoms.insert(s, leasts) {
             Ok(_) => Ok(()),
             Err(_) => Err(NoMemory),
         }

@@ -24,7 +24,7 @@ pub(crate) struct Rest {
 /// What was found, and for each node the place after that of the one that was found last.
 #[derive(Drop)]
 pub(crate) struct Rests {
-    pub found: Vec<Rest>,
+    pub entries: Vec<Rest>,
     latest: Vec<usize>,
 }
 
@@ -33,7 +33,7 @@ impl Rests {
         ensures { (s : Search) → IfOk result (AreRests s) }
     {
         Ok(Rests {
-            found: Vec::new(alloc),
+            entries: Vec::new(alloc),
             latest: vec![in alloc; 0; nodes]?,
         })
     }
@@ -41,15 +41,15 @@ impl Rests {
     /// The place of what was found last for the node and what is wanted. Where to look is a hint, since what is there is
     /// compared.
     fn place_of(&self, node: usize, wanted: Wanted) -> Option<usize>
-        ensures { IfSome result (IsRestAt self.now.found.items node wanted) }
+        ensures { IfSome result (IsRestAt self.now.entries.items node wanted) }
     {
         let mut left = place_or_none(self.latest.as_slice(), node);
         while left > 0 {
             let i = left - 1;
-            if i >= self.found.len() {
+            if i >= self.entries.len() {
                 return None;
             }
-            let rest = &self.found[i];
+            let rest = &self.entries[i];
             if rest.node == node && rest.wanted.same(wanted) {
                 return Some(i);
             }
@@ -63,9 +63,9 @@ impl Rests {
 
     /// What is known of the least rest within the limit, if it was looked for already.
     pub fn recall(&self, node: usize, wanted: Wanted, limit: u64) -> Option<&Least>
-        ensures { IfSome result (λ o. IsKnown self.now.found.items node wanted limit o.now) }
+        ensures { IfSome result (λ o. IsKnown self.now.entries.items node wanted limit o.now) }
     {
-        let rest = &self.found[self.place_of(node, wanted)?];
+        let rest = &self.entries[self.place_of(node, wanted)?];
         if limit <= rest.limit {
             return Some(&rest.least);
         }
@@ -83,13 +83,13 @@ impl Rests {
         least: Least,
     ) -> Result<(), NoMemory>
         ensures { OnOk result ((s : Search) → AreRests s self.old →
-            IsLeastWithin s.on.prices.now limit (RestStands s node) (RestAgrees s.on s.said.now wanted) least → AreRests s self.new) }
+            IsLeastWithin s.on.prices.now limit (RestStands s node) (RestAgrees s.on s.answer.now wanted) least → AreRests s self.new) }
     {
         let earlier = place_or_none(self.latest.as_slice(), node);
         if node < self.latest.len() {
-            self.latest[node] = self.found.len() + 1;
+            self.latest[node] = self.entries.len() + 1;
         }
-        self.found.push(Rest {
+        self.entries.push(Rest {
             node,
             wanted,
             limit,

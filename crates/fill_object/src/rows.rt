@@ -26,12 +26,12 @@ fn put_before(
     alloc: Global,
     condition: &Atom,
     rests: &[Program],
-    made: &mut Vec<Program>,
+    fronts: &mut Vec<Program>,
 ) -> Result<(), NoMemory>
-    ensures { OnOk result ((on : Row) → Gains (rows_on on) (IsFront (atom_tree condition.now) rests.now) made.old.items made.new.items) }
+    ensures { OnOk result ((on : Row) → Gains (rows_on on) (IsFront (atom_tree condition.now) rests.now) fronts.old.items fronts.new.items) }
 {
     for rest in rests {
-        made.push(rest.with_first(alloc, condition)?)?;
+        fronts.push(rest.with_first(alloc, condition)?)?;
     }
     Ok(())
 }
@@ -41,14 +41,14 @@ fn put_constant(
     alloc: Global,
     constant: &Option<Text>,
     rests: &[Program],
-    made: &mut Vec<Program>,
+    fronts: &mut Vec<Program>,
 ) -> Result<(), NoMemory>
-    ensures { OnOk result ((on : Row) → Gains (rows_on on) (IsFixed constant.now rests.now) made.old.items made.new.items) }
+    ensures { OnOk result ((on : Row) → Gains (rows_on on) (IsFixed constant.now rests.now) fronts.old.items fronts.new.items) }
 {
     match constant {
         Some(text) => {
             let condition = Atom::Const(text.copy()?);
-            put_before(alloc, &condition, rests, made)
+            put_before(alloc, &condition, rests, fronts)
         }
         None => Ok(()),
     }
@@ -59,12 +59,12 @@ fn put_parts(
     alloc: Global,
     parts: &[ValuedAtom],
     rests: &[Program],
-    made: &mut Vec<Program>,
+    fronts: &mut Vec<Program>,
 ) -> Result<(), NoMemory>
-    ensures { OnOk result ((on : Row) → Gains (rows_on on) (λ y. SomeIn (λ x. IsFront (atom_tree x.atom) rests.now y) parts.now) made.old.items made.new.items) }
+    ensures { OnOk result ((on : Row) → Gains (rows_on on) (λ y. SomeIn (λ x. IsFront (atom_tree x.atom) rests.now y) parts.now) fronts.old.items fronts.new.items) }
 {
     for part in parts {
-        put_before(alloc, &part.atom, rests, made)?;
+        put_before(alloc, &part.atom, rests, fronts)?;
     }
     Ok(())
 }
@@ -76,10 +76,10 @@ pub(crate) fn put_in_front(
     parts: &[ValuedAtom],
     rests: &[Program],
 ) -> Result<Vec<Program>, NoMemory>
-    ensures { IfOk result (λ made. (on : Row) → Gains (rows_on on) (IsLonger constant.now parts.now rests.now) [] made.items) }
+    ensures { IfOk result (λ fronts. (on : Row) → Gains (rows_on on) (IsLonger constant.now parts.now rests.now) [] fronts.items) }
 {
-    let mut made = Vec::new(alloc);
-    put_constant(alloc, constant, rests, &mut made)?;
-    put_parts(alloc, parts, rests, &mut made)?;
-    Ok(made)
+    let mut fronts = Vec::new(alloc);
+    put_constant(alloc, constant, rests, &mut fronts)?;
+    put_parts(alloc, parts, rests, &mut fronts)?;
+    Ok(fronts)
 }

@@ -36,12 +36,12 @@ pub(crate) struct Search<'a> {
     pub edges: &'a [Edge],
     pub guide: &'a Guide,
     pub last: usize,
-    pub said: &'a [char],
+    pub answer: &'a [char],
 }
 
 /// What was found on the row.
 #[derive(Drop)]
-pub(crate) struct Found {
+pub(crate) struct Findings {
     pub memo: Memo,
     pub rests: Rests,
 }
@@ -50,16 +50,16 @@ pub(crate) struct Found {
 #[cycle(rests)]
 pub(crate) fn least_rest(
     search: &Search<'_>,
-    found: &mut Found,
+    findings: &mut Findings,
     node: usize,
     wanted: Wanted,
     limit: u64,
 ) -> Result<Least, NoMemory>
     requires search { IsSearch search.now }
     requires within { node ≤ search.now.last }
-    requires found { AreFound search.now found.old }
-    ensures found { OnOk result (AreFound search.now found.new) }
-    ensures least { IfOk result (IsLeastWithin search.now.on.prices.now limit (RestStands search.now node) (RestAgrees search.now.on search.now.said.now wanted)) }
+    requires findings { AreFound search.now findings.old }
+    ensures findings { OnOk result (AreFound search.now findings.new) }
+    ensures least { IfOk result (IsLeastWithin search.now.on.prices.now limit (RestStands search.now node) (RestAgrees search.now.on search.now.answer.now wanted)) }
 {
     let mut within = search.guide.bounds.rest(node);
     if within > limit {
@@ -67,14 +67,14 @@ pub(crate) fn least_rest(
     }
     let mut slack = SLACK;
     while within < limit {
-        let rest = rest_within(search, found, node, wanted, within)?;
+        let rest = rest_within(search, findings, node, wanted, within)?;
         if rest.is_found() {
             return Ok(rest);
         }
         within = raised(within, slack);
         slack = sum_of(sum_of(slack, slack), sum_of(slack, slack));
     }
-    let rest = rest_within(search, found, node, wanted, within)?;
+    let rest = rest_within(search, findings, node, wanted, within)?;
     Ok(rest.within(limit))
 }
 
@@ -93,33 +93,33 @@ fn raised(within: u64, slack: u64) -> u64
 #[cycle(rests)]
 fn rest_within(
     search: &Search<'_>,
-    found: &mut Found,
+    findings: &mut Findings,
     node: usize,
     wanted: Wanted,
     limit: u64,
 ) -> Result<Least, NoMemory>
     requires search { IsSearch search.now }
     requires within { node ≤ search.now.last }
-    requires found { AreFound search.now found.old }
-    ensures found { OnOk result (AreFound search.now found.new) }
-    ensures least { IfOk result (IsLeastWithin search.now.on.prices.now limit (RestStands search.now node) (RestAgrees search.now.on search.now.said.now wanted)) }
+    requires findings { AreFound search.now findings.old }
+    ensures findings { OnOk result (AreFound search.now findings.new) }
+    ensures least { IfOk result (IsLeastWithin search.now.on.prices.now limit (RestStands search.now node) (RestAgrees search.now.on search.now.answer.now wanted)) }
 {
-    if let Some(least) = found.rests.recall(node, wanted, limit) {
+    if let Some(least) = findings.rests.recall(node, wanted, limit) {
         return Ok(least.copy()?.within(limit));
     }
-    let least = along_edges(search, found, node, wanted, limit)?;
-    found.rests.keep(node, wanted, limit, least.copy()?)?;
+    let least = along_edges(search, findings, node, wanted, limit)?;
+    findings.rests.keep(node, wanted, limit, least.copy()?)?;
     Ok(least)
 }
 
 /// The rest without atoms, if the node is the last one and it answers what is wanted.
 fn ended(search: &Search<'_>, node: usize, wanted: Wanted) -> Result<Least, NoMemory>
-    ensures { (limit : ℕ) → IfOk result (IsLeastWithin search.now.on.prices.now limit (IsEnd search.now node) (RestAgrees search.now.on search.now.said.now wanted)) }
+    ensures { (limit : ℕ) → IfOk result (IsLeastWithin search.now.on.prices.now limit (IsEnd search.now node) (RestAgrees search.now.on search.now.answer.now wanted)) }
 {
     if node != search.last {
         return Ok(Least::Absent);
     }
-    if !wanted.is_end(search.said) {
+    if !wanted.is_end(search.answer) {
         return Ok(Least::Absent);
     }
     let chain = Rc::new(search.on.alloc, Chain::empty(search.on.alloc))?;
@@ -157,23 +157,23 @@ fn out_before(search: &Search<'_>, i: usize, node: usize) -> usize
 #[cycle(rests)]
 fn along_edges(
     search: &Search<'_>,
-    found: &mut Found,
+    findings: &mut Findings,
     node: usize,
     wanted: Wanted,
     limit: u64,
 ) -> Result<Least, NoMemory>
     requires search { IsSearch search.now }
     requires within { node ≤ search.now.last }
-    requires found { AreFound search.now found.old }
-    ensures found { OnOk result (AreFound search.now found.new) }
-    ensures least { IfOk result (IsLeastWithin search.now.on.prices.now limit (RestStands search.now node) (RestAgrees search.now.on search.now.said.now wanted)) }
+    requires findings { AreFound search.now findings.old }
+    ensures findings { OnOk result (AreFound search.now findings.new) }
+    ensures least { IfOk result (IsLeastWithin search.now.on.prices.now limit (RestStands search.now node) (RestAgrees search.now.on search.now.answer.now wanted)) }
 {
     let mut best = ended(search, node, wanted)?;
     let mut left = last_out(search, node);
     while left > 0 {
         let i = left - 1;
         let within = best.limit(limit);
-        let next = along_edge(search, found, i, node, wanted, within)?;
+        let next = along_edge(search, findings, i, node, wanted, within)?;
         best = best.or(next);
         left = out_before(search, i, node);
     }
@@ -184,7 +184,7 @@ fn along_edges(
 #[cycle(rests)]
 fn along_edge(
     search: &Search<'_>,
-    found: &mut Found,
+    findings: &mut Findings,
     i: usize,
     node: usize,
     wanted: Wanted,
@@ -192,10 +192,10 @@ fn along_edge(
 ) -> Result<Least, NoMemory>
     requires search { IsSearch search.now }
     requires edge { i < length search.now.edges.now }
-    requires found { AreFound search.now found.old }
-    ensures found { OnOk result (AreFound search.now found.new) }
+    requires findings { AreFound search.now findings.old }
+    ensures findings { OnOk result (AreFound search.now findings.new) }
     ensures least { IfOk result (λ o. (e : Listed) → slice_get search.now.edges.now i ≡ Some e →
-        IsLeastWithin search.now.on.prices.now limit (IsAlong search.now node e) (RestAgrees search.now.on search.now.said.now wanted) o) }
+        IsLeastWithin search.now.on.prices.now limit (IsAlong search.now node e) (RestAgrees search.now.on search.now.answer.now wanted) o) }
 {
     let edge = search.edges[i];
     if edge.from != node {
@@ -204,11 +204,11 @@ fn along_edge(
     if search.guide.bounds.along(i, edge.to) > limit {
         return Ok(Least::Absent);
     }
-    let atoms = atoms_of(&search.on, &mut found.memo, edge.atoms)?;
+    let atoms = atoms_of(&search.on, &mut findings.memo, edge.atoms)?;
     let mut best = Least::Absent;
     for atom in atoms.as_slice() {
         let within = best.limit(limit);
-        let next = with_atom(search, found, atom, edge.to, wanted, within)?;
+        let next = with_atom(search, findings, atom, edge.to, wanted, within)?;
         best = best.or(next);
     }
     Ok(best)
@@ -218,7 +218,7 @@ fn along_edge(
 #[cycle(rests)]
 fn with_atom(
     search: &Search<'_>,
-    found: &mut Found,
+    findings: &mut Findings,
     atom: &ValuedAtom,
     to: usize,
     wanted: Wanted,
@@ -227,17 +227,17 @@ fn with_atom(
     requires search { IsSearch search.now }
     requires within { to ≤ search.now.last }
     requires atom { (atoms_on search.now.on).Right atom.now }
-    requires found { AreFound search.now found.old }
-    ensures found { OnOk result (AreFound search.now found.new) }
-    ensures least { IfOk result (IsLeastWithin search.now.on.prices.now limit (IsThen (λ a. a ≡ atom_tree atom.now.atom) (RestStands search.now to)) (RestAgrees search.now.on search.now.said.now wanted)) }
+    requires findings { AreFound search.now findings.old }
+    ensures findings { OnOk result (AreFound search.now findings.new) }
+    ensures least { IfOk result (IsLeastWithin search.now.on.prices.now limit (IsThen (λ a. a ≡ atom_tree atom.now.atom) (RestStands search.now to)) (RestAgrees search.now.on search.now.answer.now wanted)) }
 {
-    let Some(next) = wanted.after(search.said, &atom.text) else {
+    let Some(next) = wanted.after(search.answer, &atom.text) else {
         return Ok(Least::Absent);
     };
     let Some(left) = left_after(search.on.prices, &atom.atom, limit) else {
         return Ok(Least::Absent);
     };
-    let rest = least_rest(search, found, to, next, left)?;
+    let rest = least_rest(search, findings, to, next, left)?;
     let made = led_by(search.on.alloc, &atom.atom, limit - left, rest)?;
     Ok(made)
 }

@@ -33,14 +33,14 @@ fn sources_of(
     requires row { IsOnRow on.now }
     requires memo { IsMemoOf on.now memo.old }
     ensures memo { OnOk result (IsMemoOf on.now memo.new) }
-    ensures least { IfOk result (λ found. AreLeasts (sources_on on.now) (SourceStands on.now.arena.now s) found.value.items) }
+    ensures least { IfOk result (λ leasts. AreLeasts (sources_on on.now) (SourceStands on.now.arena.now s) leasts.value.items) }
 {
-    if let Some(found) = memo.sources(s) {
-        return Ok(found.clone()?);
+    if let Some(leasts) = memo.sources(s) {
+        return Ok(leasts.clone()?);
     }
-    let found = Rc::new(on.alloc, scan_sources(on, memo, s)?)?;
-    memo.keep_sources(s, found.clone()?)?;
-    Ok(found)
+    let leasts = Rc::new(on.alloc, scan_sources(on, memo, s)?)?;
+    memo.keep_sources(s, leasts.clone()?)?;
+    Ok(leasts)
 }
 
 #[cycle(sets)]
@@ -53,16 +53,16 @@ fn scan_sources(
     requires row { IsOnRow on.now }
     requires memo { IsMemoOf on.now memo.old }
     ensures memo { OnOk result (IsMemoOf on.now memo.new) }
-    ensures least { IfOk result (λ kept. AreLeasts (sources_on on.now) (SourceStands on.now.arena.now s) kept.items) }
+    ensures least { IfOk result (λ rivals. AreLeasts (sources_on on.now) (SourceStands on.now.arena.now s) rivals.items) }
 {
     let arena = on.arena;
     arena.keeps_made();
     let items = arena.sources(s);
-    let mut kept = Vec::new(on.alloc);
+    let mut rivals = Vec::new(on.alloc);
     for item in items {
-        put_source(on, memo, s, item, &mut kept)?;
+        put_source(on, memo, s, item, &mut rivals)?;
     }
-    Ok(kept)
+    Ok(rivals)
 }
 
 /// Puts the sources that an item of the set stands for.
@@ -72,17 +72,17 @@ fn put_source(
     memo: &mut Memo,
     set: SourceSet,
     item: &SourceItem,
-    kept: &mut Vec<ValuedSource>,
+    rivals: &mut Vec<ValuedSource>,
 ) -> Result<(), NoMemory>
     requires item { IsSourceItem on.now.arena.now set item.now }
     requires row { IsOnRow on.now }
     requires memo { IsMemoOf on.now memo.old }
     ensures memo { OnOk result (IsMemoOf on.now memo.new) }
-    ensures gains { OnOk result (Gains (sources_on on.now) (λ x. SourceFits x on.now.arena.now item.now) kept.old.items kept.new.items) }
+    ensures gains { OnOk result (Gains (sources_on on.now) (λ x. SourceFits x on.now.arena.now item.now) rivals.old.items rivals.new.items) }
 {
     match item {
-        SourceItem::Col(number) => put_column(on, *number, kept),
-        SourceItem::Select(listed) => put_lookups(on, memo, set, listed, kept),
+        SourceItem::Col(number) => put_column(on, *number, rivals),
+        SourceItem::Select(listed) => put_lookups(on, memo, set, listed, rivals),
     }
 }
 
@@ -93,16 +93,16 @@ fn put_lookups(
     memo: &mut Memo,
     set: SourceSet,
     item: &SelectItem,
-    kept: &mut Vec<ValuedSource>,
+    rivals: &mut Vec<ValuedSource>,
 ) -> Result<(), NoMemory>
     requires item { IsSelectItem on.now.arena.now set item.now }
     requires row { IsOnRow on.now }
     requires memo { IsMemoOf on.now memo.old }
     ensures memo { OnOk result (IsMemoOf on.now memo.new) }
-    ensures gains { OnOk result (Gains (sources_on on.now) (λ x. SourceFits x on.now.arena.now (SourceItem.Select item.now)) kept.old.items kept.new.items) }
+    ensures gains { OnOk result (Gains (sources_on on.now) (λ x. SourceFits x on.now.arena.now (SourceItem.Select item.now)) rivals.old.items rivals.new.items) }
 {
     let rows = rows_of(on, memo, set, item.conditions.as_slice())?;
-    put_selects(on, item, rows.as_slice(), kept)
+    put_selects(on, item, rows.as_slice(), rivals)
 }
 
 /// The least rows of conditions, by their texts, put together from the last condition on.
@@ -158,7 +158,7 @@ fn conditions_of(
     requires row { IsOnRow on.now }
     requires memo { IsMemoOf on.now memo.old }
     ensures memo { OnOk result (IsMemoOf on.now memo.new) }
-    ensures least { IfOk result (λ found. AreParts on.now item.now found.value.items) }
+    ensures least { IfOk result (λ leasts. AreParts on.now item.now leasts.value.items) }
 {
     match item.atoms {
         Some(s) => parts_of(on, memo, s),
@@ -173,14 +173,14 @@ fn parts_of(on: &OnRow<'_>, memo: &mut Memo, s: AtomSet) -> Result<Rc<Vec<Valued
     requires row { IsOnRow on.now }
     requires memo { IsMemoOf on.now memo.old }
     ensures memo { OnOk result (IsMemoOf on.now memo.new) }
-    ensures least { IfOk result (λ found. AreLeasts (atoms_on on.now) (PartStands on.now.arena.now s) found.value.items) }
+    ensures least { IfOk result (λ leasts. AreLeasts (atoms_on on.now) (PartStands on.now.arena.now s) leasts.value.items) }
 {
-    if let Some(found) = memo.parts(s) {
-        return Ok(found.clone()?);
+    if let Some(leasts) = memo.parts(s) {
+        return Ok(leasts.clone()?);
     }
-    let found = Rc::new(on.alloc, scan_parts(on, memo, s)?)?;
-    memo.keep_parts(s, found.clone()?)?;
-    Ok(found)
+    let leasts = Rc::new(on.alloc, scan_parts(on, memo, s)?)?;
+    memo.keep_parts(s, leasts.clone()?)?;
+    Ok(leasts)
 }
 
 #[cycle(sets)]
@@ -193,16 +193,16 @@ pub(crate) fn scan_parts(
     requires row { IsOnRow on.now }
     requires memo { IsMemoOf on.now memo.old }
     ensures memo { OnOk result (IsMemoOf on.now memo.new) }
-    ensures least { IfOk result (λ kept. AreLeasts (atoms_on on.now) (PartStands on.now.arena.now s) kept.items) }
+    ensures least { IfOk result (λ rivals. AreLeasts (atoms_on on.now) (PartStands on.now.arena.now s) rivals.items) }
 {
     let arena = on.arena;
     arena.keeps_made();
     let items = arena.atoms(s);
-    let mut kept = Vec::new(on.alloc);
+    let mut rivals = Vec::new(on.alloc);
     for item in items {
-        put_part(on, memo, s, item, &mut kept)?;
+        put_part(on, memo, s, item, &mut rivals)?;
     }
-    Ok(kept)
+    Ok(rivals)
 }
 
 /// Puts the atoms that an item of the set stands for, if it is no constant.
@@ -212,23 +212,23 @@ fn put_part(
     memo: &mut Memo,
     set: AtomSet,
     item: &AtomItem,
-    kept: &mut Vec<ValuedAtom>,
+    rivals: &mut Vec<ValuedAtom>,
 ) -> Result<(), NoMemory>
     requires item { IsAtomItem on.now.arena.now set item.now }
     requires row { IsOnRow on.now }
     requires memo { IsMemoOf on.now memo.old }
     ensures memo { OnOk result (IsMemoOf on.now memo.new) }
-    ensures gains { OnOk result (Gains (atoms_on on.now) (PartFits on.now.arena.now item.now) kept.old.items kept.new.items) }
+    ensures gains { OnOk result (Gains (atoms_on on.now) (PartFits on.now.arena.now item.now) rivals.old.items rivals.new.items) }
 {
     match item {
         AtomItem::Const(_) => Ok(()),
         AtomItem::Whole(sources) => {
-            let found = sources_of(on, memo, *sources)?;
-            put_wholes(on, found.as_slice(), kept)
+            let leasts = sources_of(on, memo, *sources)?;
+            put_wholes(on, leasts.as_slice(), rivals)
         }
         AtomItem::Sub(sources, lefts, rights) => {
-            let found = sources_of(on, memo, *sources)?;
-            put_pieces(on, memo, found.as_slice(), *lefts, *rights, kept)
+            let leasts = sources_of(on, memo, *sources)?;
+            put_pieces(on, memo, leasts.as_slice(), *lefts, *rights, rivals)
         }
     }
 }

@@ -7,7 +7,7 @@ ghost use Rattle.fill_object.specs.Memo.{IsOnRow};
 ghost use Rattle.fill_object.specs.Leasts.{Gains};
 ghost use Rattle.fill_object.specs.Rows.{AreRows, IsSelectBy};
 
-use crate::kept::take;
+use crate::rivals::take;
 use crate::row::OnRow;
 use crate::valued::ValuedSource;
 use fill_arena::{SelectItem, SourceItem};
@@ -16,24 +16,28 @@ use fill_text::NoMemory;
 use fill_tree::{Program, Select, Source, has_part};
 
 /// Puts a source, with its text.
-fn put_source(on: &OnRow<'_>, source: Source, kept: &mut Vec<ValuedSource>) -> Result<(), NoMemory>
+fn put_source(
+    on: &OnRow<'_>,
+    source: Source,
+    rivals: &mut Vec<ValuedSource>,
+) -> Result<(), NoMemory>
     requires { IsOnRow on.now }
-    ensures { OnOk result (Gains (sources_on on.now) (λ x. x ≡ source_tree source) kept.old.items kept.new.items) }
+    ensures { OnOk result (Gains (sources_on on.now) (λ x. x ≡ source_tree source) rivals.old.items rivals.new.items) }
 {
     let text = source_value(on.alloc, &source, on.row, on.sheet, on.tables)?;
-    take(on.prices, kept, ValuedSource { source, text })
+    take(on.prices, rivals, ValuedSource { source, text })
 }
 
 /// Puts a column.
 pub(crate) fn put_column(
     on: &OnRow<'_>,
     number: u32,
-    kept: &mut Vec<ValuedSource>,
+    rivals: &mut Vec<ValuedSource>,
 ) -> Result<(), NoMemory>
     requires { IsOnRow on.now }
-    ensures { OnOk result (Gains (sources_on on.now) (λ x. SourceFits x on.now.arena.now (SourceItem.Col number)) kept.old.items kept.new.items) }
+    ensures { OnOk result (Gains (sources_on on.now) (λ x. SourceFits x on.now.arena.now (SourceItem.Col number)) rivals.old.items rivals.new.items) }
 {
-    put_source(on, Source::Col(number), kept)
+    put_source(on, Source::Col(number), rivals)
 }
 
 /// Puts the lookup by a row of conditions, if one of them is no constant.
@@ -41,10 +45,10 @@ fn put_select(
     on: &OnRow<'_>,
     item: &SelectItem,
     row: &Program,
-    kept: &mut Vec<ValuedSource>,
+    rivals: &mut Vec<ValuedSource>,
 ) -> Result<(), NoMemory>
     requires { IsOnRow on.now }
-    ensures { OnOk result (Gains (sources_on on.now) (IsSelectBy item.now row.now) kept.old.items kept.new.items) }
+    ensures { OnOk result (Gains (sources_on on.now) (IsSelectBy item.now row.now) rivals.old.items rivals.new.items) }
 {
     if !has_part(row.atoms.as_slice()) {
         return Ok(());
@@ -56,7 +60,7 @@ fn put_select(
         key: item.key,
         conditions: copied.atoms,
     };
-    put_source(on, Source::Select(Box::new(on.alloc, select)?), kept)
+    put_source(on, Source::Select(Box::new(on.alloc, select)?), rivals)
 }
 
 /// Puts the lookups by rows of conditions that serve for all of the item.
@@ -64,14 +68,14 @@ pub(crate) fn put_selects(
     on: &OnRow<'_>,
     item: &SelectItem,
     rows: &[Program],
-    kept: &mut Vec<ValuedSource>,
+    rivals: &mut Vec<ValuedSource>,
 ) -> Result<(), NoMemory>
     requires row { IsOnRow on.now }
     requires rows { AreRows on.now item.now.conditions rows.now }
-    ensures { OnOk result (Gains (sources_on on.now) (λ x. SourceFits x on.now.arena.now (SourceItem.Select item.now)) kept.old.items kept.new.items) }
+    ensures { OnOk result (Gains (sources_on on.now) (λ x. SourceFits x on.now.arena.now (SourceItem.Select item.now)) rivals.old.items rivals.new.items) }
 {
     for row in rows {
-        put_select(on, item, row, kept)?;
+        put_select(on, item, row, rivals)?;
     }
     Ok(())
 }

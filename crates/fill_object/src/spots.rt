@@ -8,7 +8,7 @@ ghost use Rattle.fill_object.specs.Kinds.{spots_in};
 ghost use Rattle.fill_object.specs.Leasts.{AreLeasts};
 ghost use Rattle.fill_object.specs.Spots.{AreSpotted};
 
-use crate::kept::take;
+use crate::rivals::take;
 use crate::valued::Spot;
 use fill_arena::{Arena, PlaceSet};
 use fill_text::{NoMemory, Text};
@@ -27,7 +27,7 @@ pub(crate) struct Spotted {
 /// What was found of sets of places. A row has few texts, and a graph few sets of places.
 #[derive(Drop)]
 pub(crate) struct Spots {
-    found: Vec<Spotted>,
+    readings: Vec<Spotted>,
 }
 
 impl Spotted {
@@ -47,7 +47,7 @@ impl Spots {
         ensures { (prices : Table) (c : Items Entry) → AreSpotted prices c result }
     {
         Spots {
-            found: Vec::new(alloc),
+            readings: Vec::new(alloc),
         }
     }
 
@@ -56,7 +56,7 @@ impl Spots {
         ensures { (prices : Table) (c : Items Entry) → AreSpotted prices c self.now →
             IfSome result (λ spots. AreLeasts (spots_in prices text.now) (PlaceStands c s) spots.now.value.items) }
     {
-        for spotted in self.found.as_slice() {
+        for spotted in self.readings.as_slice() {
             if spotted.is_of(s, text) {
                 return Some(&spotted.spots);
             }
@@ -68,7 +68,7 @@ impl Spots {
         ensures { OnOk result ((prices : Table) (c : Items Entry) → AreSpotted prices c self.old →
             AreLeasts (spots_in prices text.now) (PlaceStands c s) spots.value.items → AreSpotted prices c self.new) }
     {
-        self.found.push(Spotted {
+        self.readings.push(Spotted {
             set: s,
             text: text.copy()?,
             spots,

@@ -5,7 +5,7 @@ ghost use Rattle.fill_text.specs.Orders.{AtMost};
 ghost use Rattle.fill_tree.specs.Meaning.{atom_tree, source_tree};
 ghost use Rattle.fill_tree.specs.Order.{atom_rank, place_rank, source_rank};
 
-use crate::kept::Rival;
+use crate::rivals::Rival;
 use fill_text::Text;
 use fill_tokens::{Place, Prices};
 use fill_tree::{Atom, Source};

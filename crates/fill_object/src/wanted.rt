@@ -32,38 +32,38 @@ impl Wanted {
     }
 
     /// Whether the end of a program, which adds no character, answers what is wanted.
-    pub fn is_end(self, said: &[char]) -> bool
-        ensures wanted { (on : Row) → IsTrue result → ¬ (RestAgrees on said.now self end) }
-        ensures other { (on : Row) → result ≡ false → RestAgrees on said.now self end }
+    pub fn is_end(self, answer: &[char]) -> bool
+        ensures wanted { (on : Row) → IsTrue result → ¬ (RestAgrees on answer.now self end) }
+        ensures other { (on : Row) → result ≡ false → RestAgrees on answer.now self end }
     {
         match self {
             Wanted::Any => true,
-            Wanted::Other(from) => from < said.len(),
+            Wanted::Other(from) => from < answer.len(),
             Wanted::Value => true,
         }
     }
 
     /// What is wanted of the rest after an atom of this text. None where no rest helps.
-    pub fn after(self, said: &[char], text: &Option<Text>) -> Option<Wanted>
+    pub fn after(self, answer: &[char], text: &Option<Text>) -> Option<Wanted>
         ensures { (on : Row) (a : AtomTree) (q : Atoms) → IsValue (AtomIs on.sheet.now on.tables.now on.row a) text.now →
-            MatchOption result (RestAgrees on said.now self (more a q)) (λ next. RestAgrees on said.now next q ↔ RestAgrees on said.now self (more a q)) }
+            MatchOption result (RestAgrees on answer.now self (more a q)) (λ next. RestAgrees on answer.now next q ↔ RestAgrees on answer.now self (more a q)) }
     {
         match (self, text) {
             (Wanted::Any, _) => Some(Wanted::Any),
             (Wanted::Value, None) => None,
             (Wanted::Value, Some(_)) => Some(Wanted::Value),
             (Wanted::Other(_), None) => Some(Wanted::Any),
-            (Wanted::Other(from), Some(text)) => Some(after_text(said, from, text.as_slice())),
+            (Wanted::Other(from), Some(text)) => Some(after_text(answer, from, text.as_slice())),
         }
     }
 }
 
 /// What is wanted after a text, where the end of the said one from a character on is not to come.
-fn after_text(said: &[char], from: usize, text: &[char]) -> Wanted
-    ensures { ((rest : Items ℕ) × (drop from said.now ≡ text.now ++ rest) × (result ≡ Wanted.Other (from + length text.now)))
-        ⊎ (((rest : Items ℕ) → drop from said.now ≢ text.now ++ rest) × (result ≡ Wanted.Any)) }
+fn after_text(answer: &[char], from: usize, text: &[char]) -> Wanted
+    ensures { ((rest : Items ℕ) × (drop from answer.now ≡ text.now ++ rest) × (result ≡ Wanted.Other (from + length text.now)))
+        ⊎ (((rest : Items ℕ) → drop from answer.now ≢ text.now ++ rest) × (result ≡ Wanted.Any)) }
 {
-    if end_of(said, from).starts_with(text) {
+    if end_of(answer, from).starts_with(text) {
         Wanted::Other(from + text.len())
     } else {
         Wanted::Any
@@ -71,11 +71,11 @@ fn after_text(said: &[char], from: usize, text: &[char]) -> Wanted
 }
 
 /// The characters from this one on; none past the end.
-fn end_of(said: &[char], from: usize) -> &[char]
-    ensures { result.now ≡ drop from said.now }
+fn end_of(answer: &[char], from: usize) -> &[char]
+    ensures { result.now ≡ drop from answer.now }
 {
-    if from < said.len() {
-        &said[from..]
+    if from < answer.len() {
+        &answer[from..]
     } else {
         &[]
     }

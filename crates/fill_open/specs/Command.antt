@@ -3,6 +3,7 @@ use Rattle.std.specs.Prelude.{ℕ, ◌==◌, ◌||◌, ◌≤◌, List, [], ◌�
 use Rattle.std.specs.Str.{bytes_eq}
 use Rattle.fill_script.specs.Line.{number_between}
 use Rattle.fill_open.specs.Apply.{Names, named}
+use Rattle.fill_open.specs.declared.command.TheConstants.{MOST_MADE_LINES}
 use Rattle.fill_open.specs.declared.command.Command.{Command}
 use Rattle.fill_open.specs.declared.command.Command.TheVariants.{Replay, Made, Apply, Keys}
 
@@ -21,9 +22,9 @@ command_data (Made n) = made n
 command_data (Apply session program sheet) = apply (named session.now program.now sheet.now)
 command_data (Keys file) = keys file.now
 
--- a generated session has 1 to 2,000 lines
+-- a generated session has one line at least, and no more than there may be
 abbrev pub made_of : List ℕ → Option CommandData
-made_of bytes = option_map made (number_between 1 2000 bytes)
+made_of bytes = option_map made (number_between 1 MOST_MADE_LINES bytes)
 
 -- the command of a word and a name, which is not empty
 abbrev pub with_name : List ℕ → List ℕ → Option CommandData
@@ -55,6 +56,6 @@ command_in (word ∷ a ∷ b ∷ c ∷ next ∷ more) = None
 -- a generated session's number of lines is in its range
 abbrev pub IsCommand : CommandData → Type 0
 IsCommand (replay session) = ⊤
-IsCommand (made n) = (1 ≤ n) × (n ≤ 2000)
+IsCommand (made n) = (1 ≤ n) × (n ≤ MOST_MADE_LINES)
 IsCommand (apply names) = ⊤
 IsCommand (keys file) = ⊤

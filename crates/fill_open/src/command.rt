@@ -29,12 +29,12 @@ pub enum Command<'a> {
     },
 }
 
-/// The most lines that a generated session has.
-const MOST_LINES: u32 = 2_000;
+/// The most lines of the sheet that a generated session is over.
+pub const MOST_MADE_LINES: u32 = 2_000;
 
 /// The command of these words, those after the program's name.
 ///
-/// `replay` and `keys` go with a name that is not empty, `made` with a number from 1 to 2,000 in plain decimal, and
+/// `replay` and `keys` go with a name that is not empty, `made` with a number from 1 to [`MOST_MADE_LINES`] in plain decimal, and
 /// `apply` with three names that are not empty.
 pub fn command_of(words: &[String]) -> Option<Command<'_>>
     ensures is { option_map command_data result ≡ command_in (map string_bytes words.now) }
@@ -98,10 +98,10 @@ fn with_names<'a>(
 
 /// The number of lines that these bytes spell.
 fn lines_in(bytes: &[u8]) -> Option<u32>
-    ensures { result ≡ number_between 1 2000 bytes.now }
+    ensures { result ≡ number_between 1 MOST_MADE_LINES bytes.now }
 {
     let n = number_in(bytes)?;
-    if 1 <= n && n <= MOST_LINES {
+    if 1 <= n && n <= MOST_MADE_LINES {
         Some(n)
     } else {
         None

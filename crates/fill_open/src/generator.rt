@@ -2,6 +2,7 @@
 ghost use Rattle.std.specs.Prelude.{◌≡◌, ◌≤◌, ◌<◌, ◌++◌, IfOk, OnOk};
 ghost use Rattle.fill_open.specs.Made.{made_session, made_sheet, pattern, character, made_output, made_line};
 
+use crate::MOST_MADE_LINES;
 use fill_text::{List, NoMemory};
 use std::alloc::Global;
 
@@ -82,7 +83,7 @@ fn output(line: u32) -> &'static [u8]
 /// Puts the line of this number at the end, or a part of it where memory is wanted.
 fn push_line(sheet: &mut List<u8>, line: u32) -> Result<(), NoMemory>
     requires first { 1 ≤ line }
-    requires last { line ≤ 2000 }
+    requires last { line ≤ MOST_MADE_LINES }
     ensures { OnOk result (sheet.new ≡ sheet.old ++ made_line line) }
 {
     let first = 4 * (line - 1);
@@ -99,7 +100,7 @@ fn push_line(sheet: &mut List<u8>, line: u32) -> Result<(), NoMemory>
 #[tactic(auto, using(crate::proofs::MadeLines::sheet_more))]
 pub fn made(alloc: Global, n: u32) -> Result<MadeFiles, NoMemory>
     requires first { 1 ≤ n }
-    requires last { n ≤ 2000 }
+    requires last { n ≤ MOST_MADE_LINES }
     ensures session { IfOk result (λ files. files.session ≡ made_session) }
     ensures sheet { IfOk result (λ files. files.sheet ≡ made_sheet n) }
 {

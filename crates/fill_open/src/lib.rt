@@ -16,7 +16,7 @@ mod stop;
 mod tables;
 
 pub use apply::{Application, open_application};
-pub use command::{Command, command_of};
+pub use command::{Command, MOST_MADE_LINES, command_of};
 pub use fault::Fault;
 pub use generator::{MadeFiles, made};
 pub use keys::open_keys;

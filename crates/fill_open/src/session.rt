@@ -9,7 +9,7 @@ ghost use Rattle.fill_open.specs.Stops.{Refuses, Stops};
 use crate::script::{open_script, script_in};
 use crate::sheet::{open_sheet, sheet_in};
 use crate::tables::open_tables;
-use crate::{Stop, made};
+use crate::{MOST_MADE_LINES, Stop, made};
 use fill_edge::Cabinet;
 use fill_script::Script;
 use fill_sheet::Sheet;
@@ -59,7 +59,7 @@ pub fn open_replay<C: Cabinet>(alloc: Global, cabinet: &mut C, session: &str) ->
 /// Opens the generated session over `n` lines. Nothing is read, and it always opens unless memory runs out.
 pub fn open_made(alloc: Global, n: u32) -> Result<Ready, Stop>
     requires first { 1 ≤ n }
-    requires last { n ≤ 2000 }
+    requires last { n ≤ MOST_MADE_LINES }
     ensures ready { IfOk result (λ ready. (made_opens n).outcome ≡ Passed ready) }
     ensures proper { IfOk result (λ ready. IsScript ready.script) }
     ensures stopped { IfErr result (Refuses (made_opens n).outcome) }

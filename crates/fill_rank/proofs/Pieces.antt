@@ -1,5 +1,5 @@
 -- Small steps of the proofs about sets: what is kept of conditions.
-use Rattle.std.proofs.Common.{◌≡◌, ◌⊎◌, ℕ, zero, suc, ◌+◌, List, [], ◌∷◌, length, drop, Option, Some, None, Result, Ok, Err, option_map, inl, inr, refl, sym, ap, subst, ◌∙◌, slice_get, ◌<◌, ◌≢◌, arith}
+use Rattle.std.proofs.Common.{◌≡◌, ◌⊎◌, ℕ, List, Option, Some, None, option_map, inl, inr, ap, subst, ◌∙◌}
 use Rattle.fill_tokens.specs.declared.prices.Prices.{Prices}
 use Rattle.fill_tree.specs.Grammar.{HasPart, IsPart}
 use Rattle.fill_tree.specs.Meaning.{atom_tree}

@@ -1,6 +1,7 @@
 -- What an entry does: it makes an edit, goes along the history, or asks.
 use Rattle.std.specs.Prelude.{◌≤◌, ⊤}
 use Rattle.fill_tree.specs.declared.user.Edit.{Edit}
+use Rattle.fill_tree.specs.declared.user.TheConstants.{MOST_PROGRAMS}
 use Rattle.fill_script.specs.declared.script.Entry.{Entry}
 use Rattle.fill_script.specs.declared.script.Entry.TheVariants as entry
 use Rattle.fill_report.specs.declared.tasks.Query.{Query}
@@ -35,9 +36,9 @@ task_in (entry.Answer row) = ask (query.Answer row)
 task_in (entry.Object row) = ask (query.Object row)
 task_in (entry.Best branch k) = ask (query.Best branch k)
 
--- 1 to 20 programs are asked for
+-- one program at least is asked for, and no more than there may be
 abbrev pub AsksSome : Query → Type 0
-AsksSome (query.Best branch k) = (1 ≤ k) × (k ≤ 20)
+AsksSome (query.Best branch k) = (1 ≤ k) × (k ≤ MOST_PROGRAMS)
 AsksSome q = ⊤
 
 abbrev pub IsProper : TaskData → Type 0

@@ -14,7 +14,7 @@ use fill_output::{Halt, Record};
 use fill_print::print_program;
 use fill_session::{Branch, Session};
 use fill_text::NoMemory;
-use fill_tree::Program;
+use fill_tree::{MOST_PROGRAMS, Program};
 use std::alloc::Global;
 
 /// The record of the best program of a number, of a branch.
@@ -40,7 +40,7 @@ fn write_programs<O: Sink>(
     programs: &[Program],
     out: &mut O,
 ) -> Result<bool, Halt>
-    requires { length programs.now ≤ 20 }
+    requires { length programs.now ≤ MOST_PROGRAMS }
     ensures leaves { LeavesFirst (best_records branch 1 (map program_tree programs.now)) result (O.written out.old) (O.written out.new) }
     ensures fault { IsErrOf result Halt.Fault → Rose (O.faults out.old) (O.faults out.new) }
     ensures later { O.faults out.old ≤ O.faults out.new }
@@ -85,7 +85,7 @@ pub(crate) fn write_best<O: Sink>(
     out: &mut O,
 ) -> Result<bool, Halt>
     requires some { 1 ≤ k }
-    requires few { k ≤ 20 }
+    requires few { k ≤ MOST_PROGRAMS }
     ensures leaves { Leaves (QueryWrites session.now.spaces.ground session.now.examples (query.Best branch k))
         (QueryBegins session.now.spaces.ground session.now.examples (query.Best branch k)) result (O.written out.old) (O.written out.new) 0 0 }
     ensures fault { IsErrOf result Halt.Fault → Rose (O.faults out.old) (O.faults out.new) }

@@ -16,6 +16,7 @@ use fill_output::{Halt, Record};
 use fill_print::{print_guard, print_program, print_switch};
 use fill_session::{Branch, Session, Shapes};
 use fill_sheet::Sheet;
+use fill_split::MOST_BRANCHES;
 use fill_text::{List, NoMemory};
 use fill_tree::{Guard, Switch};
 use std::alloc::Global;
@@ -72,7 +73,7 @@ pub(crate) fn write_branches<O: Sink>(
     branches: &[Branch],
     out: &mut O,
 ) -> Result<bool, Halt>
-    requires { length branches.now ≤ 8 }
+    requires { length branches.now ≤ MOST_BRANCHES }
     ensures leaves { LeavesFirst (shown_records 1 branches.now) result (O.written out.old) (O.written out.new) }
     ensures fault { IsErrOf result Halt.Fault → Rose (O.faults out.old) (O.faults out.new) }
     ensures later { O.faults out.old ≤ O.faults out.new }

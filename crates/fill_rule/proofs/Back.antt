@@ -24,7 +24,7 @@ use Rattle.fill_apply.specs.Saved.{TextBy, is_shown, shown_text, text_of}
 use Rattle.fill_tables.specs.Keys.{AreKeyColumns}
 use Rattle.fill_words.specs.Words.{IsLookup, LookupData, Key, Table}
 use Rattle.fill_rule.specs.Lookups.{at_end, lookup_in, lookup_line, lookups_from}
-use Rattle.fill_rule.specs.File.{FileIs, Form, form_in, inputs_in, is_header, is_rising, names_in, output_in}
+use Rattle.fill_rule.specs.File.{FileIs, FormData, form_in, inputs_in, is_header, is_rising, names_in, output_in}
 use Rattle.fill_rule.specs.Rule.{IsNamed, IsRule, RuleData, header_lines, names_lines, rule_lines, rule_text}
 use Rattle.fill_rule.specs.declared.rule.Names.{Names}
 
@@ -226,7 +226,7 @@ lookups_back number before (l ∷ ls) text are named =
     let here = lookup_back l (All-head IsLookup l ls are) (All-head IsNamed l ls named) in
     rw (lookup_plain l, here) (lookups_back (number + 1) (before ++ l ∷ []) ls text (All-tail IsLookup l ls are) (All-tail IsNamed l ls named)) ∙ ap Ok (append_assoc before (l ∷ []) ls)
 
-abbrev form_of : RuleData → Form
+abbrev form_of : RuleData → FormData
 form_of r = record { names = r.names; inputs = r.inputs; output = r.output; lookups = r.lookups }
 
 plain_back : (r : RuleData) → IsRule r → All IsNamed r.lookups → r.names ≡ None → form_in (rule_lines r) ≡ Ok (form_of r)

@@ -10,6 +10,7 @@ use Rattle.std.specs.List.Sorted.{IsStrictlyIncreasing}
 use Rattle.fill_text.specs.Data.{nth}
 use Rattle.fill_records.specs.Records.{field_of, records_of}
 use Rattle.fill_sheet.specs.Columns.{IsColumn}
+use Rattle.fill_sheet.specs.declared.columns.TheConstants.{LAST_COLUMN, MOST_INPUTS}
 use Rattle.fill_script.specs.Line.{before, has_form, is_word, number_between, numbers_in}
 use Rattle.fill_script.proofs.Lines.{if_some, then_some, number-within}
 use Rattle.fill_tokens.specs.declared.token_set.TheConstants.TokenSet as set
@@ -17,7 +18,7 @@ use Rattle.fill_apply.specs.Saved.{SavedBy, columns_read}
 use Rattle.fill_tree.specs.Switch.{SwitchTree}
 use Rattle.fill_words.specs.Words.{IsLookup, LookupData}
 use Rattle.fill_rule.specs.Lookups.{from_line, lookups_from}
-use Rattle.fill_rule.specs.File.{FileIs, Form, form_in, if_apart, if_rising, inputs_in, is_first, is_header, is_rising, named_form, names_in, output_in, plain_form, says, with_value}
+use Rattle.fill_rule.specs.File.{FileIs, FormData, form_in, if_apart, if_rising, inputs_in, is_first, is_header, is_rising, named_form, names_in, output_in, plain_form, says, with_value}
 use Rattle.fill_rule.specs.Rule.{AreNamesOf, IsRule}
 use Rattle.fill_rule.specs.declared.rule.Names.{Names}
 use Rattle.fill_rule.proofs.TableLines.{lookups_proper}
@@ -77,9 +78,9 @@ inputs-columns line xs is =
       rising = rising-strict found.0 up.0;
     })
 
--- the fields of a line of inputs give no more than eight numbers
-pub few_numbers : (line : List (List ℕ)) (xs : List ℕ) (form : Bool) → form ≡ (is_word (codes "inputs") line && (nat_le 2 (length line) && nat_le (length line) 9)) → form ≡ true
-    → Some xs ≡ numbers_in 1000 (drop 1 line) → length xs ≤ 8
+-- the fields of a line of inputs give no more numbers than a sheet may have inputs
+pub few_numbers : (line : List (List ℕ)) (xs : List ℕ) (form : Bool) → form ≡ (is_word (codes "inputs") line && (nat_le 2 (length line) && nat_le (length line) (MOST_INPUTS + 1))) → form ≡ true
+    → Some xs ≡ numbers_in LAST_COLUMN (drop 1 line) → length xs ≤ MOST_INPUTS
 few_numbers line xs form is holds given =
     let parts = and_parts (is_word (codes "inputs") line) (nat_le 2 (length line) && nat_le (length line) 9) (sym is ∙ holds) in
     let tests = and_parts (nat_le 2 (length line)) (nat_le (length line) 9) parts.1 in
@@ -144,7 +145,7 @@ from_some number None rest y is = cc
 from_some number (Some x) rest y is = (x, refl, is)
 
 -- what is true of the form of each file
-pub record IsForm (f : Form) : Type 0 where
+pub record IsForm (f : FormData) : Type 0 where
   pub some : 1 ≤ length f.inputs
   pub few : length f.inputs ≤ 8
   pub columns : All IsColumn f.inputs
@@ -171,7 +172,7 @@ made-form names inputs output lookups are is named looked = record {
   lookups = looked;
 }
 
-plain-proper : (lines : List (List (List ℕ))) (f : Form) → plain_form lines ≡ Ok f → IsForm f
+plain-proper : (lines : List (List (List ℕ))) (f : FormData) → plain_form lines ≡ Ok f → IsForm f
 plain-proper lines f is =
     let one = from_some 2 (option_and_then inputs_in (nth lines 2)) _ f is in
     let line = then_some inputs_in (nth lines 2) one.0 one.1 in
@@ -181,7 +182,7 @@ plain-proper lines f is =
     subst IsForm last.2 (made-form None one.0 two.0 last.0 (inputs-columns line.0 one.0 line.2) (output-column one.0 line2.0 two.0 line2.2) tt
     (lookups_proper (drop 3 lines) 4 [] last.0 (All-nil IsLookup) last.1))
 
-named-proper : (lines : List (List (List ℕ))) (f : Form) → named_form lines ≡ Ok f → IsForm f
+named-proper : (lines : List (List (List ℕ))) (f : FormData) → named_form lines ≡ Ok f → IsForm f
 named-proper lines f is =
     let one = from_some 3 (option_and_then inputs_in (nth lines 3)) _ f is in
     let line = then_some inputs_in (nth lines 3) one.0 one.1 in
@@ -193,7 +194,7 @@ named-proper lines f is =
     subst IsForm last.2 (made-form (Some three.0) one.0 two.0 last.0 (inputs-columns line.0 one.0 line.2) (output-column one.0 line2.0 two.0 line2.2)
     (names-count (length one.0) line3.0 three.0 line3.2) (lookups_proper (drop 5 lines) 6 [] last.0 (All-nil IsLookup) last.1))
 
-pub form-proper : (lines : List (List (List ℕ))) (f : Form) → form_in lines ≡ Ok f → IsForm f
+pub form-proper : (lines : List (List (List ℕ))) (f : FormData) → form_in lines ≡ Ok f → IsForm f
 form-proper lines f is = first (says is_first (nth lines 1)) (says is_header (nth lines 2)) is
   where
     first : (begins headed : Bool) → (if begins then (if headed then named_form lines else plain_form lines) else Err 1) ≡ Ok f → IsForm f
@@ -201,7 +202,7 @@ form-proper lines f is = first (says is_first (nth lines 1)) (says is_header (nt
     first true false h = plain-proper lines f h
     first false headed h = cc
 
-pub rule-of-form : (f : Form) (s : SwitchTree) → IsForm f → All (Contains f.inputs) (columns_read s.cases)
+pub rule-of-form : (f : FormData) (s : SwitchTree) → IsForm f → All (Contains f.inputs) (columns_read s.cases)
     → IsRule (record { names = f.names; inputs = f.inputs; output = f.output; lookups = f.lookups; switch = s })
 rule-of-form f s is reads = record {
   some = is.some;
@@ -216,7 +217,7 @@ rule-of-form f s is reads = record {
 }
 
 -- the rule that a file's lines say
-pub file_is : (bytes : List ℕ) (f : Form) (s : SwitchTree) (lines : List (List (List ℕ))) → form_in lines ≡ Ok f → lines ≡ take (length bytes) (records_of bytes)
+pub file_is : (bytes : List ℕ) (f : FormData) (s : SwitchTree) (lines : List (List (List ℕ))) → form_in lines ≡ Ok f → lines ≡ take (length bytes) (records_of bytes)
     → 2 * length (records_of bytes) ≤ length bytes + 1 → SavedBy set.ALL f.inputs bytes (Ok s) → FileIs bytes (Ok (record { names = f.names; inputs = f.inputs; output = f.output; lookups = f.lookups; switch = s }))
 file_is bytes f s lines is read few saved =
     let all : take (length bytes) (records_of bytes) ≡ records_of bytes = take_all (length bytes) (records_of bytes) (omega arith) in

@@ -7,7 +7,7 @@ use Rattle.fill_rule.specs.declared.error.RuleError.{RuleError}
 use Rattle.fill_rule.specs.declared.error.RuleError.TheVariants as error
 
 -- what a form of the code stands for
-abbrev pub form_data : Form → file.Form
+abbrev pub form_data : Form → file.FormData
 form_data f = record { names = f.names; inputs = f.inputs.items; output = f.output; lookups = map lookup_data f.lookups.items }
 
 -- the error tells the first bad line; out of memory is free

@@ -6,6 +6,7 @@ use Rattle.std.specs.Str.{is_utf8}
 use Rattle.std.specs.List.Sorted.{IsStrictlyIncreasing}
 use Rattle.fill_sheet.specs.Columns.{IsColumn}
 use Rattle.fill_sheet.specs.Report.{record_text}
+use Rattle.fill_sheet.specs.declared.columns.TheConstants.{MOST_INPUTS}
 use Rattle.fill_tree.specs.Switch.{SwitchTree, switch_tree}
 use Rattle.fill_print.specs.Notation.{switch_text}
 use Rattle.fill_apply.specs.Saved.{columns_read}
@@ -39,7 +40,7 @@ IsNamed (Key table columns) = IsTrue (is_utf8 table) × All (λ column. column �
 -- what is true of each rule
 pub record IsRule (r : RuleData) : Type 0 where
   pub some : 1 ≤ length r.inputs
-  pub few : length r.inputs ≤ 8
+  pub few : length r.inputs ≤ MOST_INPUTS
   pub columns : All IsColumn r.inputs
   pub rises : IsStrictlyIncreasing r.inputs
   pub output : IsColumn r.output

@@ -8,6 +8,7 @@ use crate::lines::{inputs_in, is_first, is_header, names_in, output_in};
 use crate::lookups::lookups_from;
 use crate::{Names, RuleError};
 use fill_records::Record;
+use fill_sheet::MOST_INPUTS;
 use fill_text::NoMemory;
 use fill_words::Lookup;
 use std::alloc::Global;
@@ -60,7 +61,7 @@ fn is_headed(lines: &[Record]) -> bool
 fn inputs_at(alloc: Global, lines: &[Record], number: usize) -> Result<Vec<u32>, RuleError>
     requires { 1 ≤ number }
     ensures ok { IfOk result (λ inputs. option_and_then inputs_in (nth lines.now number) ≡ Some inputs.items) }
-    ensures few { IfOk result (λ inputs. length inputs.items ≤ 8) }
+    ensures few { IfOk result (λ inputs. length inputs.items ≤ MOST_INPUTS) }
     ensures err { IfErr result (IsLineError number (option_and_then inputs_in (nth lines.now number))) }
 {
     let Some(line) = lines.get(number - 1) else {
@@ -96,7 +97,7 @@ fn names_at(
     count: usize,
 ) -> Result<Names, RuleError>
     requires number { 1 ≤ number }
-    requires count { count ≤ 8 }
+    requires count { count ≤ MOST_INPUTS }
     ensures ok { IfOk result (λ names. option_and_then (names_in count) (nth lines.now number) ≡ Some names) }
     ensures err { IfErr result (IsLineError number (option_and_then (names_in count) (nth lines.now number))) }
 {

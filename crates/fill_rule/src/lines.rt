@@ -8,14 +8,9 @@ ghost use Rattle.fill_rule.specs.File.{inputs_in, is_first, is_header, is_rising
 use crate::Names;
 use fill_records::Record;
 use fill_script::number_in;
+use fill_sheet::{LAST_COLUMN, MOST_INPUTS};
 use fill_text::{List, NoMemory};
 use std::alloc::Global;
-
-/// The last column that a rule may read or fill.
-const LAST: u32 = 1_000;
-
-/// The most columns that a rule may read.
-const MOST: usize = 8;
 
 /// Whether a line has this word and this many fields.
 pub(crate) fn has_form(line: &Record, word: &[u8], fields: usize) -> bool
@@ -47,10 +42,10 @@ pub(crate) fn is_shown(line: &Record) -> bool
 
 /// The column that a field spells.
 fn column_in(field: &[u8]) -> Option<u32>
-    ensures { result ≡ number_between 1 1000 field.now }
+    ensures { result ≡ number_between 1 LAST_COLUMN field.now }
 {
     let column = number_in(field)?;
-    if 1 <= column && column <= LAST {
+    if 1 <= column && column <= LAST_COLUMN {
         Some(column)
     } else {
         None
@@ -60,14 +55,14 @@ fn column_in(field: &[u8]) -> Option<u32>
 /// The column that the field at a place spells.
 fn column_at(line: &Record, i: usize) -> Option<u32>
     requires { i < length line.now }
-    ensures { result ≡ number_between 1 1000 (slice_index_or line.now i []) }
+    ensures { result ≡ number_between 1 LAST_COLUMN (slice_index_or line.now i []) }
 {
     column_in(line.get(i).unwrap_or(b""))
 }
 
 /// The columns that the fields after the first one spell, where each of them spells one.
 fn columns_in(alloc: Global, line: &Record) -> Result<Option<Vec<u32>>, NoMemory>
-    ensures { IfOk result (λ columns. option_map (λ v. v.items) columns ≡ numbers_in 1000 (drop 1 line.now)) }
+    ensures { IfOk result (λ columns. option_map (λ v. v.items) columns ≡ numbers_in LAST_COLUMN (drop 1 line.now)) }
 {
     let mut columns = Vec::new(alloc);
     for i in 1..line.len() {
@@ -95,7 +90,7 @@ fn is_rising(numbers: &[u32]) -> bool
 #[tactic(auto, using(crate::proofs::Forms::few_numbers))]
 pub(crate) fn inputs_in(alloc: Global, line: &Record) -> Result<Option<Vec<u32>>, NoMemory>
     ensures columns { IfOk result (λ columns. option_map (λ v. v.items) columns ≡ inputs_in line.now) }
-    ensures few { IfOk result (λ columns. IfSome columns (λ v. length v.items ≤ 8)) }
+    ensures few { IfOk result (λ columns. IfSome columns (λ v. length v.items ≤ MOST_INPUTS)) }
 {
     if !is_inputs(line) {
         return Ok(None);
@@ -112,9 +107,9 @@ pub(crate) fn inputs_in(alloc: Global, line: &Record) -> Result<Option<Vec<u32>>
 
 /// Whether a line has the word of inputs and as many columns as there may be.
 fn is_inputs(line: &Record) -> bool
-    ensures { result ≡ (is_word (codes "inputs") line.now && (nat_le 2 (length line.now) && nat_le (length line.now) 9)) }
+    ensures { result ≡ (is_word (codes "inputs") line.now && (nat_le 2 (length line.now) && nat_le (length line.now) (MOST_INPUTS + 1))) }
 {
-    line.field(1) == b"inputs".as_slice() && 2 <= line.len() && line.len() <= MOST + 1
+    line.field(1) == b"inputs".as_slice() && 2 <= line.len() && line.len() <= MOST_INPUTS + 1
 }
 
 /// Whether a column is among others.
@@ -145,7 +140,7 @@ pub(crate) fn names_in(
     count: usize,
     line: &Record,
 ) -> Result<Option<Names>, NoMemory>
-    requires { count ≤ 8 }
+    requires { count ≤ MOST_INPUTS }
     ensures { IfOk result (λ names. names ≡ names_in count line.now) }
 {
     if !has_form(line, b"names", count + 2) {
@@ -159,7 +154,7 @@ pub(crate) fn names_in(
 /// So many fields after the first one, copied.
 #[tactic(auto, using(crate::proofs::Forms::field_next))]
 fn fields_in(alloc: Global, line: &Record, count: usize) -> Result<List<List<u8>>, NoMemory>
-    requires few { count ≤ 8 }
+    requires few { count ≤ MOST_INPUTS }
     requires there { count + 1 ≤ length line.now }
     ensures { IfOk result (λ fields. fields ≡ take count (drop 1 line.now)) }
 {

@@ -3,6 +3,7 @@ use Rattle.std.specs.Prelude.{ℕ, ◌+◌, ◌==◌, ◌≤◌, ⊤, List, [], 
 use Rattle.std.specs.Str.{chars}
 use Rattle.fill_records.specs.Records.{field_of}
 use Rattle.fill_tree.specs.declared.user.Edit.TheVariants.{Add, Correct, Retract, Clear}
+use Rattle.fill_tree.specs.declared.user.TheConstants.{MOST_PROGRAMS}
 use Rattle.fill_script.specs.Line.{is_text, is_word, number_between}
 use Rattle.fill_script.specs.Number.{number_in}
 use Rattle.fill_script.specs.Opening.{onward}
@@ -29,9 +30,9 @@ best_of (Some branch) (Some k) = Some (entry.Best branch k)
 best_of (Some branch) None = None
 best_of None k = None
 
--- the branch and the number from 1 to 20 of a line of three fields
+-- the branch and the number of programs of a line of three fields
 abbrev pub best_in : List (List ℕ) → Option Entry
-best_in line = if length line == 3 then best_of (number_in (field_of 2 line)) (number_between 1 20 (field_of 3 line)) else None
+best_in line = if length line == 3 then best_of (number_in (field_of 2 line)) (number_between 1 MOST_PROGRAMS (field_of 3 line)) else None
 
 -- what a line that leaves the examples asks for
 abbrev pub question_in : List (List ℕ) → Option Entry
@@ -73,7 +74,7 @@ abbrev pub entries_from : ℕ → List (List (List ℕ)) → Result (List Entry)
 entries_from number [] = Ok []
 entries_from number (line ∷ more) = onward (λ e. onward (before e) (entries_from (number + 1) more)) (entry_at number line)
 
--- one to twenty programs are asked for where some are
+-- where programs are asked for, it is one at least, and no more than there may be
 abbrev pub IsEntry : Entry → Type 0
 IsEntry (entry.Edit e) = ⊤
 IsEntry entry.Undo = ⊤
@@ -84,4 +85,4 @@ IsEntry entry.Fill = ⊤
 IsEntry entry.Count = ⊤
 IsEntry (entry.Answer row) = ⊤
 IsEntry (entry.Object row) = ⊤
-IsEntry (entry.Best branch k) = (1 ≤ k) × (k ≤ 20)
+IsEntry (entry.Best branch k) = (1 ≤ k) × (k ≤ MOST_PROGRAMS)

@@ -3,6 +3,7 @@ use Rattle.std.specs.Prelude.{ℕ, ◌+◌, ◌==◌, ◌&&◌, not, List, [], �
 use Rattle.std.specs.List.{list_all, list_any}
 use Rattle.std.specs.Str.{bytes_eq, chars, is_utf8}
 use Rattle.fill_records.specs.Records.{field_of}
+use Rattle.fill_sheet.specs.declared.columns.TheConstants.{LAST_COLUMN, MOST_INPUTS}
 use Rattle.fill_script.specs.Number.{number_in}
 use Rattle.fill_tree.specs.declared.user.Constants.{Constants}
 use Rattle.fill_tree.specs.declared.user.Constants.TheVariants.{Any, Separators}
@@ -70,10 +71,10 @@ abbrev pub header_in : List (List ℕ) → Option Statement
 header_in line = if length line == 1 then Some says.Header else None
 
 abbrev pub inputs_in : List (List ℕ) → Option Statement
-inputs_in line = option_map says.Inputs (columns_in 1 8 1000 line)
+inputs_in line = option_map says.Inputs (columns_in 1 MOST_INPUTS LAST_COLUMN line)
 
 abbrev pub output_in : List (List ℕ) → Option Statement
-output_in line = if length line == 2 then option_map says.Output (number_between 1 1000 (field_of 2 line)) else None
+output_in line = if length line == 2 then option_map says.Output (number_between 1 LAST_COLUMN (field_of 2 line)) else None
 
 abbrev pub table_from : ℕ → Option (List ℕ) → Option (List ℕ) → Option Statement
 table_from number (Some name) (Some file) = Some (says.Lookup (Table number name file))

@@ -16,6 +16,7 @@ use Rattle.fill_script.specs.declared.error.ScriptError.TheVariants as error
 use Rattle.fill_script.specs.declared.opening.Opening.{Opening}
 use Rattle.fill_script.specs.declared.script.Entry.{Entry}
 use Rattle.fill_script.specs.declared.script.Script.{Script}
+use Rattle.fill_script.specs.declared.script.TheConstants.{MOST_LINES}
 use Rattle.fill_script.specs.declared.script.TableLine.{TableLine}
 use Rattle.fill_script.specs.declared.script.TableLine.TheVariants.{Table, Key}
 
@@ -38,14 +39,14 @@ script_with o None inputs entries = Err error.MissingSheet
 script_with o (Some sheet) None entries = Err error.MissingInputs
 script_with o (Some sheet) (Some inputs) entries = onward (λ es. Ok (assembled o sheet inputs es)) entries
 
--- the refusal of the line after the thousandth, where there is one
+-- the refusal of the line after the last that there may be, where there is one
 abbrev pub unless_more : {A : Type 0} → Bool → Result A ScriptError → Result A ScriptError
-unless_more true found = onward (λ _. Err (error.TooManyRecords 1000)) found
+unless_more true found = onward (λ _. Err (error.TooManyRecords MOST_LINES)) found
 unless_more false found = found
 
 -- the script of lines with `begin` at a place, from 0
 abbrev pub script_from : List (List (List ℕ)) → Bool → Option ℕ → Result Script ScriptError
-script_from lines more None = onward (λ _. Err (if more then error.TooManyRecords 1000 else error.MissingBegin)) (after_lines unset 1 lines)
+script_from lines more None = onward (λ _. Err (if more then error.TooManyRecords MOST_LINES else error.MissingBegin)) (after_lines unset 1 lines)
 script_from lines more (Some place) =
     onward (λ o. script_with o o.sheet o.inputs (unless_more more (entries_from (place + 2) (drop (place + 1) lines)))) (after_lines unset 1 (take place lines))
 
@@ -53,9 +54,9 @@ script_from lines more (Some place) =
 abbrev pub script_in : List (List (List ℕ)) → Bool → Result Script ScriptError
 script_in lines more = script_from lines more (position is_begin lines)
 
--- the script of these records: of the first 1,000, where the next one breaks a rule
+-- the script of these records: of as many as there may be, where the next one breaks a rule
 abbrev pub script_of : List (List (List ℕ)) → Result Script ScriptError
-script_of records = script_in (take 1000 records) (nat_lt 1000 (length records))
+script_of records = script_in (take MOST_LINES records) (nat_lt MOST_LINES (length records))
 
 -- the script of a session file's bytes
 unfoldable pub read_script : List ℕ → Result Script ScriptError

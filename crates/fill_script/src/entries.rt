@@ -8,7 +8,7 @@ use crate::number::number_in;
 use crate::{Entry, ScriptError};
 use fill_records::Record;
 use fill_text::{List, NoMemory, Text};
-use fill_tree::Edit;
+use fill_tree::{Edit, MOST_PROGRAMS};
 use std::alloc::Global;
 
 /// What lines that count from `first` ask for.
@@ -130,7 +130,7 @@ fn best_in(line: &Record) -> Option<Entry>
         return None;
     }
     let branch = number_in(line.field(2))?;
-    let k = number_between(1, 20, line.field(3))?;
+    let k = number_between(1, MOST_PROGRAMS, line.field(3))?;
     Some(Entry::Best { branch, k })
 }
 

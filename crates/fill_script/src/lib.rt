@@ -13,4 +13,4 @@ mod statement;
 pub use error::ScriptError;
 pub use line::columns_in;
 pub use number::number_in;
-pub use script::{Entry, Script, TableLine};
+pub use script::{Entry, MOST_LINES, Script, TableLine};

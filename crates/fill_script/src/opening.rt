@@ -3,6 +3,7 @@ ghost use Rattle.std.specs.Prelude.{◌≡◌, ◌≢◌, ◌≤◌, length, Ok,
 ghost use Rattle.fill_script.specs.Opening.{after_line, after_lines, is_said, is_understood, is_wide, unset, with_statement};
 
 use crate::line::is_among;
+use crate::script::MOST_LINES;
 use crate::statement::{Statement, statement_in};
 use crate::{ScriptError, TableLine};
 use fill_records::Record;
@@ -42,7 +43,7 @@ impl Opening {
 
     /// What these lines set, the first of which is line 1.
     pub(crate) fn of_lines(alloc: Global, lines: &[Record]) -> Result<Opening, ScriptError>
-        requires { length lines.now ≤ 1000 }
+        requires { length lines.now ≤ MOST_LINES }
         ensures ok { IfOk result (λ opening. after_lines unset 1 lines.now ≡ Ok opening) }
         ensures err { IfErr result (λ e. e ≢ ScriptError.NoMemory → after_lines unset 1 lines.now ≡ Err e) }
     {

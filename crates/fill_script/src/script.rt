@@ -68,12 +68,12 @@ pub enum Entry {
     Answer { row: u32 },
     /// Print the simplest program that explains the examples of a row's branch and answers otherwise there.
     Object { row: u32 },
-    /// Print the first `k` programs of a branch, 1 to 20 of them; all of them where they are fewer. Branches count from 1.
+    /// Print the first `k` programs of a branch, one at least, and no more than there may be; all of them where they are fewer. Branches count from 1.
     Best { branch: u32, k: u32 },
 }
 
 /// How many lines a session file may have.
-const MOST_LINES: usize = 1_000;
+pub const MOST_LINES: usize = 1_000;
 
 /// The refusal of the line after the last that a session file may have.
 const TOO_MANY: ScriptError = ScriptError::TooManyRecords {
@@ -104,7 +104,7 @@ impl Script {
 
     /// The script of lines, after which there are more or none.
     fn of_lines(alloc: Global, lines: &[Record], more: bool) -> Result<Script, ScriptError>
-        requires { length lines.now ≤ 1000 }
+        requires { length lines.now ≤ MOST_LINES }
         ensures ok { IfOk result (λ script. script_in lines.now more ≡ Ok script) }
         ensures err { IfErr result (λ e. e ≢ ScriptError.NoMemory → script_in lines.now more ≡ Err e) }
     {

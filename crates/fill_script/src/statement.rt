@@ -5,6 +5,7 @@ ghost use Rattle.fill_script.specs.Line.{constants_in, constants_of, depth_in, h
 use crate::TableLine;
 use crate::line::{columns_in, is_word, name_in, number_between};
 use fill_records::Record;
+use fill_sheet::{LAST_COLUMN, MOST_INPUTS};
 use fill_text::{List, Name, NoMemory};
 use fill_tree::Constants;
 use std::alloc::Global;
@@ -98,7 +99,7 @@ fn header_in(line: &Record) -> Option<Statement>
 fn inputs_in(alloc: Global, line: &Record) -> Result<Option<Statement>, NoMemory>
     ensures { IfOk result (λ statement. statement ≡ inputs_in line.now) }
 {
-    match columns_in(alloc, line, 1, 8, 1_000)? {
+    match columns_in(alloc, line, 1, MOST_INPUTS, LAST_COLUMN)? {
         Some(columns) => Ok(Some(Statement::Inputs(columns))),
         None => Ok(None),
     }
@@ -111,7 +112,7 @@ fn output_in(line: &Record) -> Option<Statement>
     if line.len() != 2 {
         return None;
     }
-    let column = number_between(1, 1_000, line.field(2))?;
+    let column = number_between(1, LAST_COLUMN, line.field(2))?;
     Some(Statement::Output(column))
 }
 

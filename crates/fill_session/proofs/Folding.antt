@@ -15,7 +15,7 @@ use Rattle.fill_space.specs.Spaces.{SpacesData, SpaceStands}
 use Rattle.fill_session.specs.Branches.{ArePlaced, BranchData, all_rows, lists_of, rule_of_profile}
 use Rattle.fill_session.specs.Edits.{rows_of}
 use Rattle.fill_session.specs.Fate.{EachHasProgram, FateIs}
-use Rattle.fill_session.specs.Folded.{ArePicked, ArePickedAll, AreKept, AreMade, KeptFor, LacksGuard}
+use Rattle.fill_session.specs.Folded.{ArePicked, ArePickedAll, AreKept, AreBranchesOf, KeptFor, LacksGuard}
 use Rattle.fill_session.specs.State.{AreShown, SpacesStand}
 use Rattle.fill_session.specs.declared.branch.Branch.{Branch}
 use Rattle.fill_session.specs.declared.error.EditError.{EditError}
@@ -100,7 +100,7 @@ module _ {T : Type 0} (s : SpacesData) (xs : List Example) (folds : SpaceFolds T
     are_placed : ArePlaced s.ground xs stand.branches
     are_placed = subst (λ (r : Placing). Placed r (FitsOn s.ground) (WeighsOn s.ground) xs stand.branches) rule stand.placed
 
-    pub made_shown : (made : List Branch) → AreMade s.ground stand.branches made → AreShown s.ground xs made
+    pub made_shown : (made : List Branch) → AreBranchesOf s.ground stand.branches made → AreShown s.ground xs made
     made_shown made h =
         let few : length h.0 ≤ 8 = (let size = lists_long h.0 in let same : length (lists_of h.0) ≡ length stand.branches = ap length h.1 in let limit = stand.few in omega arith) in
         (h.0, record { placed = subst (λ v. ArePlaced s.ground xs v) (sym h.1) are_placed; few = few; guarded = h.2 }, h.3)

@@ -17,7 +17,7 @@ use Rattle.fill_space.specs.Spaces.{SpacesData, SpaceStands}
 use Rattle.fill_session.specs.Branches.{BranchData, AreGuarded, IsGuardBefore, all_rows, lists_of}
 use Rattle.fill_session.specs.Edits.{rows_of}
 use Rattle.fill_session.specs.Fate.{CanBeGuarded}
-use Rattle.fill_session.specs.Folded.{KeptFor, AreKept, AreMade, IsGuardOf, IsUnguarded, LacksGuard}
+use Rattle.fill_session.specs.Folded.{KeptFor, AreKept, AreBranchesOf, IsGuardOf, IsUnguarded, LacksGuard}
 use Rattle.fill_session.specs.State.{Shows}
 use Rattle.fill_session.specs.declared.branch.Branch.{Branch}
 use Rattle.fill_session.specs.declared.error.EditError.{EditError}
@@ -246,7 +246,7 @@ module _ (s : SpacesData) (folds : List (Fold ℕ)) (rows rest inside outside : 
 
 -- all branches are made
 pub yet_all : (s : SpacesData) (folds : List (Fold ℕ)) (rows rest : List ℕ) (k : ℕ) (made : List Branch) → Yet s folds rows rest k made → length folds ≤ k
-    → (lists : List (List Example)) → AreKept s folds lists → rows ≡ all_rows lists → AreMade s.ground lists made
+    → (lists : List (List Example)) → AreKept s folds lists → rows ≡ all_rows lists → AreBranchesOf s.ground lists made
 yet_all s folds rows rest k made yet le lists kept is =
     let all = yet.yet lists kept is in
     let size = zip_lengths (KeptFor s) folds lists kept in

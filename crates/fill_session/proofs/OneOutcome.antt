@@ -31,10 +31,10 @@ outcome_is_one g examples e (Some r) (Some s) (inr h) (inl k) = absurd (none-som
 outcome_is_one g examples e (Some r) (Some s) (inr h) (inr k) = fate_is_one g (changed examples e) (Some r) (Some s) h.1 k.1
 
 -- an edit's answer that is not out of memory
-abbrev IsTold : Result ⊤ EditError → Type 0
-IsTold a = a ≢ Err error.NoMemory
+abbrev IsAnswer : Result ⊤ EditError → Type 0
+IsAnswer a = a ≢ Err error.NoMemory
 
-answer_is_one : (g : Ground) (examples after other : List Example) (e : Edit) (a b : Result ⊤ EditError) → IsTold a → IsTold b → Answers g examples e a after → Answers g examples e b other → a ≡ b
+answer_is_one : (g : Ground) (examples after other : List Example) (e : Edit) (a b : Result ⊤ EditError) → IsAnswer a → IsAnswer b → Answers g examples e a after → Answers g examples e b other → a ≡ b
 answer_is_one g examples after other e (Ok x) (Ok y) p q h k = refl
 answer_is_one g examples after other e (Ok x) (Err s) p q h k =
     absurd (none-some s (outcome_is_one g examples e None (Some s) h.0 (k.0 (λ same. q (ap (λ (r : EditError). Err r) same)))))
@@ -45,10 +45,10 @@ answer_is_one g examples after other e (Err r) (Err s) p q h k =
     ap (λ (r : EditError). Err r) (same_Some r s one)
 
 -- a move's reply that is none
-abbrev Told : Reply → Type 0
-Told r = r ≢ reply.Edited (Err error.NoMemory)
+abbrev IsReply : Reply → Type 0
+IsReply r = r ≢ reply.Edited (Err error.NoMemory)
 
-move_is_one : (g : Ground) (a b c : Timeline) (m : Move) (r s : Reply) → Told r → Told s → MoveIs g a m r b → MoveIs g a m s c → (r ≡ s) × (b ≡ c)
+move_is_one : (g : Ground) (a b c : Timeline) (m : Move) (r s : Reply) → IsReply r → IsReply s → MoveIs g a m r b → MoveIs g a m s c → (r ≡ s) × (b ≡ c)
 move_is_one g a b c (move.Edit e) r s p q h k =
     let one = answer_is_one g a.examples b.examples c.examples e h.0 k.0 (λ same. p (h.1 ∙ ap reply.Edited same)) (λ same. q (k.1 ∙ ap reply.Edited same)) h.2 k.2 in
     (h.1 ∙ ap reply.Edited one ∙ sym k.1, h.4 ∙ ap (λ (v : Result ⊤ EditError). edited_by a e v) one ∙ sym k.4)
@@ -60,7 +60,7 @@ move_is_one g a b c move.Redo r s p q h k =
     (h.1 ∙ ap reply.Redone one.0 ∙ sym k.1, one.1)
 move_is_one g a b c move.Forget r s p q h k = (h.0 ∙ sym k.0, h.1 ∙ sym k.1)
 
-pub moves_are_one : (g : Ground) (a : Timeline) (moves : List Move) (ones others : List Reply) (n k : ℕ) (b c : Timeline) → All Told ones → All Told others
+pub moves_are_one : (g : Ground) (a : Timeline) (moves : List Move) (ones others : List Reply) (n k : ℕ) (b c : Timeline) → All IsReply ones → All IsReply others
     → AreMade g a moves ones n b → AreMade g a moves others k c → (ones ≡ others) × (n ≡ k) × (b ≡ c)
 moves_are_one g a [] [] [] n k b c p q h l = (refl, h.0 ∙ sym l.0, h.1 ∙ sym l.1)
 moves_are_one g a [] [] (s ∷ others) n k b c p q h l = absurd l
@@ -68,6 +68,6 @@ moves_are_one g a [] (r ∷ ones) others n k b c p q h l = absurd h
 moves_are_one g a (m ∷ moves) [] others n k b c p q h l = absurd h
 moves_are_one g a (m ∷ moves) (r ∷ ones) [] n k b c p q h l = absurd l
 moves_are_one g a (m ∷ moves) (r ∷ ones) (s ∷ others) n k b c p q h l =
-    let one = move_is_one g a h.0 l.0 m r s (All-head Told r ones p) (All-head Told s others q) h.2 l.2 in
-    let later = moves_are_one g l.0 moves ones others h.1 l.1 b c (All-tail Told r ones p) (All-tail Told s others q) (subst (λ (t : Timeline). AreMade g t moves ones h.1 b) one.1 h.4) l.4 in
+    let one = move_is_one g a h.0 l.0 m r s (All-head IsReply r ones p) (All-head IsReply s others q) h.2 l.2 in
+    let later = moves_are_one g l.0 moves ones others h.1 l.1 b c (All-tail IsReply r ones p) (All-tail IsReply s others q) (subst (λ (t : Timeline). AreMade g t moves ones h.1 b) one.1 h.4) l.4 in
     ((λ i. one.0 i ∷ later.0 i), h.3 ∙ ap (λ (v : ℕ). move_term g.sheet a.examples m + v) later.1 ∙ sym l.3, later.2)

@@ -9,6 +9,7 @@ use Rattle.fill_tree.specs.declared.profile.Placing.TheVariants as rules
 use Rattle.fill_tree.specs.declared.profile.Profile.{Profile}
 use Rattle.fill_tree.specs.declared.user.Example.{Example}
 use Rattle.fill_split.specs.Placement.{Placed}
+use Rattle.fill_split.specs.declared.place.TheConstants.{MOST_BRANCHES}
 use Rattle.fill_split.specs.declared.rule.Placing.{Placing}
 use Rattle.fill_split.specs.declared.rule.Placing.TheVariants.{First, Lightest}
 use Rattle.fill_space.specs.declared.ground.Ground.{Ground}
@@ -56,5 +57,5 @@ AreGuarded g (b ∷ later) =
 -- these are the branches of the examples, with their guards and programs
 pub record AreBranches (g : Ground) (examples : List Example) (branches : List BranchData) : Type 0 where
   pub placed : ArePlaced g examples (lists_of branches)
-  pub few : length branches ≤ 8
+  pub few : length branches ≤ MOST_BRANCHES
   pub guarded : AreGuarded g branches

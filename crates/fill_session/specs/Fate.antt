@@ -4,6 +4,7 @@ use Rattle.fill_tree.specs.Separate.{Separates}
 use Rattle.fill_tree.specs.declared.guard.Guard.{Guard}
 use Rattle.fill_tree.specs.declared.user.Example.{Example}
 use Rattle.fill_split.specs.Refusals.{NotAlone, NinthAt}
+use Rattle.fill_split.specs.declared.place.TheConstants.{MOST_BRANCHES}
 use Rattle.fill_space.specs.declared.ground.Ground.{Ground}
 use Rattle.fill_space.specs.Ground.{FitsOn, WeighsOn}
 use Rattle.fill_session.specs.Edits.{rows_of}
@@ -51,11 +52,11 @@ IsRowWithoutProgram g examples row =
 abbrev pub IsRowOfNinth : Ground → List Example → ℕ → Type 0
 IsRowOfNinth g examples row = EachHasProgram g examples × ((i : ℕ) × IsOfRow examples i row × WouldOpenNinth g examples i)
 
--- each example has a program, they have at most eight branches, and the branch of this number, from 1, is the first but
+-- each example has a program, they have no more branches than there may be, and the branch of this number, from 1, is the first but
 -- the last that can't be guarded
 abbrev pub IsBranchWithoutGuard : Ground → List Example → ℕ → Type 0
 IsBranchWithoutGuard g examples branch = EachHasProgram g examples
-    × ((lists : List (List Example)) × (k : ℕ) × ArePlaced g examples lists × (length lists ≤ 8) × IsFirstUnguarded g lists k × (branch ≡ suc k))
+    × ((lists : List (List Example)) × (k : ℕ) × ArePlaced g examples lists × (length lists ≤ MOST_BRANCHES) × IsFirstUnguarded g lists k × (branch ≡ suc k))
 
 -- what becomes of the examples: the reason for which they are refused, and none where they are accepted
 abbrev pub FateIs : Ground → List Example → Option EditError → Type 0

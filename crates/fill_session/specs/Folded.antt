@@ -42,8 +42,8 @@ pub record IsUnguarded (g : Ground) (inside outside : List ℕ) (branch : ℕ) (
   pub none : (h : Guard) → ¬ (Separates g.settings g.sheet inside outside h)
 
 -- the shown branches are those of the lists, with their guards and programs
-abbrev pub AreMade : Ground → List (List Example) → List Branch → Type 0
-AreMade g lists shown = (branches : List BranchData) × (lists_of branches ≡ lists) × AreGuarded g branches × AllZip Shows shown branches
+abbrev pub AreBranchesOf : Ground → List (List Example) → List Branch → Type 0
+AreBranchesOf g lists shown = (branches : List BranchData) × (lists_of branches ≡ lists) × AreGuarded g branches × AllZip Shows shown branches
 
 -- the reason tells the first of the lists that can't be guarded
 abbrev pub LacksGuard : Ground → List (List Example) → EditError → Type 0

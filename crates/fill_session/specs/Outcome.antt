@@ -6,10 +6,14 @@ use Rattle.fill_text.specs.Data.{RowData, SheetData, nth}
 use Rattle.fill_tree.specs.declared.user.Edit.{Edit}
 use Rattle.fill_tree.specs.declared.user.Edit.TheVariants.{Add, Correct, Retract, Clear}
 use Rattle.fill_tree.specs.declared.user.Example.{Example}
+use Rattle.fill_tree.specs.declared.user.TheConstants.{MOST_EXAMPLES}
+use Rattle.fill_arena.specs.declared.entry.TheConstants.{MOST_CHARACTERS}
+use Rattle.fill_split.specs.declared.place.TheConstants.{MOST_BRANCHES}
 use Rattle.fill_space.specs.declared.ground.Ground.{Ground}
 use Rattle.fill_session.specs.Edits.{changed}
 use Rattle.fill_session.specs.Fate.{FateIs}
 use Rattle.fill_session.specs.declared.error.EditError.{EditError}
+use Rattle.fill_session.specs.declared.reasons.TheConstants.{MOST_INPUT_CHARACTERS}
 use Rattle.fill_session.specs.declared.error.EditError.TheVariants as error
 use Rattle.fill_session.specs.declared.error.Part.TheVariants as part
 
@@ -33,12 +37,12 @@ inputs_length sheet row = cells_length (nth sheet.rows row)
 -- why the text, or else what the row's inputs have together, is too long to learn from
 abbrev pub length_reason : SheetData → ℕ → List ℕ → Option EditError
 length_reason sheet row text =
-    if nat_lt 100 (length text) then Some (error.TooLong part.Text (length text)) else
-    if nat_lt 1000 (inputs_length sheet row) then Some (error.TooLong part.Inputs (inputs_length sheet row)) else None
+    if nat_lt MOST_CHARACTERS (length text) then Some (error.TooLong part.Text (length text)) else
+    if nat_lt MOST_INPUT_CHARACTERS (inputs_length sheet row) then Some (error.TooLong part.Inputs (inputs_length sheet row)) else None
 
--- the sixty-fourth example is the last
+-- there are already as many examples as there may be
 abbrev pub count_reason : List Example → Option EditError
-count_reason examples = if nat_le 64 (length examples) then Some error.TooMany else None
+count_reason examples = if nat_le MOST_EXAMPLES (length examples) then Some error.TooMany else None
 
 -- the first reason to refuse an edit that is seen without a look at programs
 abbrev pub first_reason : SheetData → List Example → Edit → Option EditError
@@ -61,9 +65,9 @@ OutcomeIs g examples edit (Some reason) =
     (first_reason g.sheet examples edit ≡ Some reason)
     ⊎ ((first_reason g.sheet examples edit ≡ None) × FateIs g (changed examples edit) (Some reason))
 
--- one step, and eight for each example from the row on
+-- one step, and one for each branch that there may be, for each example from the row on
 abbrev pub steps_from : List Example → ℕ → ℕ
-steps_from examples row = 1 + 8 * count_by (λ x. nat_le row x.row) examples
+steps_from examples row = 1 + MOST_BRANCHES * count_by (λ x. nat_le row x.row) examples
 
 -- the most steps of an edit that leaves these examples: none where a reason was seen without a look at programs
 abbrev pub term_of : Option EditError → List Example → Edit → ℕ

@@ -3,6 +3,7 @@ use Rattle.std.specs.Prelude.{◌≡◌, ◌↔◌, ℕ, suc, ◌≤◌, List, l
 use Rattle.std.specs.List.{AllZip}
 use Rattle.fill_tree.specs.Meaning.{program_tree}
 use Rattle.fill_tree.specs.declared.user.Example.{Example}
+use Rattle.fill_tree.specs.declared.user.TheConstants.{MOST_EXAMPLES}
 use Rattle.fill_split.specs.Standing.{StandsBy, rule_of}
 use Rattle.fill_split.specs.declared.folds.Folds.{Folds}
 use Rattle.fill_undo.specs.Moves.{Moves}
@@ -33,7 +34,7 @@ AreShown g examples shown = (branches : List BranchData) × AreBranches g exampl
 -- what is true of the examples that are present in a session and of the branches that it shows
 pub record IsSession (s : SpacesData) (examples : List Example) (branches : List Branch) : Type 0 where
   pub rising : AreExamples examples
-  pub few : length examples ≤ 64
+  pub few : length examples ≤ MOST_EXAMPLES
   pub each : All (MayStand s.ground) examples
   pub shown : AreShown s.ground examples branches
 

@@ -10,6 +10,7 @@ use Rattle.fill_tree.specs.Order.{Before, program_cmp}
 use Rattle.fill_tree.specs.Tree.{Atoms}
 use Rattle.fill_tree.specs.Value.{IsValue, ProgramIs}
 use Rattle.fill_tree.specs.declared.user.Example.{Example}
+use Rattle.fill_tree.specs.declared.user.TheConstants.{MOST_PROGRAMS}
 use Rattle.fill_object.specs.Objector.{Answers}
 use Rattle.fill_object.specs.declared.graph.Objection.{Objection}
 use Rattle.fill_space.specs.Best.{AreBestOn}
@@ -21,10 +22,9 @@ use Rattle.fill_session.specs.Branches.{AreBranches, BranchData}
 use Rattle.fill_session.specs.Objector.{ObjectorIs}
 use Rattle.fill_session.specs.State.{IsBranch, SessionData}
 use Rattle.fill_session.specs.declared.answer.Answer.{Answer}
-use Rattle.fill_session.specs.declared.candidates.Told.{Told}
-use Rattle.fill_session.specs.declared.candidates.Told.TheVariants.{Found, Nothing, Unknown}
+use Rattle.fill_session.specs.declared.candidates.Verdict.{Verdict}
+use Rattle.fill_session.specs.declared.candidates.Verdict.TheVariants.{Found, Nothing, Unknown}
 use Rattle.fill_session.specs.declared.leads.Lead.{Lead}
-use Rattle.fill_session.specs.declared.leads.TheConstants.{CANDIDATES}
 use Rattle.fill_session.specs.declared.suggestion.Suggestion.{Suggestion}
 
 -- a row, what is answered there, and who objects
@@ -68,7 +68,7 @@ asked_of s = record { row = s.row; said = s.answer; objector = objection_tree s.
 -- what leads the search in a space: its guide, and its first programs
 pub record LeadStands (s : SpacesData) (lead : Lead) : Type 0 where
   pub guide : GuideStands s lead.space lead.guide
-  pub candidates : (l : List Example) → SpaceStands s lead.space l → AreBestOn s.ground l CANDIDATES (map program_tree lead.candidates)
+  pub candidates : (l : List Example) → SpaceStands s lead.space l → AreBestOn s.ground l MOST_PROGRAMS (map program_tree lead.candidates)
   pub few : All (λ p. program_cost s.ground.settings.profile.prices (program_tree p) < 2 ^ 64) lead.candidates
 
 -- for each branch its space, and what leads the search for objections there
@@ -93,16 +93,16 @@ pub record ObjectsBy (g : Ground) (row : ℕ) (said : Option (List ℕ)) (p : At
   pub value : IsValue (ProgramIs g.sheet g.tables row p) o.text
 
 -- what the candidates of a branch tell of a row where this is answered: the objection, if it comes before the objector so far, or that none does
-abbrev pub ToldIs : Ground → List Example → ℕ → Option (List ℕ) → Option Suggestion → Told → Type 0
-ToldIs g examples row said best (Found o) = IsObjectionOn g examples row said (objection_tree o) × ComesFirst g.settings.profile.prices best (program_tree o.program)
-ToldIs g examples row said best Nothing = (p : Atoms) → ObjectsOn g examples row said p → ¬ (ComesFirst g.settings.profile.prices best p)
-ToldIs g examples row said best Unknown = Unit {0}
+abbrev pub VerdictIs : Ground → List Example → ℕ → Option (List ℕ) → Option Suggestion → Verdict → Type 0
+VerdictIs g examples row said best (Found o) = IsObjectionOn g examples row said (objection_tree o) × ComesFirst g.settings.profile.prices best (program_tree o.program)
+VerdictIs g examples row said best Nothing = (p : Atoms) → ObjectsOn g examples row said p → ¬ (ComesFirst g.settings.profile.prices best p)
+VerdictIs g examples row said best Unknown = Unit {0}
 
 -- the cost of what is found is a number of 64 bits
-abbrev pub ToldFew : Prices → Told → Type 0
-ToldFew prices (Found o) = program_cost prices (program_tree o.program) < 2 ^ 64
-ToldFew prices Nothing = Unit {0}
-ToldFew prices Unknown = Unit {0}
+abbrev pub VerdictFew : Prices → Verdict → Type 0
+VerdictFew prices (Found o) = program_cost prices (program_tree o.program) < 2 ^ 64
+VerdictFew prices Nothing = Unit {0}
+VerdictFew prices Unknown = Unit {0}
 
 -- the objector of a row in doubt, if it costs no more than the limit, if there is one
 abbrev pub ObjectorWithin : Ground → List Example → ℕ → Option ℕ → Option ObjectionTree → Type 0

@@ -9,7 +9,7 @@ ghost use Rattle.fill_space.specs.Spaces.{SpaceStands};
 ghost use Rattle.fill_session.specs.Branches.{rule_of_profile, all_rows};
 ghost use Rattle.fill_session.specs.Edits.{rows_of};
 ghost use Rattle.fill_session.specs.Fate.{EachHasProgram, FateIs};
-ghost use Rattle.fill_session.specs.Folded.{ArePicked, ArePickedAll, AreKept, IsGuardOf, IsUnguarded, AreMade, LacksGuard};
+ghost use Rattle.fill_session.specs.Folded.{ArePicked, ArePickedAll, AreKept, IsGuardOf, IsUnguarded, AreBranchesOf, LacksGuard};
 ghost use Rattle.fill_session.specs.State.{AreShown, IsHeld, SpacesStand};
 
 use crate::before::{guard_before, program_before};
@@ -18,9 +18,9 @@ use crate::error::EditError;
 use crate::present::Present;
 use fill_guard::guard;
 use fill_space::{Space, Spaces};
-use fill_split::{Fold, Folds};
+use fill_split::{Fold, Folds, MOST_BRANCHES};
 use fill_text::{List, NoMemory};
-use fill_tree::{Example, Guard, Program};
+use fill_tree::{Example, Guard, MOST_EXAMPLES, Program};
 use std::alloc::Global;
 
 /// The branches that folds stand for, each with its guard and its program, or the first one that no guard tells from the
@@ -36,7 +36,7 @@ pub(crate) fn branches_of(
     requires stand { SpacesStand spaces.now examples.now folds.now }
     requires rule { rule_of folds.now ≡ rule_of_profile spaces.now.ground.settings.profile }
     requires each { All (MayStand spaces.now.ground) examples.now }
-    requires few { length examples.now ≤ 64 }
+    requires few { length examples.now ≤ MOST_EXAMPLES }
     ensures shown { IfOk result (AreShown spaces.now.ground examples.now) }
     ensures refused { IfErr result (λ reason. reason ≢ EditError.NoMemory → EachHasProgram spaces.now.ground examples.now →
         FateIs spaces.now.ground examples.now (Some reason)) }
@@ -85,11 +85,11 @@ fn guarded(
 ) -> Result<List<Branch>, EditError>
     requires before { IsHeld spaces.now before.now.examples before.now.folds before.now.branches }
     requires kept { (lists : Listed (Listed Example)) × AreKept spaces.now folds.now lists × (rows.now ≡ all_rows lists) }
-    requires short { length folds.now ≤ 8 }
-    requires few { length rows.now ≤ 64 }
+    requires short { length folds.now ≤ MOST_BRANCHES }
+    requires few { length rows.now ≤ MOST_EXAMPLES }
     requires each { All (IsRowOf spaces.now.ground.sheet) rows.now }
     ensures made { IfOk result (λ made. (lists : Listed (Listed Example)) → AreKept spaces.now folds.now lists → rows.now ≡ all_rows lists →
-        AreMade spaces.now.ground lists made) }
+        AreBranchesOf spaces.now.ground lists made) }
     ensures refused { IfErr result (λ reason. reason ≢ EditError.NoMemory → (lists : Listed (Listed Example)) →
         AreKept spaces.now folds.now lists → rows.now ≡ all_rows lists → LacksGuard spaces.now.ground lists reason) }
 {
@@ -130,7 +130,7 @@ fn guard_of(
     requires before { IsHeld spaces.now before.now.examples before.now.folds before.now.branches }
     requires inside { All (IsRowOf spaces.now.ground.sheet) inside.now }
     requires outside { All (IsRowOf spaces.now.ground.sheet) outside.now }
-    requires few { length outside.now ≤ 64 }
+    requires few { length outside.now ≤ MOST_EXAMPLES }
     ensures made { IfOk result (IsGuardOf spaces.now.ground inside.now outside.now is_last) }
     ensures refused { IfErr result (λ reason. reason ≢ EditError.NoMemory → IsUnguarded spaces.now.ground inside.now outside.now branch is_last reason) }
 {

@@ -5,19 +5,19 @@ ghost use Rattle.fill_tree.specs.Meaning.{program_tree};
 ghost use Rattle.fill_tree.specs.declared.user.Example.{Example};
 ghost use Rattle.fill_object.specs.Objector.{Answers};
 ghost use Rattle.fill_space.specs.Spaces.{SpaceStands};
-ghost use Rattle.fill_session.specs.Suggested.{ComesFirst, IsFew, LeadStands, ObjectsBy, ToldFew, ToldIs};
+ghost use Rattle.fill_session.specs.Suggested.{ComesFirst, IsFew, LeadStands, ObjectsBy, VerdictFew, VerdictIs};
 
-use crate::leads::{CANDIDATES, Lead};
+use crate::leads::Lead;
 use crate::suggestion::Suggestion;
 use fill_eval::program_value;
 use fill_space::{Objection, Spaces};
 use fill_text::{NoMemory, Text};
-use fill_tree::{Prices, Program};
+use fill_tree::{MOST_PROGRAMS, Prices, Program};
 use std::alloc::Global;
 
 /// What the candidates of a branch tell of a row.
 #[derive(Drop)]
-pub(crate) enum Told {
+pub(crate) enum Verdict {
     /// The objection there, which comes before that of the best row so far.
     Found(Objection),
     /// None there does.
@@ -34,29 +34,29 @@ pub(crate) fn told_of(
     row: u32,
     said: &Option<Text>,
     best: &Option<Suggestion>,
-) -> Result<Told, NoMemory>
+) -> Result<Verdict, NoMemory>
     requires lead { LeadStands spaces.now lead.now }
     requires first { 1 ≤ row }
     requires last { row ≤ length spaces.now.ground.sheet.rows }
     requires best { IfSome best.now (IsFew spaces.now.ground.settings.profile.prices) }
-    ensures told { IfOk result (λ told. (l : Listed Example) → SpaceStands spaces.now lead.now.space l → ToldIs spaces.now.ground l row said.now best.now told) }
-    ensures few { IfOk result (ToldFew spaces.now.ground.settings.profile.prices) }
+    ensures told { IfOk result (λ told. (l : Listed Example) → SpaceStands spaces.now lead.now.space l → VerdictIs spaces.now.ground l row said.now best.now told) }
+    ensures few { IfOk result (VerdictFew spaces.now.ground.settings.profile.prices) }
 {
     let prices = &spaces.settings().profile.prices;
     let candidates = lead.candidates.as_slice();
     for i in 0..candidates.len() {
         let candidate = &candidates[i];
         if !comes_first(best, candidate, prices) {
-            return Ok(Told::Nothing);
+            return Ok(Verdict::Nothing);
         }
         if let Some(objection) = objection_by(alloc, spaces, candidate, row, said)? {
-            return Ok(Told::Found(objection));
+            return Ok(Verdict::Found(objection));
         }
     }
-    if candidates.len() < CANDIDATES as usize {
-        Ok(Told::Nothing)
+    if candidates.len() < MOST_PROGRAMS as usize {
+        Ok(Verdict::Nothing)
     } else {
-        Ok(Told::Unknown)
+        Ok(Verdict::Unknown)
     }
 }
 

@@ -8,7 +8,7 @@ ghost use Rattle.fill_space.specs.Ground.{MayStand};
 ghost use Rattle.fill_session.specs.Edits.{AreExamples, changed, with_example, without_example};
 ghost use Rattle.fill_session.specs.Outcome.{first_reason, term};
 
-use fill_split::Change;
+use fill_split::{Change, MOST_BRANCHES};
 use fill_text::{List, NoMemory, Text};
 use fill_tree::{Edit, Example};
 use std::alloc::Global;
@@ -105,7 +105,7 @@ pub(crate) fn change_of(examples: &[Example], edit: &Edit) -> Result<Option<Chan
     ensures allowed { IfOk result (λ made. (g : Ground) → first_reason g.sheet examples.now edit.now ≡ None →
         IfSome made (λ m. IsAllowed (MayStand g) m.change)) }
     ensures steps { IfOk result (λ made. (sheet : SheetData) → first_reason sheet examples.now edit.now ≡ None →
-        IfSome made (λ m. 1 + 8 * length (drop m.at (changed examples.now edit.now)) ≡ term sheet examples.now edit.now)) }
+        IfSome made (λ m. 1 + MOST_BRANCHES * length (drop m.at (changed examples.now edit.now)) ≡ term sheet examples.now edit.now)) }
     ensures cleared { edit.now ≡ Edit.Clear → result ≡ Ok None }
 {
     match edit {

@@ -8,19 +8,17 @@ use crate::session::Session;
 use fill_arena::laws::costs_are_present;
 use fill_space::{Guide, Space, Spaces};
 use fill_text::{List, NoMemory};
-use fill_tree::Program;
+use fill_tree::{MOST_PROGRAMS, Program};
 use std::alloc::Global;
-
-/// How many programs of a branch are asked one by one before its graph is: as many as [`Spaces::best`] gives. To ask one
-/// on a row takes well below a microsecond, and to search the graph there some hundred.
-pub(crate) const CANDIDATES: u32 = 20;
 
 /// The space of a branch, and what leads the search for objections there.
 #[derive(Drop)]
 pub(crate) struct Lead {
     pub space: Space,
     pub guide: Guide,
-    /// The first programs of the branch, in order; all of them where they are fewer.
+    /// The first programs of the branch, in order, as many as [`Spaces::best`] gives; all of them where they are fewer. They
+    /// are asked one by one before the graph is: to ask one on a row takes well below a microsecond, and to search the graph
+    /// there some hundred.
     pub candidates: List<Program>,
 }
 
@@ -48,7 +46,7 @@ fn lead_of(spaces: &Spaces, space: Space) -> Result<Lead, NoMemory>
     spaces.settings().profile.prices.keep_small();
     costs_are_present();
     let guide = spaces.guide(space)?;
-    let candidates = spaces.best(space, CANDIDATES)?;
+    let candidates = spaces.best(space, MOST_PROGRAMS)?;
     Ok(Lead {
         space,
         guide,

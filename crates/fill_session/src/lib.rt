@@ -26,5 +26,6 @@ pub use error::{EditError, Part};
 pub use fill_space::{Objection, Shapes};
 pub use fill_undo::{Done, Kind};
 pub use moves::{Move, Reply};
+pub use reasons::MOST_INPUT_CHARACTERS;
 pub use session::Session;
 pub use suggestion::Suggestion;

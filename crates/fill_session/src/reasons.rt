@@ -4,18 +4,13 @@ ghost use Rattle.fill_session.specs.Outcome.{first_reason, is_row, has_example, 
 ghost use Rattle.fill_tree.specs.declared.user.Edit.TheVariants.{Add, Correct, Retract};
 
 use crate::error::{EditError, Part};
+use fill_arena::MOST_CHARACTERS;
 use fill_sheet::Sheet;
 use fill_text::Text;
-use fill_tree::{Edit, Example};
-
-/// The most characters of an example's text.
-const TEXT_LIMIT: usize = 100;
+use fill_tree::{Edit, Example, MOST_EXAMPLES};
 
 /// The most characters that the input cells of an example's row have together.
-const INPUTS_LIMIT: usize = 1000;
-
-/// The most examples.
-const EXAMPLES_LIMIT: usize = 64;
+pub const MOST_INPUT_CHARACTERS: usize = 1_000;
 
 /// The first reason to refuse the edit that is seen without a look at programs. Takes no memory.
 pub(crate) fn first_reason(sheet: &Sheet, examples: &[Example], edit: &Edit) -> Option<EditError>
@@ -102,14 +97,14 @@ fn reason_of_length(sheet: &Sheet, row: u32, text: &Text) -> Option<EditError>
     ensures { result ≡ length_reason sheet.now row text.now }
 {
     let length = text.len();
-    if length > TEXT_LIMIT {
+    if length > MOST_CHARACTERS {
         return Some(EditError::TooLong {
             part: Part::Text,
             length,
         });
     }
     let length = characters(sheet, row);
-    if length > INPUTS_LIMIT {
+    if length > MOST_INPUT_CHARACTERS {
         return Some(EditError::TooLong {
             part: Part::Inputs,
             length,
@@ -135,7 +130,7 @@ fn characters(sheet: &Sheet, row: u32) -> usize
 fn reason_of_count(examples: &[Example]) -> Option<EditError>
     ensures { result ≡ count_reason examples.now }
 {
-    if examples.len() >= EXAMPLES_LIMIT {
+    if examples.len() >= MOST_EXAMPLES {
         Some(EditError::TooMany)
     } else {
         None

@@ -35,7 +35,7 @@ use fill_sheet::Sheet;
 use fill_space::{Objection, Shapes, Space, Spaces};
 use fill_tables::Tables;
 use fill_text::{List, NoMemory};
-use fill_tree::{Edit, Example, Program, Settings, Switch};
+use fill_tree::{Edit, Example, MOST_EXAMPLES, MOST_PROGRAMS, Program, Settings, Switch};
 use fill_undo::{Done, History};
 use std::alloc::Global;
 use std::marker::Model;
@@ -210,7 +210,7 @@ impl Session {
     pub fn examples(&self) -> &[Example]
         ensures same { result.now ≡ self.now.examples }
         ensures rising { AreExamples result.now }
-        ensures few { length result.now ≤ 64 }
+        ensures few { length result.now ≤ MOST_EXAMPLES }
         ensures each { All (MayStand self.now.spaces.ground) result.now }
     {
         self.present.examples.as_slice()
@@ -256,7 +256,7 @@ impl Session {
         requires first { 1 ≤ branch }
         requires last { branch ≤ length self.now.branches }
         requires some { 1 ≤ k }
-        requires few { k ≤ 20 }
+        requires few { k ≤ MOST_PROGRAMS }
         ensures best { IfOk result (λ made. (list : Listed Example) → IsBranch self.now.spaces.ground self.now.examples branch list →
             AreBestOn self.now.spaces.ground list k (map program_tree made)) }
         ensures chosen { IfOk result (λ made. (list : Listed Example) → IsBranch self.now.spaces.ground self.now.examples branch list →

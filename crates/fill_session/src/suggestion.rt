@@ -9,7 +9,7 @@ ghost use Rattle.fill_session.specs.Suggested.{FirstAsked, IsAskedAt, IsFew, Lea
 ghost use Rattle.fill_session.specs.declared.answer.State.TheVariants.{Doubt};
 
 use crate::answers::taken_on;
-use crate::candidates::{Told, comes_first, told_of};
+use crate::candidates::{Verdict, comes_first, told_of};
 use crate::leads::{Lead, leads_of};
 use crate::session::Session;
 use crate::{Answer, State};
@@ -135,13 +135,13 @@ fn asked_on(
     }
     let lead = &asking.leads[taken.branch as usize - 1];
     match told_of(asking.alloc, session.spaces(), lead, row, &taken.text, best)? {
-        Told::Found(objection) => Ok(Some(Suggestion {
+        Verdict::Found(objection) => Ok(Some(Suggestion {
             row,
             answer: taken.text,
             objection,
         })),
-        Told::Nothing => Ok(None),
-        Told::Unknown => searched_on(asking, shapes, row, best),
+        Verdict::Nothing => Ok(None),
+        Verdict::Unknown => searched_on(asking, shapes, row, best),
     }
 }
 

@@ -1,15 +1,16 @@
 -- The columns that a sheet is read from.
 use Rattle.std.specs.Prelude.{◌≢◌, ℕ, ◌<◌, ◌≤◌, List, [], ◌∷◌, ◌++◌, length, All, AllPairs, Contains, Option, Some, None, ⊤, if◌then◌else◌, nat_le, option_to_list}
+use Rattle.fill_sheet.specs.declared.columns.TheConstants.{LAST_COLUMN, MOST_INPUTS}
 
 -- a number that a column can have
 pub record IsColumn (column : ℕ) : Type 0 where
   pub first : 1 ≤ column
-  pub last : column ≤ 1000
+  pub last : column ≤ LAST_COLUMN
 
 -- the input columns of a sheet, in any order
 pub record AreInputs (inputs : List ℕ) : Type 0 where
   pub some : 0 < length inputs
-  pub few : length inputs ≤ 8
+  pub few : length inputs ≤ MOST_INPUTS
   pub columns : All IsColumn inputs
   pub distinct : AllPairs (λ a b. a ≢ b) inputs
 

@@ -5,8 +5,10 @@ use Rattle.fill_text.specs.Data.{RowData, SheetData, nth}
 use Rattle.fill_records.specs.Records.{records_of}
 use Rattle.fill_records.specs.Texts.{first_bad, text_in}
 use Rattle.fill_sheet.specs.Columns.{IsColumn, rising, used}
+use Rattle.fill_sheet.specs.declared.columns.TheConstants.{MOST_INPUTS}
 use Rattle.fill_sheet.specs.declared.error.SheetError.{SheetError}
 use Rattle.fill_sheet.specs.declared.error.SheetError.TheVariants.{TooManyRows, NotUtf8}
+use Rattle.fill_sheet.specs.declared.sheet.TheConstants.{MOST_RECORDS}
 
 -- a text, where it isn't empty
 abbrev pub unless_empty : List ℕ → Option (List ℕ)
@@ -46,14 +48,14 @@ sheet_of most header inputs output records =
 unfoldable pub read_up_to : ℕ → Bool → List ℕ → Option ℕ → List ℕ → Result SheetData SheetError
 read_up_to most header inputs output bytes = sheet_of most header inputs output (records_of bytes)
 
--- a sheet of 20,000 records at most
+-- a sheet of no more records than it may have where nothing else is said
 abbrev pub read_sheet : Bool → List ℕ → Option ℕ → List ℕ → Result SheetData SheetError
-read_sheet header inputs output bytes = read_up_to 20000 header inputs output bytes
+read_sheet header inputs output bytes = read_up_to MOST_RECORDS header inputs output bytes
 
 -- what is true of each sheet
 pub record IsSheet (sheet : SheetData) : Type 0 where
   pub some : 0 < length sheet.inputs
-  pub few : length sheet.inputs ≤ 8
+  pub few : length sheet.inputs ≤ MOST_INPUTS
   pub columns : All IsColumn sheet.inputs
   pub rises : IsStrictlyIncreasing sheet.inputs
   pub full : All (λ row. length row.cells ≡ length sheet.inputs) sheet.rows

@@ -5,6 +5,12 @@ ghost use Rattle.fill_sheet.specs.Columns.{rising, used};
 use fill_text::NoMemory;
 use std::alloc::Global;
 
+/// The most input columns of a sheet.
+pub const MOST_INPUTS: usize = 8;
+
+/// The last column that a sheet is read from.
+pub const LAST_COLUMN: u32 = 1_000;
+
 /// The columns in rising order.
 pub(crate) fn rising(alloc: Global, columns: &[u32]) -> Result<Vec<u32>, NoMemory>
     ensures { IfOk result (λ v. v.items ≡ rising columns.now) }

@@ -9,7 +9,8 @@ mod row;
 mod sheet;
 mod text;
 
+pub use columns::{LAST_COLUMN, MOST_INPUTS};
 pub use error::SheetError;
 pub use report::put_record;
-pub use sheet::Sheet;
+pub use sheet::{MOST_RECORDS, Sheet};
 pub use text::{push_end, push_field, push_sep};

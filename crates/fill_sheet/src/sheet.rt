@@ -17,7 +17,7 @@ use std::alloc::Global;
 use std::marker::Model;
 
 /// How many records the file of a sheet may have where nothing else is said, the header among them.
-const MOST_RECORDS: u32 = 20_000;
+pub const MOST_RECORDS: u32 = 20_000;
 
 /// A sheet: rows of texts in a few input columns, some with a given text for the output.
 #[derive(Debug, Drop)]
@@ -38,7 +38,7 @@ impl Model for Sheet {
 }
 
 impl Sheet {
-    /// The sheet of a CSV file's bytes, which may have 20,000 records.
+    /// The sheet of a CSV file's bytes, which may have [`MOST_RECORDS`].
     ///
     /// Each record is a row. Where `header` is true the first one is passed over and not looked at. Only the fields in the
     /// inputs and the output are read; one that a record lacks is the empty text.

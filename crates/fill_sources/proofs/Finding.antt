@@ -10,7 +10,7 @@ use Rattle.fill_sources.specs.Found.{AreFound, AreRecalled, IsFound, PlacesStand
 use Rattle.fill_sources.specs.declared.memo.TextPlaces.{TextPlaces}
 use Rattle.fill_sources.specs.declared.memory.Found.{Found}
 use Rattle.fill_sources.specs.declared.memory.Found.TheVariants.{NotYet, Nowhere, In}
-use Rattle.fill_sources.specs.declared.memory.Kept.{Kept}
+use Rattle.fill_sources.specs.declared.memory.StoredText.{StoredText}
 use Rattle.fill_sources.specs.declared.memory.PlaceMemory.{PlaceMemory}
 use Rattle.fill_sources.proofs.Lists.{here, set_other}
 use Rattle.fill_tokens.specs.declared.token_set.TokenSet.{TokenSet}
@@ -79,13 +79,13 @@ found_put token_set c v xs ys at f h all is = elim h [
 ]
 
 -- with one text more
-module _ (c : List Entry) (old new : PlaceMemory) (number : ℕ) (made : Kept) where
-  put_step : (n : ℕ) (k : Kept) (same : Bool) → is_eq (nat_cmp number n) ≡ same → get nat_cmp new.texts n ≡ cond same (Some made) (get nat_cmp old.texts n) → get nat_cmp new.texts n ≡ Some k
+module _ (c : List Entry) (old new : PlaceMemory) (number : ℕ) (made : StoredText) where
+  put_step : (n : ℕ) (k : StoredText) (same : Bool) → is_eq (nat_cmp number n) ≡ same → get nat_cmp new.texts n ≡ cond same (Some made) (get nat_cmp old.texts n) → get nat_cmp new.texts n ≡ Some k
       → AreFound made.token_set c made.text made.found.items → PlacesStand c old → AreFound k.token_set c k.text k.found.items
   put_step n k true e u h is r =
       let q : Some made ≡ Some k = sym u ∙ h in
-      let kept : made ≡ k = cc in
-      subst (λ (f : Kept). AreFound f.token_set c f.text f.found.items) kept is
+      let same_entry : made ≡ k = cc in
+      subst (λ (f : StoredText). AreFound f.token_set c f.text f.found.items) same_entry is
   put_step n k false e u h is r = r.each n k (sym u ∙ h)
 
   pub text_put : Updates nat_cmp old.texts new.texts number (Some made) → AreFound made.token_set c made.text made.found.items → PlacesStand c old → PlacesStand c new

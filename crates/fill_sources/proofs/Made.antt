@@ -7,8 +7,8 @@ use Rattle.std.proofs.lemmas.Map.Text.{is_eq-slice_cmp}
 use Rattle.fill_arena.specs.Contents.{Extends}
 use Rattle.fill_arena.specs.declared.entry.Entry.{Entry}
 use Rattle.fill_arena.proofs.Lists.{extends_on}
-use Rattle.fill_sources.specs.Sets.{AreKnown, IsRight, pair_eq, texts_of}
-use Rattle.fill_sources.specs.declared.known.Known.{Known}
+use Rattle.fill_sources.specs.Sets.{AreRowTexts, IsRight, pair_eq, texts_of}
+use Rattle.fill_sources.specs.declared.row_texts.RowTexts.{RowTexts}
 use Rattle.fill_sources.specs.declared.memo.Memo.{Memo}
 use Rattle.fill_sources.specs.declared.row.OnRow.{OnRow}
 use Rattle.fill_sources.proofs.Finding.{recalled_stays}
@@ -23,7 +23,7 @@ right_stays on texts c d o memo r =
       parts = λ k made h e x. r.parts k made h e (extends_on c d e o x);
     }
 
-pub known_stays : (on : OnRow) (c d : List Entry) → Extends c d → (k : Known) → AreKnown on c k → AreKnown on d k
+pub known_stays : (on : OnRow) (c d : List Entry) → Extends c d → (k : RowTexts) → AreRowTexts on c k → AreRowTexts on d k
 known_stays on c d o k h = record { exact = h.exact; once = h.once; texts = h.texts; memo = right_stays on (texts_of k) c d o k.memo h.memo }
 
 pub pair_same : (x y : ℕ × ℕ) → pair_eq x y ≡ true → x ≡ y

@@ -65,12 +65,12 @@ module _ (on : OnRow) (texts : List (List ℕ)) (w : List ℕ) (full : w ≢ [])
   reads_part h (whole x) s r = elim r [ inl f ↦ whole_part h x s f | inr f ↦ absurd f ]
   reads_part h (sub x p q) s r = elim r [ inl f ↦ absurd f | inr f ↦ between_part h x p q s f ]
 
-  module _ (known : (v : List ℕ) (x : SourceTree) → Gives on v x → Contains texts v) where
+  module _ (has_text : (v : List ℕ) (x : SourceTree) → Gives on v x → Contains texts v) where
     part_reads : (a : AtomTree) → PartGives on w a → ReadsAny on texts w a
     part_reads (constant u) g = absurd g.part
     part_reads (whole x) g =
         let given : Gives on w x = record { source = g.condition; shallow = g.shallow; value = g.value.0 } in
-        let at = contains_at texts w (known w x given) in
+        let at = contains_at texts w (has_text w x given) in
         let h : Spot = record { text = at.0; at = 0 } in
         (h, (w, at.2, omega arith, whole_range w (0 + length w) (omega arith)), inl (w, at.2, given, refl))
     part_reads (sub x p q) g =
@@ -78,7 +78,7 @@ module _ (on : OnRow) (texts : List (List ℕ)) (w : List ℕ) (full : w ≢ [])
         let i : ℕ = g.value.1 in
         let j : ℕ = g.value.2 in
         let given : Gives on t x = record { source = g.condition.0; shallow = g.shallow; value = g.value.3 } in
-        let at = contains_at texts t (known t x given) in
+        let at = contains_at texts t (has_text t x given) in
         let inside : j ≤ length t = value_within q t j g.value.5 in
         let less : i < j = g.value.6 in
         let piece : w ≡ slice_range t i j = g.value.7 in

@@ -9,7 +9,7 @@ use Rattle.fill_sources.specs.Gives.{ArePlacesOf}
 use Rattle.fill_sources.specs.declared.memo.TextPlaces.{TextPlaces}
 use Rattle.fill_sources.specs.declared.memory.Found.{Found}
 use Rattle.fill_sources.specs.declared.memory.Found.TheVariants.{NotYet, Nowhere, In}
-use Rattle.fill_sources.specs.declared.memory.Kept.{Kept}
+use Rattle.fill_sources.specs.declared.memory.StoredText.{StoredText}
 use Rattle.fill_sources.specs.declared.memory.PlaceMemory.{PlaceMemory}
 
 -- what was found of position k of the text is so in the arena, and in each that extends it
@@ -28,4 +28,4 @@ AreRecalled token_set c texts places = (i : ℕ) (t : TextPlaces) (v : List ℕ)
 
 -- all that is kept is so in the arena
 pub record PlacesStand (c : List Entry) (m : PlaceMemory) : Type 0 where
-  pub each : (hash : ℕ) (k : Kept) → get nat_cmp m.texts hash ≡ Some k → AreFound k.token_set c k.text k.found.items
+  pub each : (hash : ℕ) (k : StoredText) → get nat_cmp m.texts hash ≡ Some k → AreFound k.token_set c k.text k.found.items

@@ -17,7 +17,7 @@ use Rattle.fill_reach.specs.declared.rows.ReachedRow.{ReachedRow}
 use Rattle.fill_sources.specs.Found.{AreRecalled}
 use Rattle.fill_sources.specs.Gives.{AreSourcesIn, ArePartsIn, ArePlacesAt, Gives, IsOnRow, at_depth}
 use Rattle.fill_sources.specs.Origins.{AreTexts, texts_in}
-use Rattle.fill_sources.specs.declared.known.Known.{Known}
+use Rattle.fill_sources.specs.declared.row_texts.RowTexts.{RowTexts}
 use Rattle.fill_sources.specs.declared.memo.Memo.{Memo}
 use Rattle.fill_sources.specs.declared.row.Look.{Look}
 use Rattle.fill_sources.specs.declared.row.OnRow.{OnRow}
@@ -25,7 +25,7 @@ use Rattle.fill_sources.specs.declared.texts.Origin.{Origin}
 use Rattle.fill_sources.specs.declared.texts.Origin.TheVariants.{Col, Cell}
 
 -- the texts that were found, in the order of their numbers
-abbrev pub texts_of : Known → List (List ℕ)
+abbrev pub texts_of : RowTexts → List (List ℕ)
 texts_of k = texts_in k.texts
 
 -- the row is such, and the texts are all that sources give there
@@ -68,7 +68,7 @@ pub record IsRight (on : OnRow) (texts : List (List ℕ)) (c : List Entry) (memo
   pub parts : (k : List ℕ × ℕ) (made : Option ℕ) → part_in memo k ≡ Some made → IsPartMade on c k made
 
 -- what is known of the row in an arena: exactly the texts that sources give, each once
-pub record AreKnown (on : OnRow) (c : List Entry) (k : Known) : Type 0 where
+pub record AreRowTexts (on : OnRow) (c : List Entry) (k : RowTexts) : Type 0 where
   pub exact : (v : List ℕ) → Contains (texts_of k) v ↔ ((x : SourceTree) × Gives on v x)
   pub once : (i j : ℕ) (v : List ℕ) → slice_get (texts_of k) i ≡ Some v → slice_get (texts_of k) j ≡ Some v → i ≡ j
   pub texts : AreTexts on k.texts

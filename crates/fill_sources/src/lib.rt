@@ -9,17 +9,17 @@
 #![tactic(auto)]
 
 mod found;
-mod known;
 mod memo;
 mod memory;
 mod parts;
 mod places;
 mod row;
+mod row_texts;
 mod sources;
 mod spots;
 mod texts;
 
-pub use known::Known;
 pub use memory::PlaceMemory;
 pub use row::OnRow;
+pub use row_texts::RowTexts;
 pub use spots::Spot;

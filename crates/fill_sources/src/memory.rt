@@ -4,7 +4,7 @@ ghost use Rattle.std.specs.BTreeMap.{Updates};
 ghost use Rattle.std.specs.Ordering.{nat_cmp};
 ghost use Rattle.fill_arena.specs.declared.entry.Entry.{Entry};
 ghost use Rattle.fill_sources.specs.Found.{AreFound, PlacesStand};
-ghost use Rattle.fill_sources.specs.declared.memory.Kept.{Kept as KeptText};
+ghost use Rattle.fill_sources.specs.declared.memory.StoredText.{StoredText as StoredTextData};
 
 use fill_arena::PlaceSet;
 use fill_text::{NoMemory, Text};
@@ -36,7 +36,7 @@ pub(crate) enum Found {
 
 /// What was found of the positions of a text by tokens of a set.
 #[derive(Drop)]
-pub(crate) struct Kept {
+pub(crate) struct StoredText {
     pub(crate) text: Text,
     pub(crate) token_set: TokenSet,
     pub(crate) found: Vec<Found>,
@@ -49,7 +49,7 @@ pub(crate) struct Kept {
 /// hashes are kept in order: no choice of texts makes it slow to look for one.
 #[derive(Drop)]
 pub struct PlaceMemory {
-    pub(crate) texts: BTreeMap<u64, Kept>,
+    pub(crate) texts: BTreeMap<u64, StoredText>,
     /// How many characters the texts have together, at most: those of a text that is kept again count again.
     size: usize,
 }
@@ -77,16 +77,16 @@ impl PlaceMemory {
         if self.texts.len() == 0 {
             return Ok(Vec::new(alloc));
         }
-        let Some(kept) = self.texts.get(&hash_of(text)) else {
+        let Some(stored) = self.texts.get(&hash_of(text)) else {
             return Ok(Vec::new(alloc));
         };
-        if !kept.token_set.same(token_set) {
+        if !stored.token_set.same(token_set) {
             return Ok(Vec::new(alloc));
         }
-        if !kept.text.same(text) {
+        if !stored.text.same(text) {
             return Ok(Vec::new(alloc));
         }
-        let found = Vec::from_slice(alloc, &kept.found)?;
+        let found = Vec::from_slice(alloc, &stored.found)?;
         Ok(found)
     }
 
@@ -121,19 +121,19 @@ impl PlaceMemory {
 
 fn put_kept(
     alloc: Global,
-    texts: &mut BTreeMap<u64, Kept>,
+    texts: &mut BTreeMap<u64, StoredText>,
     text: &Text,
     token_set: TokenSet,
     found: &[Found],
 ) -> Result<(), NoMemory>
-    ensures { OnOk result ((hash : ℕ) × (k : KeptText) × Updates nat_cmp texts.old texts.new hash (Some k) × (k.text ≡ text.now) × (k.token_set ≡ token_set) × (k.found.items ≡ found.now)) }
+    ensures { OnOk result ((hash : ℕ) × (k : StoredTextData) × Updates nat_cmp texts.old texts.new hash (Some k) × (k.text ≡ text.now) × (k.token_set ≡ token_set) × (k.found.items ≡ found.now)) }
 {
     let hash = hash_of(text);
     let text = text.copy()?;
     let found = Vec::from_slice(alloc, found)?;
     match texts.insert(
         hash,
-        Kept {
+        StoredText {
             text,
             token_set,
             found,

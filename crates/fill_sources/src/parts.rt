@@ -53,7 +53,7 @@ fn put_between(
     ensures adds { OnOk result ((e : ℕ) (t : Listed ℕ) → slice_get (texts_in look.now.texts.now) h.text ≡ Some t → Lasts arena.old (λ d. AreSourcesOf (at_depth look.now.on.now e) d t sources) →
         AddsAtoms arena.new items.old items.new (ReadsBetween (at_depth look.now.on.now e) (texts_in look.now.texts.now) h width)) }
     ensures memo { OnOk result (IsRight look.now.on.now (texts_in look.now.texts.now) arena.new memo.new) }
-    ensures kept { Extends arena.old arena.new }
+    ensures extends { Extends arena.old arena.new }
 {
     // The end fits a number, since a text's length does.
     let _long = look.texts.named[h.text].text.len();
@@ -87,7 +87,7 @@ pub(crate) fn put_readers<'a>(
     requires within { IsReadable (texts_in look.now.texts.now) h width }
     ensures adds { OnOk result (AddsAtoms arena.new items.old items.new (ReadsSpot (at_depth look.now.on.now depth) (texts_in look.now.texts.now) h width)) }
     ensures memo { OnOk result (IsRight look.now.on.now (texts_in look.now.texts.now) arena.new memo.new) }
-    ensures kept { Extends arena.old arena.new }
+    ensures extends { Extends arena.old arena.new }
 {
     let Some(sources) = sources_at(look, memo, arena, depth, h.text)? else {
         return Ok(());
@@ -110,7 +110,7 @@ fn part_items<'a>(
     requires memo { IsRight look.now.on.now (texts_in look.now.texts.now) arena.old memo.old }
     ensures items { IfOk result (λ items. AddsAtoms arena.new [] items (ReadsAny (at_depth look.now.on.now depth) (texts_in look.now.texts.now) w.now)) }
     ensures memo { OnOk result (IsRight look.now.on.now (texts_in look.now.texts.now) arena.new memo.new) }
-    ensures kept { Extends arena.old arena.new }
+    ensures extends { Extends arena.old arena.new }
 {
     let found = spots_of(look.alloc, look.texts, w)?;
     let spots = found.as_slice();
@@ -125,7 +125,7 @@ fn part_items<'a>(
 fn atom_set(arena: &mut Arena, items: List<AtomItem>) -> Result<Option<AtomSet>, NoMemory>
     requires { EachIn (IsOldAtom arena.old) items }
     ensures made { IfOk result (AreAtomsOf arena.old arena.new items) }
-    ensures kept { Extends arena.old arena.new }
+    ensures extends { Extends arena.old arena.new }
 {
     if items.len() == 0 {
         return Ok(None);
@@ -147,7 +147,7 @@ pub(crate) fn parts_at<'a>(
     requires memo { IsRight look.now.on.now (texts_in look.now.texts.now) arena.old memo.old }
     ensures made { IfOk result (IsPartMade look.now.on.now arena.new (w.now, depth)) }
     ensures memo { OnOk result (IsRight look.now.on.now (texts_in look.now.texts.now) arena.new memo.new) }
-    ensures kept { Extends arena.old arena.new }
+    ensures extends { Extends arena.old arena.new }
 {
     if w.len() == 0 {
         return Ok(None);

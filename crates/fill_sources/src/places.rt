@@ -45,7 +45,7 @@ fn place_set(arena: &mut Arena, places: &[Place]) -> Result<Option<PlaceSet>, No
     requires rising { AllPairs (λ p q. place_cmp p q ≡ Less) places.now }
     ensures made { IfOk result (λ made. (on : Row) (v : Listed ℕ) (k : ℕ) → Lists place_cmp (λ p. IsPlaceOf on.settings.profile.tokens p × HasValue p v k) places.now →
         Lasts arena.new (λ d. ArePlacesAt on d v k made)) }
-    ensures kept { Extends arena.old arena.new }
+    ensures extends { Extends arena.old arena.new }
 {
     if places.is_empty() {
         return Ok(None);
@@ -65,7 +65,7 @@ pub(crate) fn places_at(
     requires within { IsReadable (texts_in look.now.texts.now) h 0 }
     ensures made { IfOk result (IsPlaceMade look.now.on.now (texts_in look.now.texts.now) arena.new (h.text, h.at)) }
     ensures memo { OnOk result (IsRight look.now.on.now (texts_in look.now.texts.now) arena.new memo.new) }
-    ensures kept { Extends arena.old arena.new }
+    ensures extends { Extends arena.old arena.new }
 {
     if let Some(made) = memo.place(h.text, h.at) {
         return Ok(made);

@@ -32,7 +32,7 @@ fn condition<'a>(
     requires memo { IsRight look.now.on.now (texts_in look.now.texts.now) arena.old memo.old }
     ensures made { IfOk result (IsCondition (at_depth look.now.on.now depth) arena.new cell.now) }
     ensures memo { OnOk result (IsRight look.now.on.now (texts_in look.now.texts.now) arena.new memo.new) }
-    ensures kept { Extends arena.old arena.new }
+    ensures extends { Extends arena.old arena.new }
 {
     cell.keeps_scalars();
     let constant = cell.copy()?;
@@ -58,7 +58,7 @@ fn conditions<'a>(
     requires reached { IsReached look.now.on.now.settings look.now.on.now.sheet.now look.now.on.now.tables.now look.now.on.now.row at.now }
     ensures made { IfOk result (λ items. (cells : Listed (Listed ℕ)) × AreKeyCells look.now.on.now.tables.now at.now cells × AreConditions (at_depth look.now.on.now depth) arena.new cells items) }
     ensures memo { OnOk result (IsRight look.now.on.now (texts_in look.now.texts.now) arena.new memo.new) }
-    ensures kept { Extends arena.old arena.new }
+    ensures extends { Extends arena.old arena.new }
 {
     let tables = look.on.tables;
     let key = tables.key(at.table, at.key);
@@ -91,7 +91,7 @@ fn put_lookups<'a>(
     ensures adds { OnOk result ((v : Listed ℕ) → table_cell_at look.now.on.now.tables.now at.now.table at.now.row column ≡ Some v →
         AddsSources arena.new items.old items.new (λ x. Reads look.now.on.now (Origin.Cell at.now column) x × Gives (at_depth look.now.on.now depth) v x)) }
     ensures memo { OnOk result (IsRight look.now.on.now (texts_in look.now.texts.now) arena.new memo.new) }
-    ensures kept { Extends arena.old arena.new }
+    ensures extends { Extends arena.old arena.new }
 {
     if at.depth > depth {
         return Ok(());
@@ -122,7 +122,7 @@ fn put_origin<'a>(
     ensures adds { OnOk result ((v : Listed ℕ) → IsOrigin look.now.on.now v origin.now →
         AddsSources arena.new items.old items.new (λ x. Reads look.now.on.now origin.now x × Gives (at_depth look.now.on.now depth) v x)) }
     ensures memo { OnOk result (IsRight look.now.on.now (texts_in look.now.texts.now) arena.new memo.new) }
-    ensures kept { Extends arena.old arena.new }
+    ensures extends { Extends arena.old arena.new }
 {
     match *origin {
         Origin::Col(column) => items.push(SourceItem::Col(column)),
@@ -145,7 +145,7 @@ fn source_items<'a>(
     requires within { k < length look.now.texts.now.named.items }
     ensures items { IfOk result (λ items. (v : Listed ℕ) → slice_get (texts_in look.now.texts.now) k ≡ Some v → AddsSources arena.new [] items (Gives (at_depth look.now.on.now depth) v)) }
     ensures memo { OnOk result (IsRight look.now.on.now (texts_in look.now.texts.now) arena.new memo.new) }
-    ensures kept { Extends arena.old arena.new }
+    ensures extends { Extends arena.old arena.new }
 {
     let origins = look.texts.named[k].origins.as_slice();
     let mut items = List::new(look.alloc);
@@ -159,7 +159,7 @@ fn source_items<'a>(
 fn source_set(arena: &mut Arena, items: List<SourceItem>) -> Result<Option<SourceSet>, NoMemory>
     requires { EachIn (IsOldSource arena.old) items }
     ensures made { IfOk result (AreSourceItemsOf arena.old arena.new items) }
-    ensures kept { Extends arena.old arena.new }
+    ensures extends { Extends arena.old arena.new }
 {
     if items.len() == 0 {
         return Ok(None);
@@ -182,7 +182,7 @@ pub(crate) fn sources_at<'a>(
     requires within { k < length look.now.texts.now.named.items }
     ensures made { IfOk result (IsSourceMade look.now.on.now (texts_in look.now.texts.now) arena.new (k, depth)) }
     ensures memo { OnOk result (IsRight look.now.on.now (texts_in look.now.texts.now) arena.new memo.new) }
-    ensures kept { Extends arena.old arena.new }
+    ensures extends { Extends arena.old arena.new }
 {
     if let Some(made) = memo.source(k, depth) {
         return Ok(made);

@@ -4,6 +4,7 @@ use Rattle.fill_tree.specs.Chosen.{Explains, Fits, IsChosen}
 use Rattle.fill_tree.specs.Cost.{program_cost}
 use Rattle.fill_tree.specs.Tree.{Atoms}
 use Rattle.fill_tree.specs.declared.user.Example.{Example}
+use Rattle.fill_arena.specs.declared.entry.TheConstants.{MOST_CHARACTERS}
 pub use Rattle.fill_space.specs.declared.ground.Ground.{Ground}
 
 -- the program explains the examples
@@ -26,4 +27,4 @@ WeighsOn g examples n = (p : Atoms) × ChosenOn g examples p × (program_cost g.
 pub record MayStand (g : Ground) (e : Example) : Type 0 where
   pub first : 1 ≤ e.row
   pub last : e.row ≤ length g.sheet.rows
-  pub short : length e.text ≤ 100
+  pub short : length e.text ≤ MOST_CHARACTERS

@@ -99,7 +99,7 @@ pub(crate) fn build_once<L: Ledger>(
     requires built { AreBuilt ground.now arena.old built.old }
     ensures built { AreBuilt ground.now arena.new built.new }
     ensures one { IfOk result (λ made. MatchOption made (FitsOn ground.now (example.now ∷ []) → ⊥) (λ graph. SpaceStands (spaces_over ground.now arena.new) graph (example.now ∷ []))) }
-    ensures kept { Extends arena.old arena.new }
+    ensures extends { Extends arena.old arena.new }
     ensures err { OnErr result (arena.new ≡ arena.old) }
     ensures step { steps.new ≡ steps.old + 1 }
 {

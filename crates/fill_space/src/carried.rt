@@ -1,5 +1,5 @@
 //! What is known of graphs that were met, built or weighed, after their arena was copied or cut.
-ghost use Rattle.std.specs.Prelude.{◌≡◌, ◌<◌, ℕ, List, length, nat_eq, slice_get, Some, IfOk, IfSome, OnOk};
+ghost use Rattle.std.specs.Prelude.{◌≡◌, ◌<◌, List, length, nat_eq, slice_get, Some, IfOk, IfSome, OnOk};
 ghost use Rattle.std.specs.HashMap.{get, Updates};
 ghost use Rattle.fill_tokens.specs.declared.prices.Prices.{Prices};
 ghost use Rattle.fill_arena.specs.declared.entry.Entry.{Entry};

@@ -87,7 +87,7 @@ pub(crate) fn meet_once<L: Ledger>(
     ensures told { AreTold arena.new met.new }
     ensures met { IfOk result (λ made. MatchOption made (NoneInBoth arena.old a b) (IsMeet arena.old a b arena.new)) }
     ensures some { IfOk result (λ made. OnSome made ((p : Atoms) × ProgramStands arena.old a p × ProgramStands arena.old b p)) }
-    ensures kept { Extends arena.old arena.new }
+    ensures extends { Extends arena.old arena.new }
     ensures err { OnErr result (arena.new ≡ arena.old) }
     ensures step { steps.new ≡ steps.old + 1 }
 {

@@ -26,7 +26,7 @@ use fill_object::{Guide, Objection, OnRow};
 use fill_sheet::Sheet;
 use fill_tables::Tables;
 use fill_text::{List, NoMemory, Text};
-use fill_tree::{Program, Settings};
+use fill_tree::{MOST_PROGRAMS, Program, Settings};
 use std::alloc::Global;
 use std::marker::Model;
 
@@ -139,7 +139,7 @@ impl Spaces {
     pub fn best(&self, s: Space, k: u32) -> Result<List<Program>, NoMemory>
         requires stands { (l : Listed Example) × SpaceStands self.now s l }
         requires some { 1 ≤ k }
-        requires few { k ≤ 20 }
+        requires few { k ≤ MOST_PROGRAMS }
         ensures { IfOk result (λ made. (l : Listed Example) → SpaceStands self.now s l → AreBestOn self.now.ground l k (map program_tree made)) }
     {
         let prices = &self.ground.settings.profile.prices;
@@ -270,8 +270,8 @@ impl Spaces {
         let mut graphs = graphs_of(self.alloc, live)?;
         self.arena = self.arena.copy(self.alloc, graphs.as_mut_slice())?;
         let copies = graphs.as_slice();
-        let known = known_copies(self.alloc, listed.as_slice(), copies);
-        let renaming = Renaming::Copied(known);
+        let new_numbers = known_copies(self.alloc, listed.as_slice(), copies);
+        let renaming = Renaming::Copied(new_numbers);
         self.met = carry_met(self.alloc, &self.met, &renaming);
         self.built = carry_built(self.alloc, &self.built, &renaming);
         self.weights = carry_weights(self.alloc, &self.weights, &renaming);

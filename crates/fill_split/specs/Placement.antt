@@ -1,5 +1,6 @@
 -- the branches of a list of items under a rule
 use Rattle.std.specs.Prelude.{◌≡◌, ◌≢◌, ℕ, ◌<◌, ◌≤◌, ◌⊎◌, List, [], ◌∷◌, ◌++◌, Some, slice_get, slice_set, length}
+use Rattle.fill_split.specs.declared.place.TheConstants.{MOST_BRANCHES}
 use Rattle.fill_split.specs.declared.rule.Placing.{Placing}
 use Rattle.fill_split.specs.declared.rule.Placing.TheVariants.{First, Lightest}
 
@@ -35,9 +36,9 @@ PlacedFrom {I} rule fits weight so_far (x ∷ xs) all =
 abbrev pub Placed : {I : Type 0} → Placing → (List I → Type 0) → (List I → ℕ → Type 0) → List I → List (List I) → Type 0
 Placed rule fits weight items all = PlacedFrom rule fits weight [] items all
 
--- the items have eight branches, and one more item fits together with none of them
+-- the items have as many branches as there may be, and one more item fits together with none of them
 pub record OpensNinth {I : Type 0} (rule : Placing) (fits : List I → Type 0) (weight : List I → ℕ → Type 0) (items : List I) (x : I) : Type 0 where
   pub branches : List (List I)
   pub placed : Placed rule fits weight items branches
-  pub eight : length branches ≡ 8
+  pub eight : length branches ≡ MOST_BRANCHES
   pub none : NoneFits fits branches x

@@ -4,6 +4,7 @@ use Rattle.std.specs.List.{AllZip}
 use Rattle.fill_split.specs.declared.folds.Fold.{Fold}
 use Rattle.fill_split.specs.declared.folds.Folds.{Folds}
 use Rattle.fill_split.specs.declared.maker.Maker.{Ghosts}
+use Rattle.fill_split.specs.declared.place.TheConstants.{MOST_BRANCHES}
 use Rattle.fill_split.specs.declared.rule.Placing.{Placing}
 use Rattle.fill_split.specs.Placement.{GoesTo, NoneFits, Placed}
 
@@ -59,18 +60,18 @@ Came stands rule fits weight so_far (x ∷ xs) [] end = ⊥
 Came {K} {I} stands rule fits weight so_far (x ∷ xs) (spot ∷ spots) end =
     (next : List (List I)) × ComesTo stands rule fits weight so_far x spot next × Came stands rule fits weight next xs spots end
 
--- the kept values and the places tell how the items came to at most eight branches
+-- the kept values and the places tell how the items came to no more branches than there may be
 pub record Traced {K I : Type 0} (stands : K → List I → Type 0) (rule : Placing) (fits : List I → Type 0) (weight : List I → ℕ → Type 0) (items : List I) (ks : List K) (places : List ℕ) : Type 0 where
   pub branches : List (List I)
   pub came : Came stands rule fits weight [] items (spots ks places) branches
-  pub few : length branches ≤ 8
+  pub few : length branches ≤ MOST_BRANCHES
   pub paired : length ks ≡ 2 * length places
 
--- what is kept stands for the items: the folds are their branches under the rule, at most eight, each with a value that stands for it, and the kept values tell how the items came there
+-- what is kept stands for the items: the folds are their branches under the rule, no more than there may be, each with a value that stands for it, and the kept values tell how the items came there
 pub record Stand {K I : Type 0} (stands : K → List I → Type 0) (rule : Placing) (fits : List I → Type 0) (weight : List I → ℕ → Type 0) (items : List I) (ks : List K) (places : List ℕ) (folds : List (Fold K)) : Type 0 where
   pub branches : List (List I)
   pub placed : Placed rule fits weight items branches
-  pub few : length branches ≤ 8
+  pub few : length branches ≤ MOST_BRANCHES
   pub each : AllStand stands items ks folds branches
   pub came : Came stands rule fits weight [] items (spots ks places) branches
   pub paired : length ks ≡ 2 * length places

@@ -9,6 +9,7 @@ ghost use Rattle.fill_split.specs.Refusals.{Refuses, Unplaceable};
 
 use crate::change::{Change, FoldError};
 use crate::maker::Maker;
+use crate::place::MOST_BRANCHES;
 use crate::regroup::regroup;
 use crate::renew::renew_branches;
 use crate::rule::Placing;
@@ -68,7 +69,7 @@ impl<M: Maker> Folds<M> {
         ensures others { AllStay M.Maker maker.old maker.new }
         ensures cut { OnErr result (Keeps (M.stands maker.new) (M.stands maker.old)) }
         ensures cost { (items : Listed M.Item) → FoldsStand M.Maker maker.old items self.now →
-            steps.new ≤ steps.old + (1 + 8 * length (drop at (changed change at items))) }
+            steps.new ≤ steps.old + (1 + MOST_BRANCHES * length (drop at (changed change at items))) }
         ensures rule { IfOk result (λ folds. rule_of folds ≡ rule_of self.now) }
         ensures folds { IfOk result (λ folds. (items : Listed M.Item) → FoldsStand M.Maker maker.old items self.now →
             FoldsStand M.Maker maker.new (changed change at items) folds) }

@@ -21,4 +21,5 @@ pub use change::{Change, FoldError};
 pub use folds::{Fold, Folds};
 pub use laws::{folds_stay, placed_once, renewed_folds_stand};
 pub use maker::Maker;
+pub use place::MOST_BRANCHES;
 pub use rule::Placing;

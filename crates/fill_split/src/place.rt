@@ -13,7 +13,7 @@ use fill_text::{List, NoMemory};
 use std::alloc::Global;
 
 /// How many branches there are at most.
-const MOST_BRANCHES: usize = 8;
+pub const MOST_BRANCHES: usize = 8;
 
 /// Puts an item to a branch.
 pub fn join_branch<K: Copy>(
@@ -87,7 +87,7 @@ pub fn place<M: Maker, L: Ledger>(
     ensures base { M.base maker.new ≡ M.base maker.old }
     ensures older { Keeps (M.stands maker.old) (M.stands maker.new) }
     ensures marks { KeepsMarks (M.valid maker.old) (M.valid maker.new) (M.marked maker.old) (M.marked maker.new) }
-    ensures cost { steps.new ≤ steps.old + 8 }
+    ensures cost { steps.new ≤ steps.old + MOST_BRANCHES }
     ensures rule { rule_of folds.new ≡ rule_of folds.old }
     ensures placed { IfOk result (λ placed. (seen : Listed M.Item) (x : M.Item) →
         FoldsStand M.Maker maker.old seen folds.old → M.stands maker.old single (x ∷ []) →

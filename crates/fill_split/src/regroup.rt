@@ -8,7 +8,7 @@ ghost use Rattle.fill_split.specs.Refusals.{Refuses};
 use crate::change::{Change, FoldError, taken};
 use crate::folds::Folds;
 use crate::maker::Maker;
-use crate::place::place;
+use crate::place::{MOST_BRANCHES, place};
 use crate::prefix::front;
 use crate::singles::{changed_singles, single_put, singles};
 use fill_edge::{Ledger, Steps};
@@ -27,7 +27,7 @@ pub fn place_rest<M: Maker, L: Ledger>(
     ensures base { M.base maker.new ≡ M.base maker.old }
     ensures older { Keeps (M.stands maker.old) (M.stands maker.new) }
     ensures marks { KeepsMarks (M.valid maker.old) (M.valid maker.new) (M.marked maker.old) (M.marked maker.new) }
-    ensures cost { steps.new ≤ steps.old + 8 * (length singles.now - at) }
+    ensures cost { steps.new ≤ steps.old + MOST_BRANCHES * (length singles.now - at) }
     ensures rule { rule_of folds.new ≡ rule_of folds.old }
     ensures folds { OnOk result ((items : Listed M.Item) → SinglesStand (M.stands maker.old) singles.now items →
         StandsBy (M.stands maker.old) (M.fits (M.base maker.old)) (M.weight (M.base maker.old)) (take at items) folds.old →
@@ -63,7 +63,7 @@ fn regroup_from<M: Maker, L: Ledger>(
     ensures base { M.base maker.new ≡ M.base maker.old }
     ensures older { Keeps (M.stands maker.old) (M.stands maker.new) }
     ensures marks { KeepsMarks (M.valid maker.old) (M.valid maker.new) (M.marked maker.old) (M.marked maker.new) }
-    ensures cost { steps.new ≤ steps.old + 8 * (length singles.now - at) }
+    ensures cost { steps.new ≤ steps.old + MOST_BRANCHES * (length singles.now - at) }
     ensures rule { IfOk result (λ folds. rule_of folds ≡ rule_of before.now) }
     ensures folds { IfOk result (λ folds. (items : Listed M.Item) → SinglesStand (M.stands maker.old) singles.now items →
         Traced (M.stands maker.old) before.now.rule (M.fits (M.base maker.old)) (M.weight (M.base maker.old)) (take at items) (take (2 * at) before.now.kept.items) (take at before.now.places) →
@@ -98,7 +98,7 @@ pub fn regroup<M: Maker, L: Ledger>(
     ensures older { Keeps (M.stands maker.old) (M.stands maker.new) }
     ensures marks { KeepsMarks (M.valid maker.old) (M.valid maker.new) (M.marked maker.old) (M.marked maker.new) }
     ensures cost { (items : Listed M.Item) → TracedBy (M.stands maker.old) (M.fits (M.base maker.old)) (M.weight (M.base maker.old)) items before.now →
-        steps.new ≤ steps.old + (1 + 8 * length (drop at (changed change.now at items))) }
+        steps.new ≤ steps.old + (1 + MOST_BRANCHES * length (drop at (changed change.now at items))) }
     ensures rule { IfOk result (λ folds. rule_of folds ≡ rule_of before.now) }
     ensures folds { IfOk result (λ folds. (items : Listed M.Item) →
         TracedBy (M.stands maker.old) (M.fits (M.base maker.old)) (M.weight (M.base maker.old)) items before.now →

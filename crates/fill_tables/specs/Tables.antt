@@ -7,19 +7,22 @@ use Rattle.fill_tables.specs.Rows.{first_clash}
 use Rattle.fill_tables.specs.Reading.{read_table}
 use Rattle.fill_tables.specs.Keys.{IsKey}
 use Rattle.fill_tables.specs.declared.error.TableError.{TableError}
+use Rattle.fill_tables.specs.declared.reading.TheConstants.{MOST_FIELDS, MOST_ROWS}
+use Rattle.fill_tables.specs.declared.table.TheConstants.{MOST_KEYS}
+use Rattle.fill_tables.specs.declared.tables.TheConstants.{MOST_TABLES}
 use Rattle.fill_tables.specs.declared.error.TableError.TheVariants.{TooManyTables, SameName, NoSuchTable, NoSuchColumn, TooManyKeys, NotAKey}
 
 -- what is true of each table
 pub record IsTable (table : TableData) : Type 0 where
-  pub narrow : table.width ≤ 1000
-  pub limited : length table.rows ≤ 2000
+  pub narrow : table.width ≤ MOST_FIELDS
+  pub limited : length table.rows ≤ MOST_ROWS
   pub full : All (λ row. length row ≡ table.width) table.rows
-  pub few : length table.keys ≤ 4
+  pub few : length table.keys ≤ MOST_KEYS
   pub keyed : All (IsKey table.width table.rows) table.keys
 
 -- what is true of all tables together
 pub record AreTables (tables : List TableData) : Type 0 where
-  pub few : length tables ≤ 8
+  pub few : length tables ≤ MOST_TABLES
   pub proper : All IsTable tables
   pub distinct : AllPairs (λ a b. a.name ≢ b.name) tables
 
@@ -49,10 +52,10 @@ abbrev pub unless_named : Option ℕ → Result (List TableData) TableError → 
 unless_named (Some place) more = Err (SameName (place + 1))
 unless_named None more = more
 
--- eight tables are the most
+-- the tables with that of a file's bytes at the end, where there is room for it and its name is new
 abbrev pub add_table_to : List TableData → List ℕ → List ℕ → Result (List TableData) TableError
 add_table_to tables name bytes =
-    if length tables == 8 then Err (TooManyTables 8) else unless_named (place_of tables name) (with_table tables (read_table name bytes))
+    if length tables == MOST_TABLES then Err (TooManyTables MOST_TABLES) else unless_named (place_of tables name) (with_table tables (read_table name bytes))
 
 -- columns in which two rows agree are no key
 abbrev pub unless_clash : Option (ℕ × ℕ) → TableData → Result TableData TableError
@@ -63,7 +66,7 @@ unless_clash None table = Ok table
 abbrev pub with_key : TableData → List ℕ → Result TableData TableError
 with_key table columns =
     if list_any (λ column. nat_lt table.width column) columns then Err (NoSuchColumn table.width)
-    else if length table.keys == 4 then Err (TooManyKeys 4)
+    else if length table.keys == MOST_KEYS then Err (TooManyKeys MOST_KEYS)
     else unless_clash (first_clash columns table.rows) (record table { keys = table.keys ++ columns ∷ [] })
 
 -- a table, where it was taken, before others

@@ -8,4 +8,6 @@ mod table;
 mod tables;
 
 pub use error::TableError;
-pub use tables::Tables;
+pub use reading::{MOST_FIELDS, MOST_ROWS};
+pub use table::MOST_KEYS;
+pub use tables::{MOST_TABLES, Tables};

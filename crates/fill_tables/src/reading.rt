@@ -7,17 +7,17 @@ use fill_records::Record;
 use fill_text::{List, NoMemory, Text};
 use std::alloc::Global;
 
-/// How many records a table's file may have.
-pub(crate) const LIMIT: usize = 2_000;
+/// The most rows of a table.
+pub const MOST_ROWS: usize = 2_000;
 
-/// How many fields of a record are kept.
-const KEPT: usize = 1_000;
+/// The most fields of a record that are kept.
+pub const MOST_FIELDS: usize = 1_000;
 
 /// How many fields of a record are kept.
 fn kept(fields: &Record) -> u32
     ensures { result ≡ kept fields.now }
 {
-    fields.len().min(KEPT) as u32
+    fields.len().min(MOST_FIELDS) as u32
 }
 
 /// The largest number of kept fields in a record.
@@ -33,7 +33,7 @@ pub(crate) fn width_of(records: &[Record]) -> u32
 
 /// The columns of a table of this width.
 pub(crate) fn columns_to(alloc: Global, width: u32) -> Result<Vec<u32>, NoMemory>
-    requires { width ≤ 1000 }
+    requires { width ≤ MOST_FIELDS }
     ensures { IfOk result (λ columns. columns.items ≡ columns_to width) }
 {
     let mut columns = Vec::with_capacity(alloc, width as usize)?;

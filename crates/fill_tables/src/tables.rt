@@ -15,7 +15,7 @@ use std::alloc::Global;
 use std::marker::Model;
 
 /// How many tables there can be.
-const MOST_TABLES: usize = 8;
+pub const MOST_TABLES: usize = 8;
 
 /// How many columns a key can have.
 const MOST_COLUMNS: usize = 3;

@@ -20,6 +20,12 @@ pub struct Settings {
     pub profile: Profile,
 }
 
+/// The most examples that are learned from together.
+pub const MOST_EXAMPLES: usize = 64;
+
+/// The most programs of a branch that are asked for together.
+pub const MOST_PROGRAMS: u32 = 20;
+
 /// What a row's output cell shall be.
 #[derive(Debug, Drop)]
 pub struct Example {

@@ -153,7 +153,7 @@ module _ (nodes : ℕ) (edges : List Edge) (marks : List Bool) (pos : 0 < nodes)
     from_first = rw (n, e) from_first;
     to_last = rw (n, e) to_last;
     same = rw (n, e) same;
-    kept = rw e (λ k x h. let at = left_at marks edges k x h in (at.0, (place marks edges k, at.1), sym at.2.atoms));
+    origin = rw e (λ k x h. let at = left_at marks edges k x h in (at.0, (place marks edges k, at.1), sym at.2.atoms));
     short = rw e short;
   }
 

@@ -1,5 +1,5 @@
 -- Graphs of which only the nodes on walks from the first node to the last one are left.
-use Rattle.std.specs.Prelude.{◌≡◌, ◌↔◌, ℕ, ◌-◌, ◌<◌, List, [], ◌∷◌, length, Some, slice_get}
+use Rattle.std.specs.Prelude.{◌≡◌, ◌↔◌, ℕ, ◌-◌, ◌<◌, List, [], ◌∷◌, length}
 use Rattle.fill_arena.specs.Contents.{SomeIn, EachIn}
 use Rattle.fill_arena.specs.Order.{IsTopological}
 use Rattle.fill_arena.specs.WellMade.{Path}
@@ -24,6 +24,6 @@ pub record IsTrimmed (nodes : ℕ) (edges : List Edge) (t : Trimmed) : Type 0 wh
   pub from_first : (m : ℕ) → m < t.nodes → (path : List Edge) × Path t.edges 0 path m
   pub to_last : (m : ℕ) → m < t.nodes → (path : List Edge) × Path t.edges m path (t.nodes - 1)
   pub same : (sets : List ℕ) → HasWalk sets t.edges 0 (t.nodes - 1) ↔ HasWalk sets edges 0 (nodes - 1)
-  pub kept : EachIn (λ e. SomeIn (λ f. f.atoms ≡ e.atoms) edges) t.edges
+  pub origin : EachIn (λ e. SomeIn (λ f. f.atoms ≡ e.atoms) edges) t.edges
   pub short : (from to : ℕ) (path : List Edge) → Path t.edges from path to →
       (first : ℕ) × (last : ℕ) × (old : List Edge) × Path edges first old last × (length old ≡ length path)

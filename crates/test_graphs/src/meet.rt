@@ -53,7 +53,7 @@ fn graph<L: Ledger>(
 ) -> Result<GraphId, NoMemory>
     requires { length text ≤ 100 }
     ensures graph { IfOk result (IsGraph arena.new) }
-    ensures kept { Extends arena.old arena.new }
+    ensures extends { Extends arena.old arena.new }
 {
     let whole = arena.intern_sources(sources(alloc, column)?)?;
     let all = arena.intern_atoms(atoms(alloc, text, whole)?)?;

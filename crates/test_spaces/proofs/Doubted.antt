@@ -1,5 +1,5 @@
 -- The sets and the graph of a small arena.
-use Rattle.std.proofs.Common.{◌≡◌, ℕ, zero, suc, ◌<◌, ◌≤◌, inl, List, [], ◌∷◌, length, slice_get, None, Some, Result, Ok, Err, IfOk, refl, sym, ap, subst, arith}
+use Rattle.std.proofs.Common.{◌≡◌, ℕ, zero, suc, ◌<◌, ◌≤◌, inl, List, [], ◌∷◌, length, slice_get, None, Some, Result, Ok, Err, IfOk, refl, subst, arith}
 use Rattle.fill_arena.proofs.Samples.{each_nil, each_cons}
 use Rattle.std.proofs.lemmas.Option.{slice_get_within}
 use Rattle.fill_arena.specs.Contents.{IsSourceSet, IsAtomSet}

@@ -86,7 +86,7 @@ fn lookups(alloc: Global, conditions: List<ConditionItem>) -> Result<List<Source
 fn months(alloc: Global, arena: &mut Arena, column: SourceSet) -> Result<SourceSet, NoMemory>
     requires { slice_get arena.old column ≡ Some (Kept.Sources (SourceItem.Col 1 ∷ [])) }
     ensures months { IfOk result (IsSourceSet arena.new) }
-    ensures kept { Extends arena.old arena.new }
+    ensures extends { Extends arena.old arena.new }
 {
     let whole = arena.intern_atoms(wholes(alloc, column)?)?;
     let conditions = condition(alloc, whole)?;
@@ -154,7 +154,7 @@ fn atoms(
     requires start { IsPlaceSet arena.old sets.start }
     requires stop { IsPlaceSet arena.old sets.stop }
     ensures set { IfOk result (IsAtomSet arena.new) }
-    ensures kept { Extends arena.old arena.new }
+    ensures extends { Extends arena.old arena.new }
 {
     let first = item(alloc, sets, one)?;
     let second = item(alloc, sets, other)?;

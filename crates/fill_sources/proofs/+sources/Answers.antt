@@ -51,9 +51,9 @@ parts::part_items-loop-i-preserved n c =
     let arena = c.put_readers.new.arena in
     let put = subst (λ m. AddsAtoms arena c.loop-i.items c.put_readers.new.items (ReadsSpot on texts h m)) c.len.ensures.value c.in_ok-put_readers.ensures.adds in
     record {
-      kept = extends_on _ _ _ c.loop-i.invariant.kept c.put_readers.ensures.kept;
+      extends = extends_on _ _ _ c.loop-i.invariant.extends c.put_readers.ensures.extends;
       memo = c.in_ok-put_readers.ensures.memo;
-      adds = puts.readers_more on texts spots (length c.args.w.now) i h there c.loop-i.arena arena c.put_readers.ensures.kept [] c.loop-i.items c.put_readers.new.items c.loop-i.invariant.adds put;
+      adds = puts.readers_more on texts spots (length c.args.w.now) i h there c.loop-i.arena arena c.put_readers.ensures.extends [] c.loop-i.items c.put_readers.new.items c.loop-i.invariant.adds put;
     }
 
 pub parts::part_items-returns-clause-items : goal.parts::part_items-returns-clause-items
@@ -78,11 +78,11 @@ part_made n c =
     let t = c.args.look.now.texts.now in
     let w = c.args.w.now in
     let full : w ≢ [] = some_text w (λ e. c.if-len-eq0.false (c.len.ensures.value ∙ e)) in
-    let known = known_under c.args.look.now.on.now t c.requires.row.texts c.args.depth c.requires.depth in
+    let from_source = known_under c.args.look.now.on.now t c.requires.row.texts c.args.depth c.requires.depth in
     c.in_ok-made.ensures.made on w
     (λ d o a.
     let p = puts.puts_all IsOldAtom AtomFits c.part_items.new.arena c.in_ok-items.items (ReadsAny on (texts_in t) w) c.in_ok-items.ensures.items d o a in
-    let q = parts_are on (texts_in t) w full known a in
+    let q = parts_are on (texts_in t) w full from_source a in
     (λ s. q.0 (p.0 s), λ g. p.1 (q.1 g)))
 
 pub parts::parts_at-returns-clause-made : goal.parts::parts_at-returns-clause-made
@@ -93,7 +93,7 @@ parts::parts_at-returns-clause-memo n c =
     let on = c.args.look.now.on.now in
     let texts = texts_in c.args.look.now.texts.now in
     c.in_ok-keep_part.ensures on texts c.atom_set.new.arena
-    (right_stays on texts c.part_items.new.arena c.atom_set.new.arena c.atom_set.ensures.kept c.part_items.new.memo c.in_ok-items.ensures.memo)
+    (right_stays on texts c.part_items.new.arena c.atom_set.new.arena c.atom_set.ensures.extends c.part_items.new.memo c.in_ok-items.ensures.memo)
     (part_made n c)
 
 pub parts::put_readers-returns-in_default-clause-adds : goal.parts::put_readers-returns-in_default-clause-adds
@@ -115,7 +115,7 @@ parts::put_readers-returns-clause-adds n c =
     let between_reads = ReadsBetween on texts c.args.h c.args.width in
     on_ok_weaker c.put_between.result
     (λ adds.
-    puts.puts_then IsOldAtom AtomFits before c.put_between.new.arena c.put_between.ensures.kept c.args.items.now c.put_whole.new.items c.put_between.new.items whole_reads between_reads (ReadsSpot on texts c.args.h c.args.width)
+    puts.puts_then IsOldAtom AtomFits before c.put_between.new.arena c.put_between.ensures.extends c.args.items.now c.put_whole.new.items c.put_between.new.items whole_reads between_reads (ReadsSpot on texts c.args.h c.args.width)
     (c.in_ok-put_whole.ensures.adds on before within.0 within.1 (λ d o. subst (AreSourcesIn on d within.0) c.in-Some.is (c.in_ok-sources.ensures.made within.0 within.1 d o)))
     (adds c.args.depth within.0 within.1 (λ d o. subst (AreSourcesIn on d within.0) c.in-Some.is (c.in_ok-sources.ensures.made within.0 within.1 d o)))
     (λ a. (λ r. r, λ r. r)))
@@ -132,10 +132,10 @@ sources::conditions-loop-i-preserved n c =
     let cells = inv.made.0 in
     let rows = inv.made.1 in
     let cell : nth rows column ≡ Some text = sym (cell_of c.args.look.now.on.now.tables.now c.args.at.now.table c.args.at.now.row column rows inv.made.2) ∙ sym c.in-Some.ensures in
-    let old = conditions_stay on c.loop-i.arena c.condition.new.arena c.condition.ensures.kept cells c.loop-i.items inv.made.4 in
+    let old = conditions_stay on c.loop-i.arena c.condition.new.arena c.condition.ensures.extends cells c.loop-i.items inv.made.4 in
     let all = conditions_more on c.condition.new.arena cells c.loop-i.items text c.in_ok-condition.field-0 old c.in_ok-condition.ensures.made in
     record {
-      kept = extends_on _ _ _ inv.kept c.condition.ensures.kept;
+      extends = extends_on _ _ _ inv.extends c.condition.ensures.extends;
       memo = c.in_ok-condition.ensures.memo;
       made = (cells ++ text ∷ [], rows, inv.made.2, cells_more rows key c.loop-i.i column text cells at cell inv.made.3, subst (λ (l : List ConditionItem). AreConditions on c.condition.new.arena (cells ++ text ∷ []) l) (sym c.in_ok-push.ensures.ok) all);
     }
@@ -218,11 +218,11 @@ sources::source_items-loop-i-preserved n c =
     let there = subst (λ (l : List Origin). slice_get l i ≡ Some o) c.as_slice-origins.ensures read in
     let is = origin_is on t c.requires.row.texts c.args.k m at o (i, there) in
     record {
-      kept = extends_on _ _ _ c.loop-i.invariant.kept c.put_origin.ensures.kept;
+      extends = extends_on _ _ _ c.loop-i.invariant.extends c.put_origin.ensures.extends;
       memo = c.in_ok-put_origin.ensures.memo;
       adds = λ v text.
           let same = named_text t.named.items c.args.k m c.index.ensures v text in
-          puts.gives_more deep v origins i o read c.loop-i.arena c.put_origin.new.arena c.put_origin.ensures.kept [] c.loop-i.items c.put_origin.new.items (c.loop-i.invariant.adds v text)
+          puts.gives_more deep v origins i o read c.loop-i.arena c.put_origin.new.arena c.put_origin.ensures.extends [] c.loop-i.items c.put_origin.new.items (c.loop-i.invariant.adds v text)
           (c.in_ok-put_origin.ensures.adds v (subst (λ (u : List ℕ). IsOrigin on u o) same is));
     }
 
@@ -264,5 +264,5 @@ sources::sources_at-returns-clause-memo n c =
     let on = c.args.look.now.on.now in
     let texts = texts_in c.args.look.now.texts.now in
     c.in_ok-keep_source.ensures on texts c.source_set.new.arena
-    (right_stays on texts c.source_items.new.arena c.source_set.new.arena c.source_set.ensures.kept c.source_items.new.memo c.in_ok-items.ensures.memo)
+    (right_stays on texts c.source_items.new.arena c.source_set.new.arena c.source_set.ensures.extends c.source_items.new.memo c.in_ok-items.ensures.memo)
     (source_made n c)

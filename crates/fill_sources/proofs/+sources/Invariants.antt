@@ -37,14 +37,14 @@ decreases-parts::put_readers l = 10 * l.depth + 5
 
 abbrev pub invariant-parts::part_items-loop-i : goal.invariant-parts::part_items-loop-i
 invariant-parts::part_items-loop-i l = record {
-  kept : Extends l.initial.arena l.arena;
+  extends : Extends l.initial.arena l.arena;
   memo : IsRight l.look.on.now (texts_in l.look.texts.now) l.arena l.memo;
   adds : AddsAtoms l.arena [] l.items (ReadsFirst (at_depth l.look.on.now l.depth) (texts_in l.look.texts.now) l.spots l.i (length l.w));
 }
 
 abbrev pub invariant-sources::conditions-loop-i : goal.invariant-sources::conditions-loop-i
 invariant-sources::conditions-loop-i l = record {
-  kept : Extends l.initial.arena l.arena;
+  extends : Extends l.initial.arena l.arena;
   memo : IsRight l.look.on.now (texts_in l.look.texts.now) l.arena l.memo;
   made : (cells : List (List ℕ)) × (rows : List (List ℕ)) × (table_row_at l.look.on.now.tables.now l.at.table l.at.row ≡ Some rows) × (map (nth rows) (take l.i l.key) ≡ map Some cells)
       × AreConditions (at_depth l.look.on.now l.depth) l.arena cells l.items;
@@ -52,7 +52,7 @@ invariant-sources::conditions-loop-i l = record {
 
 abbrev pub invariant-sources::source_items-loop-i : goal.invariant-sources::source_items-loop-i
 invariant-sources::source_items-loop-i l = record {
-  kept : Extends l.initial.arena l.arena;
+  extends : Extends l.initial.arena l.arena;
   memo : IsRight l.look.on.now (texts_in l.look.texts.now) l.arena l.memo;
   adds : (v : List ℕ) → slice_get (texts_in l.look.texts.now) l.k ≡ Some v → AddsSources l.arena [] l.items (GivesFirst (at_depth l.look.on.now l.depth) v l.origins l.i);
 }

@@ -6,5 +6,5 @@ use Rattle.fill_arena.proofs.entries.first_mark.Given as goal
 abbrev pub invariant-loop-i : goal.invariant-loop-i
 invariant-loop-i l = record {
   past : l.from ≤ l.i;
-  same : (n : ℕ) → AreInPool 0 (take l.i l.kept) n → AreInPool 0 (take l.from l.kept) n;
+  same : (n : ℕ) → AreInPool 0 (take l.i l.stored) n → AreInPool 0 (take l.from l.stored) n;
 }

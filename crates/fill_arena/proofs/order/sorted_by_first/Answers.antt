@@ -1,8 +1,7 @@
-use Rattle.std.proofs.Common.{sym, subst, ◌∙◌, rules}
+use Rattle.std.proofs.Common.{sym, subst, rules}
 use Rattle.std.proofs.lemmas.List.Sorted.{IsNonDecreasingBy-from_sort_by_key}
 use Rattle.fill_arena.proofs.Sorting.{moved, rising_topological}
 use Rattle.fill_arena.specs.Order.{IsOrderOf}
-use Rattle.fill_arena.specs.Contents.{EachIn}
 use Rattle.fill_arena.specs.declared.entry.Edge.{Edge}
 use Rattle.std.proofs.Common.{IsPermutation}
 use Rattle.fill_arena.proofs.order.sorted_by_first.Goals as goal

@@ -23,9 +23,9 @@ returns-clause-first c =
     let s = c.args.s in
     let items = c.atoms-2.result.now in
     let first = takes_after (atom_cost c.args.prices.now) atom_cmp atom_total exact_atoms c.args.limit (PartStands arena s) (λ a. SomeIn (λ i. ConstantFits arena i a) items) (AtomStands arena s)
-    c.in_ok-kept.kept.items c.put_constants.new.kept.items (λ a h. h.1) (constant_stands arena s items c.atoms-2.ensures) (part_or_constant arena s items c.atoms-2.ensures)
-    c.in_ok-kept.ensures.first (c.in_ok-put_constants.ensures arena) in
-    subst (λ (v : Vec (Costed AtomTree) Global). AreCheapest (atom_cost c.args.prices.now) atom_cmp (AtomStands arena s) c.args.limit v.items) (sym c.in_ok-found.ensures.ok) first
+    c.in_ok-ranking.ranking.items c.put_constants.new.ranking.items (λ a h. h.1) (constant_stands arena s items c.atoms-2.ensures) (part_or_constant arena s items c.atoms-2.ensures)
+    c.in_ok-ranking.ensures.first (c.in_ok-put_constants.ensures arena) in
+    subst (λ (v : Vec (Costed AtomTree) Global). AreCheapest (atom_cost c.args.prices.now) atom_cmp (AtomStands arena s) c.args.limit v.items) (sym c.in_ok-shortlist.ensures.ok) first
 
 pub returns-clause-memo : goal.returns-clause-memo
 returns-clause-memo c =
@@ -33,7 +33,7 @@ returns-clause-memo c =
     let s = c.args.s in
     let items = c.atoms-2.result.now in
     let first = takes_after (atom_cost c.args.prices.now) atom_cmp atom_total exact_atoms c.args.limit (PartStands arena s) (λ a. SomeIn (λ i. ConstantFits arena i a) items) (AtomStands arena s)
-    c.in_ok-kept.kept.items c.put_constants.new.kept.items (λ a h. h.1) (constant_stands arena s items c.atoms-2.ensures) (part_or_constant arena s items c.atoms-2.ensures)
-    c.in_ok-kept.ensures.first (c.in_ok-put_constants.ensures arena) in
-    c.in_ok-keep_atoms.ensures c.args.prices.now arena c.args.limit c.in_ok-kept.ensures.memo
-    (subst (λ (v : Vec (Costed AtomTree) Global). AreCheapest (atom_cost c.args.prices.now) atom_cmp (AtomStands arena s) c.args.limit v.items) (sym (c.in_ok-clone-2.ensures.cases ∙ c.in_ok-found.ensures.ok)) first)
+    c.in_ok-ranking.ranking.items c.put_constants.new.ranking.items (λ a h. h.1) (constant_stands arena s items c.atoms-2.ensures) (part_or_constant arena s items c.atoms-2.ensures)
+    c.in_ok-ranking.ensures.first (c.in_ok-put_constants.ensures arena) in
+    c.in_ok-keep_atoms.ensures c.args.prices.now arena c.args.limit c.in_ok-ranking.ensures.memo
+    (subst (λ (v : Vec (Costed AtomTree) Global). AreCheapest (atom_cost c.args.prices.now) atom_cmp (AtomStands arena s) c.args.limit v.items) (sym (c.in_ok-clone-2.ensures.cases ∙ c.in_ok-shortlist.ensures.ok)) first)

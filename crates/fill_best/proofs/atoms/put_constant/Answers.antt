@@ -14,12 +14,12 @@ use Rattle.fill_best.proofs.atoms.put_constant.Goals as goal
 pub returns-in-Const : goal.returns-in-Const
 returns-in-Const c =
     let t = c.in-Const.text in
-    let old = c.args.kept.now.items in
-    let new = c.put_text.new.kept.items in
+    let old = c.args.ranking.now.items in
+    let new = c.put_text.new.ranking.items in
     ok_on _ _ c.put_text.result c.put_text.ensures
     (λ u h cs. subst (λ it. TakesIn (atom_cost c.args.prices.now) atom_cmp (ConstantFits cs it) c.args.limit old new) (sym c.in-Const.is)
     (takes_same (atom_cost c.args.prices.now) atom_cmp atom_total exact_atoms c.args.limit (λ a. constant t ≡ a) (ConstantFits cs (Const t)) old new (constant_fits_it cs t) (fits_constant cs t) h))
 
 pub returns-in_default : goal.returns-in_default
 returns-in_default c cs =
-    takes_none (atom_cost c.args.prices.now) atom_cmp atom_total exact_atoms c.args.limit (ConstantFits cs c.args.item.now) c.args.kept.now.items (no_constant_else cs c.args.item.now c.in_default.not-Const) c.requires.rising c.requires.few
+    takes_none (atom_cost c.args.prices.now) atom_cmp atom_total exact_atoms c.args.limit (ConstantFits cs c.args.item.now) c.args.ranking.now.items (no_constant_else cs c.args.item.now c.in_default.not-Const) c.requires.rising c.requires.few

@@ -9,14 +9,14 @@ use Rattle.fill_best.proofs.atoms.put_constants.Goals as goal
 
 pub loop-item-init : goal.loop-item-init
 loop-item-init c cs =
-    scan_none (atom_cost c.args.prices.now) atom_cmp atom_total exact_atoms c.args.limit (λ y a. ConstantFits cs y a) c.args.items.now c.args.kept.now.items c.requires.rising c.requires.few
+    scan_none (atom_cost c.args.prices.now) atom_cmp atom_total exact_atoms c.args.limit (λ y a. ConstantFits cs y a) c.args.items.now c.args.ranking.now.items c.requires.rising c.requires.few
 
 pub loop-item-preserved : goal.loop-item-preserved
 loop-item-preserved c cs =
     let items = c.args.items.now in
     let i = c.loop-item.item-index in
     let x = c.item-item.result in
-    scan_more (atom_cost c.args.prices.now) atom_cmp atom_total exact_atoms c.args.limit (λ y a. ConstantFits cs y a) items i x c.args.kept.now.items c.loop-item.kept.items c.put_constant.new.kept.items
+    scan_more (atom_cost c.args.prices.now) atom_cmp atom_total exact_atoms c.args.limit (λ y a. ConstantFits cs y a) items i x c.args.ranking.now.items c.loop-item.ranking.items c.put_constant.new.ranking.items
     (here items i x c.loop-item-test.true c.item-item.is) (c.loop-item.invariant cs) (c.in_ok-put_constant.ensures cs)
 
 pub put_constant-requires-clause-item : goal.put_constant-requires-clause-item
@@ -33,4 +33,4 @@ put_constant-requires-clause-few c = (c.loop-item.invariant c.requires.items.0).
 pub returns : goal.returns
 returns c cs =
     scan_done (atom_cost c.args.prices.now) atom_cmp atom_total exact_atoms c.args.limit (λ y a. ConstantFits cs y a) c.args.items.now (λ a. SomeIn (λ i. ConstantFits cs i a) c.args.items.now) c.loop-item.item-index
-    c.args.kept.now.items c.loop-item.kept.items (λ a h. h) (λ a h. h) c.loop-item-test.false (c.loop-item.invariant cs)
+    c.args.ranking.now.items c.loop-item.ranking.items (λ a h. h) (λ a h. h) c.loop-item-test.false (c.loop-item.invariant cs)

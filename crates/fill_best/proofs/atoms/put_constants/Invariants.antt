@@ -8,4 +8,4 @@ use Rattle.fill_best.specs.Cheapest.{TakesIn}
 use Rattle.fill_best.proofs.atoms.put_constants.Given as goal
 
 abbrev pub invariant-loop-item : goal.invariant-loop-item
-invariant-loop-item l = (c : List Entry) → TakesIn (atom_cost l.prices) atom_cmp (λ a. SomeBelow l.item-index l.items (λ y. ConstantFits c y a)) l.limit l.initial.kept.items l.kept.items
+invariant-loop-item l = (c : List Entry) → TakesIn (atom_cost l.prices) atom_cmp (λ a. SomeBelow l.item-index l.items (λ y. ConstantFits c y a)) l.limit l.initial.ranking.items l.ranking.items

@@ -17,7 +17,7 @@ pub returns : goal.returns
 returns c =
     let x = c.in_ok-item.item in
     let is = c.in_ok-item.ensures in
-    let old = c.args.kept.now.items in
-    let new = c.put.new.kept.items in
+    let old = c.args.ranking.now.items in
+    let new = c.put.new.ranking.items in
     takes_same (atom_cost c.args.prices.now) atom_cmp atom_total exact_atoms c.args.limit (λ a. x ≡ a) (λ a. constant c.args.text.now ≡ a) old new (λ a e. sym is ∙ e) (λ a e. is ∙ e)
     (takes_one (atom_cost c.args.prices.now) atom_cmp atom_total exact_atoms c.args.limit x c.in-Some.cost old new c.in-Some.ensures.some c.in_ok-put.ensures.first)

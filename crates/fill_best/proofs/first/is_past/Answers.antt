@@ -17,12 +17,12 @@ dearer cost x y same n m less e =
 
 pub returns : goal.returns
 returns g c less x costs =
-    let kept = c.args.kept.now in
-    let last = c.index-kept-kept.result in
-    let n = length kept - 1 in
-    let full : c.args.limit ≤ length kept = (let f = c.if-kept-limit.false in omega arith) in
-    let ends : suc n ≡ length kept = (let some = c.if-kept-eq0.false in omega arith) in
-    let here = c.index-kept-kept.is in
+    let ranking = c.args.ranking.now in
+    let last = c.index-ranking-ranking.result in
+    let n = length ranking - 1 in
+    let full : c.args.limit ≤ length ranking = (let f = c.if-ranking-limit.false in omega arith) in
+    let ends : suc n ≡ length ranking = (let some = c.if-ranking-eq0.false in omega arith) in
+    let here = c.index-ranking-ranking.is in
     let cheaper : last.cost < x.cost = dearer (λ (y : Costed g.row.T.Denot). y.cost) last _ here c.args.cost x.cost less costs in
-    past_last (by_cost g.T.Ordered.order) (by_cost-total g.T.Ordered.order g.met.T.Ordered.total) c.args.limit n kept last x c.requires full ends c.index-kept-kept.is
+    past_last (by_cost g.T.Ordered.order) (by_cost-total g.T.Ordered.order g.met.T.Ordered.total) c.args.limit n ranking last x c.requires full ends c.index-ranking-ranking.is
     (ranked-less last.cost x.cost (g.T.Ordered.order last.item x.item) cheaper)

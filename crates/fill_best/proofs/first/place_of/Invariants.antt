@@ -7,8 +7,8 @@ use Rattle.fill_best.proofs.first.place_of.Given as goal
 
 abbrev pub invariant-loop-at : goal.invariant-loop-at
 invariant-loop-at g l = record {
-  within : l.at ≤ length l.kept;
-  high : (z : Costed g.row.T.Denot) → Contains (drop l.at l.kept) z → by_cost g.T.Ordered.order l.next z ≡ Less;
+  within : l.at ≤ length l.ranking;
+  high : (z : Costed g.row.T.Denot) → Contains (drop l.at l.ranking) z → by_cost g.T.Ordered.order l.next z ≡ Less;
 }
 
 abbrev pub decreases-loop-at : goal.decreases-loop-at

@@ -9,11 +9,11 @@ use Rattle.fill_best.proofs.first.put.Goals as goal
 pub returns-clause-first : goal.returns-clause-first
 returns-clause-first g c =
     let R = by_cost g.T.Ordered.order in
-    let kept = c.args.kept.now.items in
+    let ranking = c.args.ranking.now.items in
     let at = c.in-Some.at in
     let place = subst (λ xs. IsPlaceOf R xs c.args.next at) c.as_slice.ensures.value c.in-Some.ensures in
-    let made = first_inserted R (by_cost-total g.T.Ordered.order g.met.T.Ordered.total) (by_cost-exact g.T.Ordered.order g.met.T.Ordered.exact) c.args.limit at kept c.args.next
+    let made = first_inserted R (by_cost-total g.T.Ordered.order g.met.T.Ordered.total) (by_cost-exact g.T.Ordered.order g.met.T.Ordered.exact) c.args.limit at ranking c.args.next
     c.requires.rising place.low place.high in
-    let inside : c.insert.new.self.items ≡ insert kept at c.args.next = c.in-Ok.ensures.items in
-    let whole : c.truncate.new.self.items ≡ take c.args.limit (insert kept at c.args.next) = c.truncate.ensures.items ∙ ap (take c.args.limit) inside in
+    let inside : c.insert.new.self.items ≡ insert ranking at c.args.next = c.in-Ok.ensures.items in
+    let whole : c.truncate.new.self.items ≡ take c.args.limit (insert ranking at c.args.next) = c.truncate.ensures.items ∙ ap (take c.args.limit) inside in
     subst (AreFirst R _ c.args.limit) (sym whole) made

@@ -16,9 +16,9 @@ with_item cost a b e = ap (costed cost) e
 pub loop-second-init : goal.loop-second-init
 loop-second-init g c =
     let R = by_cost g.T.Ordered.order in
-    let kept = c.args.kept.now.items in
-    row_none R (by_cost-total g.T.Ordered.order g.met.T.Ordered.total) (by_cost-exact g.T.Ordered.order g.met.T.Ordered.exact) (linked g.T.Made.made c.args.link) c.args.limit
-    (Contains kept) c.args.first.now c.args.seconds.now kept (first_itself R c.args.limit kept c.requires.rising c.requires.few)
+    let ranking = c.args.ranking.now.items in
+    row_none R (by_cost-total g.T.Ordered.order g.met.T.Ordered.total) (by_cost-exact g.T.Ordered.order g.met.T.Ordered.exact) (linked g.T.Composite.composite c.args.link) c.args.limit
+    (Contains ranking) c.args.first.now c.args.seconds.now ranking (first_itself R c.args.limit ranking c.requires.rising c.requires.few)
 
 pub overflow_add-cost : goal.overflow_add-cost
 overflow_add-cost g c =
@@ -33,47 +33,47 @@ overflow_add-cost-in-loop-second g c =
 pub returns-then-is_past : goal.returns-then-is_past
 returns-then-is_past g c =
     let R = by_cost g.T.Ordered.order in
-    let made = linked g.T.Made.made c.args.link in
+    let made = linked g.T.Composite.composite c.args.link in
     let y = c.second-item.result in
     let past = c.if-is_past.ensures refl (made c.args.first.now y) refl in
     row_past R (by_cost-total g.T.Ordered.order g.met.T.Ordered.total) (by_cost-exact g.T.Ordered.order g.met.T.Ordered.exact) made c.args.limit
-    (Contains c.args.kept.now.items) c.args.first.now c.args.seconds.now (by_cost g.B.Ordered.order) (by_cost-total g.B.Ordered.order g.met.B.Ordered.total)
-    (linked-second g.A.Ordered.order g.B.Ordered.order g.T.Ordered.order g.T.Made.made g.met.T.Made.by_parts c.args.link g.met.A.Ordered.total c.args.first.now)
-    c.requires.seconds c.loop-second.second-index c.loop-second.second-index y c.loop-second.kept.items c.loop-second-test.true (omega arith) c.second-item.is c.loop-second.invariant
+    (Contains c.args.ranking.now.items) c.args.first.now c.args.seconds.now (by_cost g.B.Ordered.order) (by_cost-total g.B.Ordered.order g.met.B.Ordered.total)
+    (linked-second g.A.Ordered.order g.B.Ordered.order g.T.Ordered.order g.T.Composite.composite g.met.T.Composite.by_parts c.args.link g.met.A.Ordered.total c.args.first.now)
+    c.requires.seconds c.loop-second.second-index c.loop-second.second-index y c.loop-second.ranking.items c.loop-second-test.true (omega arith) c.second-item.is c.loop-second.invariant
     (subst (λ xs. IsPast R c.args.limit xs (made c.args.first.now y)) c.as_slice.ensures.value past)
 
 pub loop-second-preserved : goal.loop-second-preserved
 loop-second-preserved g c =
     let R = by_cost g.T.Ordered.order in
-    let made = linked g.T.Made.made c.args.link in
+    let made = linked g.T.Composite.composite c.args.link in
     let x = c.args.first.now in
     let y = c.second-item.result in
-    let kept = c.loop-second.kept.items in
-    let same = with_item (c.args.link + x.cost + y.cost) c.in-Ok.item (g.T.Made.made x.item y.item) c.in-Ok.ensures in
-    let after = subst (λ v. AreFirst R (λ z. Contains kept z ⊎ (z ≡ v)) c.args.limit c.put.new.kept.items) same c.in-Ok-false.ensures.first in
+    let ranking = c.loop-second.ranking.items in
+    let same = with_item (c.args.link + x.cost + y.cost) c.in-Ok.item (g.T.Composite.composite x.item y.item) c.in-Ok.ensures in
+    let after = subst (λ v. AreFirst R (λ z. Contains ranking z ⊎ (z ≡ v)) c.args.limit c.put.new.ranking.items) same c.in-Ok-false.ensures.first in
     row_more R (by_cost-total g.T.Ordered.order g.met.T.Ordered.total) (by_cost-exact g.T.Ordered.order g.met.T.Ordered.exact) made c.args.limit
-    (Contains c.args.kept.now.items) x c.args.seconds.now c.loop-second.second-index y kept c.put.new.kept.items c.loop-second-test.true c.second-item.is c.loop-second.invariant after
+    (Contains c.args.ranking.now.items) x c.args.seconds.now c.loop-second.second-index y ranking c.put.new.ranking.items c.loop-second-test.true c.second-item.is c.loop-second.invariant after
 
 pub returns-in-Ok-true : goal.returns-in-Ok-true
 returns-in-Ok-true g c =
     let R = by_cost g.T.Ordered.order in
     let total = by_cost-total g.T.Ordered.order g.met.T.Ordered.total in
     let exact = by_cost-exact g.T.Ordered.order g.met.T.Ordered.exact in
-    let made = linked g.T.Made.made c.args.link in
+    let made = linked g.T.Composite.composite c.args.link in
     let x = c.args.first.now in
     let y = c.second-item.result in
     let i = c.loop-second.second-index in
-    let kept = c.loop-second.kept.items in
-    let new = c.put.new.kept.items in
-    let same = with_item (c.args.link + x.cost + y.cost) c.in-Ok.item (g.T.Made.made x.item y.item) c.in-Ok.ensures in
-    let after = subst (λ v. AreFirst R (λ z. Contains kept z ⊎ (z ≡ v)) c.args.limit new) same c.in-Ok-true.ensures.first in
-    let more = row_more R total exact made c.args.limit (Contains c.args.kept.now.items) x c.args.seconds.now i y kept new c.loop-second-test.true c.second-item.is c.loop-second.invariant after in
+    let ranking = c.loop-second.ranking.items in
+    let new = c.put.new.ranking.items in
+    let same = with_item (c.args.link + x.cost + y.cost) c.in-Ok.item (g.T.Composite.composite x.item y.item) c.in-Ok.ensures in
+    let after = subst (λ v. AreFirst R (λ z. Contains ranking z ⊎ (z ≡ v)) c.args.limit new) same c.in-Ok-true.ensures.first in
+    let more = row_more R total exact made c.args.limit (Contains c.args.ranking.now.items) x c.args.seconds.now i y ranking new c.loop-second-test.true c.second-item.is c.loop-second.invariant after in
     let past = subst (IsPast R c.args.limit new) same (c.in-Ok-true.ensures.past c.in-Ok-true.field-0-test) in
-    row_past R total exact made c.args.limit (Contains c.args.kept.now.items) x c.args.seconds.now (by_cost g.B.Ordered.order) (by_cost-total g.B.Ordered.order g.met.B.Ordered.total)
-    (linked-second g.A.Ordered.order g.B.Ordered.order g.T.Ordered.order g.T.Made.made g.met.T.Made.by_parts c.args.link g.met.A.Ordered.total x)
+    row_past R total exact made c.args.limit (Contains c.args.ranking.now.items) x c.args.seconds.now (by_cost g.B.Ordered.order) (by_cost-total g.B.Ordered.order g.met.B.Ordered.total)
+    (linked-second g.A.Ordered.order g.B.Ordered.order g.T.Ordered.order g.T.Composite.composite g.met.T.Composite.by_parts c.args.link g.met.A.Ordered.total x)
     c.requires.seconds i (i + 1) y new c.loop-second-test.true (omega arith) c.second-item.is more past
 
 pub returns : goal.returns
 returns g c =
-    row_end (by_cost g.T.Ordered.order) (by_cost-total g.T.Ordered.order g.met.T.Ordered.total) (by_cost-exact g.T.Ordered.order g.met.T.Ordered.exact) (linked g.T.Made.made c.args.link)
-    c.args.limit (Contains c.args.kept.now.items) c.args.first.now c.args.seconds.now c.loop-second.second-index c.loop-second.kept.items c.loop-second-test.false c.loop-second.invariant
+    row_end (by_cost g.T.Ordered.order) (by_cost-total g.T.Ordered.order g.met.T.Ordered.total) (by_cost-exact g.T.Ordered.order g.met.T.Ordered.exact) (linked g.T.Composite.composite c.args.link)
+    c.args.limit (Contains c.args.ranking.now.items) c.args.first.now c.args.seconds.now c.loop-second.second-index c.loop-second.ranking.items c.loop-second-test.false c.loop-second.invariant

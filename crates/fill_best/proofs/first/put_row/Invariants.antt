@@ -6,4 +6,4 @@ use Rattle.fill_best.proofs.first.put_row.Given as goal
 
 abbrev pub invariant-loop-second : goal.invariant-loop-second
 invariant-loop-second g l = AreFirst (by_cost g.T.Ordered.order)
-    (λ z. Contains l.initial.kept.items z ⊎ IsMade (linked g.T.Made.made l.link) (λ x. x ≡ l.first) (Contains (take l.second-index l.seconds)) z) l.limit l.kept.items
+    (λ z. Contains l.initial.ranking.items z ⊎ IsMade (linked g.T.Composite.composite l.link) (λ x. x ≡ l.first) (Contains (take l.second-index l.seconds)) z) l.limit l.ranking.items

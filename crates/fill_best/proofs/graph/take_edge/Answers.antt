@@ -38,20 +38,20 @@ put_products-requires-clause-rising c =
     let old = c.args.rests.now.items in
     let e = c.args.edge in
     let h = c.requires.cheap in
-    let kept = c.replace-kept.result in
+    let ranking = c.replace-ranking.result in
     let onward = c.requires.onward in
     let within = c.requires.within in
-    (h.2.each e.from kept (taken_out old e.from c.index_mut.result.now kept (omega arith) c.index_mut.ensures.value c.replace-kept.ensures.value)).rising
+    (h.2.each e.from ranking (taken_out old e.from c.index_mut.result.now ranking (omega arith) c.index_mut.ensures.value c.replace-ranking.ensures.value)).rising
 
 pub put_products-requires-clause-few : goal.put_products-requires-clause-few
 put_products-requires-clause-few c =
     let old = c.args.rests.now.items in
     let e = c.args.edge in
     let h = c.requires.cheap in
-    let kept = c.replace-kept.result in
+    let ranking = c.replace-ranking.result in
     let onward = c.requires.onward in
     let within = c.requires.within in
-    (h.2.each e.from kept (taken_out old e.from c.index_mut.result.now kept (omega arith) c.index_mut.ensures.value c.replace-kept.ensures.value)).few
+    (h.2.each e.from ranking (taken_out old e.from c.index_mut.result.now ranking (omega arith) c.index_mut.ensures.value c.replace-ranking.ensures.value)).few
 
 pub put_products-requires-clause-seconds : goal.put_products-requires-clause-seconds
 put_products-requires-clause-seconds c =
@@ -59,7 +59,7 @@ put_products-requires-clause-seconds c =
     let e = c.args.edge in
     let h = c.requires.cheap in
     let next = c.index.result.now in
-    let there = left_there old e.from e.to c.replace-kept.new.dest next c.requires.onward c.requires.within c.index.ensures in
+    let there = left_there old e.from e.to c.replace-ranking.new.dest next c.requires.onward c.requires.within c.index.ensures in
     (rests_slice c.args.prices.now c.args.arena.now h.0 h.1 e.to c.args.limit next.items c.as_slice-2.result.now c.as_slice-2.ensures.value (h.2.each e.to next there)).rising
 
 pub put_products-requires-clause-cheap : goal.put_products-requires-clause-cheap
@@ -70,7 +70,7 @@ put_products-requires-clause-cheap c =
     let k = c.args.limit in
     let h = c.requires.cheap in
     let next = c.index.result.now in
-    let there = left_there old e.from e.to c.replace-kept.new.dest next c.requires.onward c.requires.within c.index.ensures in
+    let there = left_there old e.from e.to c.replace-ranking.new.dest next c.requires.onward c.requires.within c.index.ensures in
     let seconds = rests_slice c.args.prices.now arena h.0 h.1 e.to k next.items c.as_slice-2.result.now c.as_slice-2.ensures.value (h.2.each e.to next there) in
     let firsts = atoms_slice c.args.prices.now arena e.atoms k c.in_ok-atoms.atoms.value c.deref.result.now c.as_slice.result.now c.as_slice.ensures.value c.deref.ensures c.in_ok-atoms.ensures.first in
     edge_cheap c.args.prices.now arena e h.0 h.1 k c.as_slice.result.now c.as_slice-2.result.now firsts seconds h.3
@@ -81,9 +81,9 @@ returns-clause-first c others last first are =
     let old = c.args.rests.now.items in
     let e = c.args.edge in
     let k = c.args.limit in
-    let empty = c.replace-kept.new.dest in
-    let kept = c.replace-kept.result in
-    let made = c.put_products.new.kept in
+    let empty = c.replace-ranking.new.dest in
+    let ranking = c.replace-ranking.result in
+    let made = c.put_products.new.ranking in
     let next = c.index.result.now in
     let onward = c.requires.onward in
     let within = c.requires.within in
@@ -92,6 +92,6 @@ returns-clause-first c others last first are =
     let there = left_there old e.from e.to empty next onward within c.index.ensures in
     let seconds = rests_slice c.args.prices.now arena others last e.to k next.items c.as_slice-2.result.now c.as_slice-2.ensures.value (are.each e.to next there) in
     let firsts = atoms_slice c.args.prices.now arena e.atoms k c.in_ok-atoms.atoms.value c.deref.result.now c.as_slice.result.now c.as_slice.ensures.value c.deref.ensures c.in_ok-atoms.ensures.first in
-    edge_step c.args.prices.now arena e others last k c.as_slice.result.now c.as_slice-2.result.now firsts seconds first old (set (set old e.from empty) e.from made) kept made are
-    (taken_out old e.from c.index_mut.result.now kept lt c.index_mut.ensures.value c.replace-kept.ensures.value) c.in_ok-put_products.ensures
+    edge_step c.args.prices.now arena e others last k c.as_slice.result.now c.as_slice-2.result.now firsts seconds first old (set (set old e.from empty) e.from made) ranking made are
+    (taken_out old e.from c.index_mut.result.now ranking lt c.index_mut.ensures.value c.replace-ranking.ensures.value) c.in_ok-put_products.ensures
     (set_here (set old e.from empty) e.from made long) (λ n apart. set_apart (set old e.from empty) e.from made n apart ∙ set_apart old e.from empty n apart)

@@ -20,18 +20,18 @@ pub returns-clause-first : goal.returns-clause-first
 returns-clause-first c =
     let arena = c.args.arena.now in
     let places = c.places-2.result.now in
-    let found = c.in_ok-first_places.field-0 in
-    let first = cheapest_same (place_cost c.args.prices.now) place_cmp place_total exact_places c.args.limit (λ p. In p places) (PlaceStands arena c.args.s) found.items
+    let shortlist = c.in_ok-first_places.field-0 in
+    let first = cheapest_same (place_cost c.args.prices.now) place_cmp place_total exact_places c.args.limit (λ p. In p places) (PlaceStands arena c.args.s) shortlist.items
     (place_stands arena c.args.s places c.places-2.ensures) (stands_place arena c.args.s places c.places-2.ensures) c.in_ok-first_places.ensures in
-    subst (λ (v : Vec (Costed Place) Global). AreCheapest (place_cost c.args.prices.now) place_cmp (PlaceStands arena c.args.s) c.args.limit v.items) (sym c.in_ok-found.ensures.ok) first
+    subst (λ (v : Vec (Costed Place) Global). AreCheapest (place_cost c.args.prices.now) place_cmp (PlaceStands arena c.args.s) c.args.limit v.items) (sym c.in_ok-shortlist.ensures.ok) first
 
 pub returns-clause-memo : goal.returns-clause-memo
 returns-clause-memo c =
     let arena = c.args.arena.now in
     let places = c.places-2.result.now in
-    let found = c.in_ok-first_places.field-0 in
-    let first = cheapest_same (place_cost c.args.prices.now) place_cmp place_total exact_places c.args.limit (λ p. In p places) (PlaceStands arena c.args.s) found.items
+    let shortlist = c.in_ok-first_places.field-0 in
+    let first = cheapest_same (place_cost c.args.prices.now) place_cmp place_total exact_places c.args.limit (λ p. In p places) (PlaceStands arena c.args.s) shortlist.items
     (place_stands arena c.args.s places c.places-2.ensures) (stands_place arena c.args.s places c.places-2.ensures) c.in_ok-first_places.ensures in
     c.in_ok-keep_places.ensures c.args.prices.now arena c.args.limit c.requires.memo
     (subst (λ (v : Vec (Costed Place) Global). AreCheapest (place_cost c.args.prices.now) place_cmp (PlaceStands arena c.args.s) c.args.limit v.items)
-    (sym (c.in_ok-clone-2.ensures.cases ∙ c.in_ok-found.ensures.ok)) first)
+    (sym (c.in_ok-clone-2.ensures.cases ∙ c.in_ok-shortlist.ensures.ok)) first)

@@ -12,4 +12,4 @@ pub returns : goal.returns
 returns c =
     two_joined (by_cost atoms_cmp) (by_cost-total atoms_cmp atoms_total) (by_cost-exact atoms_cmp exact_atom_lists) c.args.limit
     (IsMade (linked more 0) (Contains c.args.constants.now) (Contains c.args.after_constants.now)) (IsMade (linked more c.args.price) (Contains c.args.parts.now) (Contains c.args.after_parts.now))
-    c.new-rows.result.items c.put_products.new.kept.items c.put_products-2.new.kept.items c.new-rows.ensures.items c.in_ok-put_products.ensures c.in_ok-put_products-2.ensures
+    c.new-rows.result.items c.put_products.new.ranking.items c.put_products-2.new.ranking.items c.new-rows.ensures.items c.in_ok-put_products.ensures c.in_ok-put_products-2.ensures

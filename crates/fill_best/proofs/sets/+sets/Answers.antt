@@ -34,23 +34,23 @@ use Rattle.fill_best.proofs.sets.+sets.Goals as goal
 
 pub sources_of-returns-clause-first : goal.sources_of-returns-clause-first
 sources_of-returns-clause-first t c =
-    subst (λ (v : Vec (Costed SourceTree) Global). AreCheapest (source_cost c.args.prices.now) source_cmp (SourceStands c.args.arena.now c.args.s) c.args.limit v.items) (sym c.in_ok-found.ensures.ok) c.in_ok-scan_sources.ensures.first
+    subst (λ (v : Vec (Costed SourceTree) Global). AreCheapest (source_cost c.args.prices.now) source_cmp (SourceStands c.args.arena.now c.args.s) c.args.limit v.items) (sym c.in_ok-shortlist.ensures.ok) c.in_ok-scan_sources.ensures.first
 
 pub sources_of-returns-clause-memo : goal.sources_of-returns-clause-memo
 sources_of-returns-clause-memo t c =
     c.in_ok-keep_sources.ensures c.args.prices.now c.args.arena.now c.args.limit c.in_ok-scan_sources.ensures.memo
     (subst (λ (v : Vec (Costed SourceTree) Global). AreCheapest (source_cost c.args.prices.now) source_cmp (SourceStands c.args.arena.now c.args.s) c.args.limit v.items)
-    (sym (c.in_ok-clone-2.ensures.cases ∙ c.in_ok-found.ensures.ok)) c.in_ok-scan_sources.ensures.first)
+    (sym (c.in_ok-clone-2.ensures.cases ∙ c.in_ok-shortlist.ensures.ok)) c.in_ok-scan_sources.ensures.first)
 
 pub parts_of-returns-clause-first : goal.parts_of-returns-clause-first
 parts_of-returns-clause-first t c =
-    subst (λ (v : Vec (Costed AtomTree) Global). AreCheapest (atom_cost c.args.prices.now) atom_cmp (PartStands c.args.arena.now c.args.s) c.args.limit v.items) (sym c.in_ok-found.ensures.ok) c.in_ok-scan_parts.ensures.first
+    subst (λ (v : Vec (Costed AtomTree) Global). AreCheapest (atom_cost c.args.prices.now) atom_cmp (PartStands c.args.arena.now c.args.s) c.args.limit v.items) (sym c.in_ok-shortlist.ensures.ok) c.in_ok-scan_parts.ensures.first
 
 pub parts_of-returns-clause-memo : goal.parts_of-returns-clause-memo
 parts_of-returns-clause-memo t c =
     c.in_ok-keep_parts.ensures c.args.prices.now c.args.arena.now c.args.limit c.in_ok-scan_parts.ensures.memo
     (subst (λ (v : Vec (Costed AtomTree) Global). AreCheapest (atom_cost c.args.prices.now) atom_cmp (PartStands c.args.arena.now c.args.s) c.args.limit v.items)
-    (sym (c.in_ok-clone-2.ensures.cases ∙ c.in_ok-found.ensures.ok)) c.in_ok-scan_parts.ensures.first)
+    (sym (c.in_ok-clone-2.ensures.cases ∙ c.in_ok-shortlist.ensures.ok)) c.in_ok-scan_parts.ensures.first)
 
 pub scan_sources-put_source-requires : goal.scan_sources-put_source-requires
 scan_sources-put_source-requires t c =
@@ -68,7 +68,7 @@ scan_sources-loop-item-preserved t c =
     let x = c.item-item.result in
     record {
       memo = c.in_ok-put_source.ensures.memo;
-      first = scan_more (source_cost c.args.prices.now) source_cmp source_total exact_sources c.args.limit (λ y s. SourceFits s c.args.arena.now y) items i x c.new-kept.result.items c.loop-item.kept.items c.put_source.new.kept.items
+      first = scan_more (source_cost c.args.prices.now) source_cmp source_total exact_sources c.args.limit (λ y s. SourceFits s c.args.arena.now y) items i x c.new-ranking.result.items c.loop-item.ranking.items c.put_source.new.ranking.items
           (here items i x c.loop-item-test.true c.item-item.is) c.loop-item.invariant.first c.in_ok-put_source.ensures.first;
     }
 
@@ -76,9 +76,9 @@ pub scan_sources-returns-clause-first : goal.scan_sources-returns-clause-first
 scan_sources-returns-clause-first t c =
     let arena = c.args.arena.now in
     let items = c.sources-items.result.now in
-    let old = c.new-kept.result.items in
-    let new = c.loop-item.kept.items in
-    takes_all (source_cost c.args.prices.now) source_cmp source_total exact_sources c.args.limit (SourceStands arena c.args.s) old new c.new-kept.ensures.items
+    let old = c.new-ranking.result.items in
+    let new = c.loop-item.ranking.items in
+    takes_all (source_cost c.args.prices.now) source_cmp source_total exact_sources c.args.limit (SourceStands arena c.args.s) old new c.new-ranking.ensures.items
     (scan_done (source_cost c.args.prices.now) source_cmp source_total exact_sources c.args.limit (λ y s. SourceFits s arena y) items (SourceStands arena c.args.s) c.loop-item.item-index old new
     (source_items arena c.args.s items c.sources-items.ensures) (items_source arena c.args.s items c.sources-items.ensures) c.loop-item-test.false c.loop-item.invariant.first)
 
@@ -98,7 +98,7 @@ scan_parts-loop-item-preserved t c =
     let x = c.item-item.result in
     record {
       memo = c.in_ok-put_parts.ensures.memo;
-      first = scan_more (atom_cost c.args.prices.now) atom_cmp atom_total exact_atoms c.args.limit (λ y a. PartFits c.args.arena.now y a) items i x c.new-kept.result.items c.loop-item.kept.items c.put_parts.new.kept.items
+      first = scan_more (atom_cost c.args.prices.now) atom_cmp atom_total exact_atoms c.args.limit (λ y a. PartFits c.args.arena.now y a) items i x c.new-ranking.result.items c.loop-item.ranking.items c.put_parts.new.ranking.items
           (here items i x c.loop-item-test.true c.item-item.is) c.loop-item.invariant.first c.in_ok-put_parts.ensures.first;
     }
 
@@ -106,9 +106,9 @@ pub scan_parts-returns-clause-first : goal.scan_parts-returns-clause-first
 scan_parts-returns-clause-first t c =
     let arena = c.args.arena.now in
     let items = c.atoms-items.result.now in
-    let old = c.new-kept.result.items in
-    let new = c.loop-item.kept.items in
-    takes_all (atom_cost c.args.prices.now) atom_cmp atom_total exact_atoms c.args.limit (PartStands arena c.args.s) old new c.new-kept.ensures.items
+    let old = c.new-ranking.result.items in
+    let new = c.loop-item.ranking.items in
+    takes_all (atom_cost c.args.prices.now) atom_cmp atom_total exact_atoms c.args.limit (PartStands arena c.args.s) old new c.new-ranking.ensures.items
     (scan_done (atom_cost c.args.prices.now) atom_cmp atom_total exact_atoms c.args.limit (λ y a. PartFits arena y a) items (PartStands arena c.args.s) c.loop-item.item-index old new
     (atom_items arena c.args.s items c.atoms-items.ensures IsPart) (items_atom arena c.args.s items c.atoms-items.ensures IsPart) c.loop-item-test.false c.loop-item.invariant.first)
 
@@ -164,8 +164,8 @@ put_source-returns-in_ok-put-in-Col-clause-first t c =
     let m = c.in-Col.number in
     let x = c.column.result in
     let is = c.column.ensures in
-    let old = c.args.kept.now.items in
-    let new = c.put.new.kept.items in
+    let old = c.args.ranking.now.items in
+    let new = c.put.new.ranking.items in
     takes_same (source_cost c.args.prices.now) source_cmp source_total exact_sources c.args.limit (λ b. x ≡ b) (λ b. SourceFits b arena c.args.item.now) old new
     (λ b e. subst (SourceFits b arena) (sym c.in-Col.is) (column_fits arena m b (sym is ∙ e)))
     (λ b f. is ∙ fits_column arena m b (subst (SourceFits b arena) c.in-Col.is f))
@@ -173,7 +173,7 @@ put_source-returns-in_ok-put-in-Col-clause-first t c =
 
 pub put_source-returns-in-Select-clause-first : goal.put_source-returns-in-Select-clause-first
 put_source-returns-in-Select-clause-first t c =
-    subst (λ it. OnOk c.put_lookups.result (TakesIn (source_cost c.args.prices.now) source_cmp (λ x. SourceFits x c.args.arena.now it) c.args.limit c.args.kept.now.items c.put_lookups.new.kept.items)) (sym c.in-Select.is)
+    subst (λ it. OnOk c.put_lookups.result (TakesIn (source_cost c.args.prices.now) source_cmp (λ x. SourceFits x c.args.arena.now it) c.args.limit c.args.ranking.now.items c.put_lookups.new.ranking.items)) (sym c.in-Select.is)
     c.put_lookups.ensures.first
 
 pub put_lookups-rows_of-requires : goal.put_lookups-rows_of-requires
@@ -182,11 +182,11 @@ put_lookups-rows_of-requires t c =
     let few = subst (λ (l : List ConditionItem). length l ≤ 3) (sym c.as_slice.ensures) c.requires.item.few in
     (search rules, (older, (few, (c.requires.some, c.requires.memo))))
 
-mixed_rows : (prices : Prices) (arena : List Entry) (k : ℕ) (given listed : List ConditionItem) (kept taken : List (Costed Atoms)) → taken ≡ kept → listed ≡ given →
-    AreCheapest (conditions_cost prices) atoms_cmp (λ p. HasPart p × ConditionsFit p arena listed) k kept → AreCheapest (conditions_cost prices) atoms_cmp (λ p. HasPart p × ConditionsFit p arena given) k taken
-mixed_rows prices arena k given listed kept taken e f first =
+mixed_rows : (prices : Prices) (arena : List Entry) (k : ℕ) (given listed : List ConditionItem) (ranking taken : List (Costed Atoms)) → taken ≡ ranking → listed ≡ given →
+    AreCheapest (conditions_cost prices) atoms_cmp (λ p. HasPart p × ConditionsFit p arena listed) k ranking → AreCheapest (conditions_cost prices) atoms_cmp (λ p. HasPart p × ConditionsFit p arena given) k taken
+mixed_rows prices arena k given listed ranking taken e f first =
     subst (AreCheapest (conditions_cost prices) atoms_cmp (λ p. HasPart p × ConditionsFit p arena given) k) (sym e)
-    (subst (λ l. AreCheapest (conditions_cost prices) atoms_cmp (λ p. HasPart p × ConditionsFit p arena l) k kept) f first)
+    (subst (λ l. AreCheapest (conditions_cost prices) atoms_cmp (λ p. HasPart p × ConditionsFit p arena l) k ranking) f first)
 
 pub put_lookups-put_products-requires-clause-seconds : goal.put_lookups-put_products-requires-clause-seconds
 put_lookups-put_products-requires-clause-seconds t c =
@@ -208,11 +208,11 @@ put_lookups-returns-clause-first t c =
     let rows = mixed_rows c.args.prices.now arena c.args.limit i.conditions c.as_slice.result.now c.in_ok-rows.rows.mixed.items c.as_slice-2.result.now c.as_slice-2.ensures.value c.as_slice.ensures
     c.in_ok-rows.ensures.first.mixed in
     ok_on _ _ c.put_products.result c.put_products.ensures
-    (λ u h. first_lookups c.args.prices.now c.keep_small.ensures arena i c.args.limit c.requires.some c.as_slice-2.result.now rows (Contains c.args.kept.now.items) c.put_products.new.kept.items h)
+    (λ u h. first_lookups c.args.prices.now c.keep_small.ensures arena i c.args.limit c.requires.some c.as_slice-2.result.now rows (Contains c.args.ranking.now.items) c.put_products.new.ranking.items h)
 
 pub conditions_of-returns-in-Some-clause-first : goal.conditions_of-returns-in-Some-clause-first
 conditions_of-returns-in-Some-clause-first t c =
-    ok_on _ _ c.parts_of.result c.parts_of.ensures.first (λ found h. part_listed c.args.prices.now c.args.arena.now c.args.item.now c.in-Some.s c.in-Some.is c.args.limit found.value.items h)
+    ok_on _ _ c.parts_of.result c.parts_of.ensures.first (λ shortlist h. part_listed c.args.prices.now c.args.arena.now c.args.item.now c.in-Some.s c.in-Some.is c.args.limit shortlist.value.items h)
 
 pub conditions_of-returns-in_ok-new-in-None-clause-first : goal.conditions_of-returns-in_ok-new-in-None-clause-first
 conditions_of-returns-in_ok-new-in-None-clause-first t c =
@@ -330,8 +330,8 @@ places_slice prices c b k list held slice e f first =
 
 pub put_parts-returns-in-Const-clause-first : goal.put_parts-returns-in-Const-clause-first
 put_parts-returns-in-Const-clause-first t c =
-    subst (λ it. TakesIn (atom_cost c.args.prices.now) atom_cmp (PartFits c.args.arena.now it) c.args.limit c.args.kept.now.items c.args.kept.now.items) (sym c.in-Const.is)
-    (takes_none (atom_cost c.args.prices.now) atom_cmp atom_total exact_atoms c.args.limit (PartFits c.args.arena.now (atom.Const c.in-Const.field-0)) c.args.kept.now.items
+    subst (λ it. TakesIn (atom_cost c.args.prices.now) atom_cmp (PartFits c.args.arena.now it) c.args.limit c.args.ranking.now.items c.args.ranking.now.items) (sym c.in-Const.is)
+    (takes_none (atom_cost c.args.prices.now) atom_cmp atom_total exact_atoms c.args.limit (PartFits c.args.arena.now (atom.Const c.in-Const.field-0)) c.args.ranking.now.items
     (no_part c.args.arena.now c.in-Const.field-0) c.requires.rising c.requires.few)
 
 pub put_parts-put_products-requires-clause-seconds : goal.put_parts-put_products-requires-clause-seconds
@@ -342,17 +342,17 @@ put_parts-put_products-requires-clause-cheap t c =
     let arena = c.args.arena.now in
     let b = c.in-Whole.sources in
     let xs = c.as_slice.result.now in
-    let sources = sources_slice c.args.prices.now arena b c.args.limit c.in_ok-found-in-Whole.found.value c.deref.result.now xs c.as_slice.ensures.value c.deref.ensures c.in_ok-found-in-Whole.ensures.first in
+    let sources = sources_slice c.args.prices.now arena b c.args.limit c.in_ok-shortlist-in-Whole.shortlist.value c.deref.result.now xs c.as_slice.ensures.value c.deref.ensures c.in_ok-shortlist-in-Whole.ensures.first in
     wholes_cheap c.args.prices.now c.keep_small.ensures arena b c.args.limit xs sources c.requires.some c.args.set c.keeps_made.ensures (subst (IsAtomItem arena c.args.set) c.in-Whole.is c.requires.item)
 
-pub put_parts-returns-in_ok-found-in-Whole-clause-first : goal.put_parts-returns-in_ok-found-in-Whole-clause-first
-put_parts-returns-in_ok-found-in-Whole-clause-first t c =
+pub put_parts-returns-in_ok-shortlist-in-Whole-clause-first : goal.put_parts-returns-in_ok-shortlist-in-Whole-clause-first
+put_parts-returns-in_ok-shortlist-in-Whole-clause-first t c =
     let arena = c.args.arena.now in
     let b = c.in-Whole.sources in
     let xs = c.as_slice.result.now in
-    let old = c.args.kept.now.items in
-    let new = c.put_products.new.kept.items in
-    let sources = sources_slice c.args.prices.now arena b c.args.limit c.in_ok-found-in-Whole.found.value c.deref.result.now xs c.as_slice.ensures.value c.deref.ensures c.in_ok-found-in-Whole.ensures.first in
+    let old = c.args.ranking.now.items in
+    let new = c.put_products.new.ranking.items in
+    let sources = sources_slice c.args.prices.now arena b c.args.limit c.in_ok-shortlist-in-Whole.shortlist.value c.deref.result.now xs c.as_slice.ensures.value c.deref.ensures c.in_ok-shortlist-in-Whole.ensures.first in
     ok_on _ _ c.put_products.result c.put_products.ensures
     (λ u h. subst (λ it. TakesIn (atom_cost c.args.prices.now) atom_cmp (PartFits arena it) c.args.limit old new) (sym c.in-Whole.is) (first_wholes c.args.prices.now c.keep_small.ensures arena b c.args.limit xs sources c.requires.some (Contains old) new h))
 
@@ -402,7 +402,7 @@ put_parts-put_products-requires-in-Sub-clause-cheap t c =
     let rights = places_slice c.args.prices.now arena r c.args.limit c.in_ok-right-in-Sub.right.value c.deref-in-Sub-2.result.now c.as_slice-in-Sub-2.result.now c.as_slice-in-Sub-2.ensures.value c.deref-in-Sub-2.ensures
     c.in_ok-right-in-Sub.ensures.first in
     let bounds = bounds_slice c.args.prices.now arena l r c.args.limit c.in_ok-bounds-in-Sub.bounds.items ys c.as_slice-in-Sub-4.ensures.value (c.in_ok-bounds-in-Sub.ensures arena l r lefts rights) in
-    let sources = sources_slice c.args.prices.now arena b c.args.limit c.in_ok-found-in-Sub.found.value c.deref-in-Sub-3.result.now xs c.as_slice-in-Sub-3.ensures.value c.deref-in-Sub-3.ensures c.in_ok-found-in-Sub.ensures.first in
+    let sources = sources_slice c.args.prices.now arena b c.args.limit c.in_ok-shortlist-in-Sub.shortlist.value c.deref-in-Sub-3.result.now xs c.as_slice-in-Sub-3.ensures.value c.deref-in-Sub-3.ensures c.in_ok-shortlist-in-Sub.ensures.first in
     pieces_cheap c.args.prices.now c.keep_small.ensures arena b c.args.limit xs sources l r ys bounds c.args.set c.keeps_made.ensures (subst (IsAtomItem arena c.args.set) c.in-Sub.is c.requires.item)
 
 pub put_parts-returns-in_ok-bounds-in-Sub-clause-first : goal.put_parts-returns-in_ok-bounds-in-Sub-clause-first
@@ -413,13 +413,13 @@ put_parts-returns-in_ok-bounds-in-Sub-clause-first t c =
     let r = c.in-Sub.rights in
     let xs = c.as_slice-in-Sub-3.result.now in
     let ys = c.as_slice-in-Sub-4.result.now in
-    let old = c.args.kept.now.items in
-    let new = c.put_products-in-Sub.new.kept.items in
+    let old = c.args.ranking.now.items in
+    let new = c.put_products-in-Sub.new.ranking.items in
     let lefts = places_slice c.args.prices.now arena l c.args.limit c.in_ok-left-in-Sub.left.value c.deref-in-Sub.result.now c.as_slice-in-Sub.result.now c.as_slice-in-Sub.ensures.value c.deref-in-Sub.ensures
     c.in_ok-left-in-Sub.ensures.first in
     let rights = places_slice c.args.prices.now arena r c.args.limit c.in_ok-right-in-Sub.right.value c.deref-in-Sub-2.result.now c.as_slice-in-Sub-2.result.now c.as_slice-in-Sub-2.ensures.value c.deref-in-Sub-2.ensures
     c.in_ok-right-in-Sub.ensures.first in
     let bounds = bounds_slice c.args.prices.now arena l r c.args.limit c.in_ok-bounds-in-Sub.bounds.items ys c.as_slice-in-Sub-4.ensures.value (c.in_ok-bounds-in-Sub.ensures arena l r lefts rights) in
-    let sources = sources_slice c.args.prices.now arena b c.args.limit c.in_ok-found-in-Sub.found.value c.deref-in-Sub-3.result.now xs c.as_slice-in-Sub-3.ensures.value c.deref-in-Sub-3.ensures c.in_ok-found-in-Sub.ensures.first in
+    let sources = sources_slice c.args.prices.now arena b c.args.limit c.in_ok-shortlist-in-Sub.shortlist.value c.deref-in-Sub-3.result.now xs c.as_slice-in-Sub-3.ensures.value c.deref-in-Sub-3.ensures c.in_ok-shortlist-in-Sub.ensures.first in
     ok_on _ _ c.put_products-in-Sub.result c.put_products-in-Sub.ensures
     (λ u h. subst (λ it. TakesIn (atom_cost c.args.prices.now) atom_cmp (PartFits arena it) c.args.limit old new) (sym c.in-Sub.is) (first_pieces c.args.prices.now c.keep_small.ensures arena b c.args.limit xs sources l r ys bounds (Contains old) new h))

@@ -41,13 +41,13 @@ decreases-put_parts l = 16 * l.set + 3
 abbrev pub invariant-scan_sources-loop-item : goal.invariant-scan_sources-loop-item
 invariant-scan_sources-loop-item l = record {
   memo : IsMemoOf l.prices l.arena l.limit l.memo;
-  first : TakesIn (source_cost l.prices) source_cmp (λ x. SomeBelow l.item-index l.items (λ y. SourceFits x l.arena y)) l.limit l.initial.kept.items l.kept.items;
+  first : TakesIn (source_cost l.prices) source_cmp (λ x. SomeBelow l.item-index l.items (λ y. SourceFits x l.arena y)) l.limit l.initial.ranking.items l.ranking.items;
 }
 
 abbrev pub invariant-scan_parts-loop-item : goal.invariant-scan_parts-loop-item
 invariant-scan_parts-loop-item l = record {
   memo : IsMemoOf l.prices l.arena l.limit l.memo;
-  first : TakesIn (atom_cost l.prices) atom_cmp (λ a. SomeBelow l.item-index l.items (λ y. PartFits l.arena y a)) l.limit l.initial.kept.items l.kept.items;
+  first : TakesIn (atom_cost l.prices) atom_cmp (λ a. SomeBelow l.item-index l.items (λ y. PartFits l.arena y a)) l.limit l.initial.ranking.items l.ranking.items;
 }
 
 abbrev pub invariant-rows_of-loop-left : goal.invariant-rows_of-loop-left

@@ -11,10 +11,10 @@ use Rattle.fill_build.proofs.atoms.piece_atoms.Goals as goal
 
 pub loop-i-init : goal.loop-i-init
 loop-i-init c = record {
-  kept = extends_same c.args.arena.now;
-  known = c.requires.known;
+  extends = extends_same c.args.arena.now;
+  row_texts = c.requires.row_texts;
   texts = refl;
-  items = items_start c.args.on.now (texts_of c.args.known.now) c.args.piece.now c.args.hits.now c.args.arena.now c.in_ok-items.items c.in_ok-items.ensures;
+  items = items_start c.args.on.now (texts_of c.args.row_texts.now) c.args.piece.now c.args.hits.now c.args.arena.now c.in_ok-items.items c.in_ok-items.ensures;
 }
 
 pub put_readers-requires-clause-within : goal.put_readers-requires-clause-within
@@ -23,8 +23,8 @@ put_readers-requires-clause-within c =
     let hit = get_or c.args.hits.now c.loop-i.i none in
     let at = slice_get-get_or c.args.hits.now c.loop-i.i none c.loop-i-test.true in
     let width = c.args.piece.now.width in
-    let there = readable c.args.on.now (texts_of c.args.known.now) c.args.piece.now c.args.hits.now c.requires.piece c.requires.hits c.loop-i.i hit at in
-    subst (λ (s : Spot). IsReadable (texts_of c.loop-i.known) s width) (sym c.spot-spot.ensures)
+    let there = readable c.args.on.now (texts_of c.args.row_texts.now) c.args.piece.now c.args.hits.now c.requires.piece c.requires.hits c.loop-i.i hit at in
+    subst (λ (s : Spot). IsReadable (texts_of c.loop-i.row_texts) s width) (sym c.spot-spot.ensures)
     (subst (λ (ts : List (List ℕ)). IsReadable ts (spot_of hit) width) (sym c.loop-i.invariant.texts) there)
 
 pub loop-i-preserved : goal.loop-i-preserved
@@ -37,16 +37,16 @@ loop-i-preserved c =
     let arena = c.put_readers.new.arena in
     let old = c.loop-i.items in
     let new = c.put_readers.new.items in
-    let spot = subst (λ (s : Spot). AddsAtoms arena old new (ReadsSpot on (texts_of c.loop-i.known) s width)) c.spot-spot.ensures c.in_ok-put_readers.ensures.adds in
+    let spot = subst (λ (s : Spot). AddsAtoms arena old new (ReadsSpot on (texts_of c.loop-i.row_texts) s width)) c.spot-spot.ensures c.in_ok-put_readers.ensures.adds in
     let put = subst (λ (ts : List (List ℕ)). AddsAtoms arena old new (ReadsSpot on ts (spot_of hit) width)) c.loop-i.invariant.texts spot in
     record {
-      kept = extends_on _ _ _ c.loop-i.invariant.kept c.put_readers.ensures.kept;
-      known = c.in_ok-put_readers.ensures.known;
+      extends = extends_on _ _ _ c.loop-i.invariant.extends c.put_readers.ensures.extends;
+      row_texts = c.in_ok-put_readers.ensures.row_texts;
       texts = c.put_readers.ensures.texts ∙ c.loop-i.invariant.texts;
-      items = items_more on (texts_of c.args.known.now) c.args.piece.now c.args.hits.now c.loop-i.arena arena c.put_readers.ensures.kept c.loop-i.i hit at old new c.loop-i.invariant.items put;
+      items = items_more on (texts_of c.args.row_texts.now) c.args.piece.now c.args.hits.now c.loop-i.arena arena c.put_readers.ensures.extends c.loop-i.i hit at old new c.loop-i.invariant.items put;
     }
 
 pub returns-clause-items : goal.returns-clause-items
 returns-clause-items c =
-    items_end c.args.on.now (texts_of c.args.known.now) c.args.piece.now c.args.hits.now c.requires.piece c.requires.hits c.requires.known.exact c.loop-i.i c.loop-i.arena c.loop-i.items
+    items_end c.args.on.now (texts_of c.args.row_texts.now) c.args.piece.now c.args.hits.now c.requires.piece c.requires.hits c.requires.row_texts.exact c.loop-i.i c.loop-i.arena c.loop-i.items
     c.loop-i-test.false c.loop-i.invariant.items

@@ -17,7 +17,7 @@ returns-then-rest-run-clause-state c =
 
 pub piece_set-requires-clause-hits : goal.piece_set-requires-clause-hits
 piece_set-requires-clause-hits c =
-    let texts = texts_of c.loop-done.known in
+    let texts = texts_of c.loop-done.row_texts in
     let rest = drop c.args.node.now.from c.args.node.now.text.now in
     let width = c.loop-done.done + 1 in
     let h = c.loop-done.invariant.hits in
@@ -28,7 +28,7 @@ pub loop-done-preserved : goal.loop-done-preserved
 loop-done-preserved c =
     let n = c.args.node.now in
     let out = n.text.now in
-    let texts = texts_of c.loop-done.known in
+    let texts = texts_of c.loop-done.row_texts in
     let rest = drop n.from out in
     let width = c.loop-done.done + 1 in
     let h = c.loop-done.invariant.hits in
@@ -37,10 +37,10 @@ loop-done-preserved c =
     let low = rest_goes_on c.as_slice.result.now out n.from c.loop-done.done c.as_slice.ensures c.loop-done-test.true in
     let set = subst (λ (w : List ℕ). IsSetOf c.args.on.now c.piece_set.new.arena w c.in_ok-atoms.atoms) (sym (piece_range out n.from width)) c.in_ok-atoms.ensures.set in
     record {
-      kept = extends_on _ _ _ c.loop-done.invariant.kept c.piece_set.ensures.kept;
-      known = c.in_ok-atoms.ensures.known;
+      extends = extends_on _ _ _ c.loop-done.invariant.extends c.piece_set.ensures.extends;
+      row_texts = c.in_ok-atoms.ensures.row_texts;
       hits = (width, omega arith, subst (λ (ts : List (List ℕ)). AreHits ts rest width c.narrow.new.hits.items) (sym c.piece_set.ensures.texts) now);
-      state = edges_put c.args.on.now out c.loop-done.arena c.piece_set.new.arena c.piece_set.ensures.kept n.from c.loop-done.done low c.in_ok-atoms.atoms c.loop-done.edges c.put_edge.new.edges
+      state = edges_put c.args.on.now out c.loop-done.arena c.piece_set.new.arena c.piece_set.ensures.extends n.from c.loop-done.done low c.in_ok-atoms.atoms c.loop-done.edges c.put_edge.new.edges
           c.loop-done.invariant.state set c.in_ok-put_edge.ensures;
     }
 

@@ -10,8 +10,8 @@ returns-then-len-eq0-clause-set c =
 
 pub returns-clause-set : goal.returns-clause-set
 returns-clause-set c =
-    set_of_items c.args.on.now c.piece_atoms.new.arena c.intern_atoms.new.self (piece_text c.args.piece.now) c.in_ok-items.items c.in_ok-atoms.atoms c.intern_atoms.ensures.kept c.in_ok-atoms.ensures.ok
+    set_of_items c.args.on.now c.piece_atoms.new.arena c.intern_atoms.new.self (piece_text c.args.piece.now) c.in_ok-items.items c.in_ok-atoms.atoms c.intern_atoms.ensures.extends c.in_ok-atoms.ensures.ok
     c.in_ok-items.ensures.items
 
-pub returns-clause-known : goal.returns-clause-known
-returns-clause-known c = known_stays c.args.on.now c.piece_atoms.new.arena c.intern_atoms.new.self c.intern_atoms.ensures.kept c.piece_atoms.new.known c.in_ok-items.ensures.known
+pub returns-clause-row_texts : goal.returns-clause-row_texts
+returns-clause-row_texts c = known_stays c.args.on.now c.piece_atoms.new.arena c.intern_atoms.new.self c.intern_atoms.ensures.extends c.piece_atoms.new.row_texts c.in_ok-items.ensures.row_texts

@@ -8,15 +8,15 @@ use Rattle.fill_build.specs.Edges.{EdgesSoFar}
 use Rattle.fill_build.proofs.Graphs.{walks_result}
 use Rattle.fill_build.proofs.uncut.build_walks.Goals as goal
 
-pub piece_edges-requires-clause-known : goal.piece_edges-requires-clause-known
-piece_edges-requires-clause-known c = c.in-Ok.ensures c.args.arena.now c.requires.memory
+pub piece_edges-requires-clause-row_texts : goal.piece_edges-requires-clause-row_texts
+piece_edges-requires-clause-row_texts c = c.in-Ok.ensures c.args.arena.now c.requires.memory
 
 pub returns-in_err-edges-clause-memory : goal.returns-in_err-edges-clause-memory
-returns-in_err-edges-clause-memory c = places_stand_on c.args.arena.now c.piece_edges.new.arena c.piece_edges.ensures.kept c.args.memory.now c.requires.memory
+returns-in_err-edges-clause-memory c = places_stand_on c.args.arena.now c.piece_edges.new.arena c.piece_edges.ensures.extends c.args.memory.now c.requires.memory
 
 pub returns-clause-memory : goal.returns-clause-memory
 returns-clause-memory c =
-    c.keep_places.ensures c.piece_edges.new.arena c.in_ok-edges.ensures.known (places_stand_on c.args.arena.now c.piece_edges.new.arena c.piece_edges.ensures.kept c.args.memory.now c.requires.memory)
+    c.keep_places.ensures c.piece_edges.new.arena c.in_ok-edges.ensures.row_texts (places_stand_on c.args.arena.now c.piece_edges.new.arena c.piece_edges.ensures.extends c.args.memory.now c.requires.memory)
 
 pub returns-clause-walks : goal.returns-clause-walks
 returns-clause-walks c =

@@ -1,7 +1,7 @@
 use Rattle.std.proofs.Common.{[], ◌∷◌, arith, length-append}
 use Rattle.fill_columns.proofs.Others.{rest_full, rest_more, rest_none, rest_skips}
 use Rattle.fill_columns.proofs.choice.others.Goals as goal
-use Rattle.fill_columns.proofs.choice.others.Goals.{else-loop-column-test, then-loop-column-test+then-as_slice-eq-MOST}
+use Rattle.fill_columns.proofs.choice.others.Goals.{else-loop-column-test, then-loop-column-test+then-as_slice-eq-MOST_INPUTS}
 
 pub loop-column-preserved-then-column-to : goal.loop-column-preserved-then-column-to
 loop-column-preserved-then-column-to c =
@@ -28,5 +28,5 @@ returns c =
     let here = c.loop-column.invariant in
     elim c.loop-column-test.branch [
       | else-loop-column-test w ↦ rest_none c.args.to c.loop-column.from.items c.loop-column.column _ _ (omega arith) here.few here.rest
-      | then-loop-column-test+then-as_slice-eq-MOST w ↦ rest_full c.args.to c.loop-column.from.items c.loop-column.column _ _ (omega arith) here.rest
+      | then-loop-column-test+then-as_slice-eq-MOST_INPUTS w ↦ rest_full c.args.to c.loop-column.from.items c.loop-column.column _ _ (omega arith) here.rest
     ]

@@ -1,7 +1,7 @@
 use Rattle.std.proofs.Common.{◌<◌, ◌+◌, ℕ, arith, length, take, sym, subst}
 use Rattle.std.proofs.lemmas.Bool.{iff_false}
 use Rattle.fill_guard.specs.Read.{Passes}
-use Rattle.fill_guard.specs.Kept.{IsMask}
+use Rattle.fill_guard.specs.Candidate.{IsMask}
 use Rattle.fill_guard.proofs.MaskLaws.{mask_more_set, mask_more_not}
 use Rattle.fill_guard.proofs.mask.mask.Goals.{then-passes, else-passes}
 use Rattle.fill_guard.proofs.mask.mask.Goals as goal

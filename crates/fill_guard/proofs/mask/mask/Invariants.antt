@@ -1,5 +1,5 @@
 use Rattle.std.proofs.Common.{take}
-use Rattle.fill_guard.specs.Kept.{IsMask}
+use Rattle.fill_guard.specs.Candidate.{IsMask}
 use Rattle.fill_guard.specs.Read.{Passes}
 use Rattle.fill_guard.proofs.mask.mask.Given as goal
 

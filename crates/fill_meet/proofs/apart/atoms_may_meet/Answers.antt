@@ -10,7 +10,7 @@ meets_some-requires-clause-first c = (c.requires.first.0, c.requires.first.1 c.l
 pub loop-i-preserved : goal.loop-i-preserved
 loop-i-preserved c =
     record {
-      tried = c.meets_some.ensures.tried;
+      verdicts = c.meets_some.ensures.verdicts;
       apart = all_more (λ x. EachIn (AreApart AtomIn c.args.arena.now x) c.args.ys.now) _ _ _ (here _ _ _ c.loop-i-test.true c.index-xs-i.is) c.loop-i.invariant.apart
           (c.meets_some.ensures.apart c.if-meets_some.false);
     }

@@ -23,11 +23,11 @@ returns-else-not-places_may_meet-clause-apart c = λ e.
     rw (c.in-Sub-Sub.is-0, c.in-Sub-Sub.is-1) (atoms.sub_apart_left _ _ _ _ _ _ _ (c.places_may_meet-in-Sub-Sub.ensures.apart e))
 
 pub returns-in_default : goal.returns-in_default
-returns-in_default c = record { tried = c.requires.tried; apart = λ e. atoms.not_const _ _ _ c.in_default.field-0-0 c.in_default.is-0 c.in_default.not-Const-1 }
+returns-in_default c = record { verdicts = c.requires.verdicts; apart = λ e. atoms.not_const _ _ _ c.in_default.field-0-0 c.in_default.is-0 c.in_default.not-Const-1 }
 
 pub returns-in_default-2 : goal.returns-in_default-2
-returns-in_default-2 c = record { tried = c.requires.tried; apart = λ e. atoms.not_whole _ _ _ c.in_default.field-0-0 c.in_default.is-0 c.in_default.not-Whole-1 }
+returns-in_default-2 c = record { verdicts = c.requires.verdicts; apart = λ e. atoms.not_whole _ _ _ c.in_default.field-0-0 c.in_default.is-0 c.in_default.not-Whole-1 }
 
 pub returns-in_default-3 : goal.returns-in_default-3
 returns-in_default-3 c =
-    record { tried = c.requires.tried; apart = λ e. atoms.not_sub _ _ _ c.in_default.field-0-0 c.in_default.field-1-0 c.in_default.field-2-0 c.in_default.is-0 c.in_default.not-Sub-1 }
+    record { verdicts = c.requires.verdicts; apart = λ e. atoms.not_sub _ _ _ c.in_default.field-0-0 c.in_default.field-1-0 c.in_default.field-2-0 c.in_default.is-0 c.in_default.not-Sub-1 }

@@ -1,6 +1,6 @@
 use Rattle.fill_arena.specs.Contents.{SomeIn}
 use Rattle.fill_arena.proofs.Scan.{NoneBelow}
-use Rattle.fill_meet.specs.Tried.{AreAlike}
+use Rattle.fill_meet.specs.Verdicts.{AreAlike}
 use Rattle.fill_meet.proofs.apart.share_source.Given as goal
 
 abbrev pub invariant-loop-x : goal.invariant-loop-x

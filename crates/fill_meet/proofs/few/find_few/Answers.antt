@@ -24,7 +24,7 @@ loop-k-init c =
     let g = c.args.graphs in
     let edges = c.requires.edges in
     record {
-      tried = c.in_ok-tried.ensures c.args.arena.now;
+      verdicts = c.in_ok-verdicts.ensures c.args.arena.now;
       state = record {
         room = room_stays g.height g.width 0 0 c.in_ok-reached.reached c.put.new.self c.put.ensures c.in_ok-reached.ensures.room;
         swept = swept_start g.xs.now g.ys.now g.height g.width edges.first edges.second c.args.arena.now c.put.new.self c.new-2.result c.new-2.ensures c.put.ensures.here;

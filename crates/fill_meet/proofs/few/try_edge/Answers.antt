@@ -31,7 +31,7 @@ loop-v-init c =
     let hx = slice_get-get_or g.xs.now c.args.k c.index-graphs-k.result c.requires.within in
     let s = c.args.few.now.sweep in
     record {
-      tried = c.requires.tried;
+      verdicts = c.requires.verdicts;
       state = few_pass c.args.arena.now g edges.first edges.second c.args.k 0 c.next-v.result x s hx c.next-v.ensures.none (few_start c.args.arena.now g edges.first edges.second c.args.k s c.requires.state);
     }
 
@@ -43,7 +43,7 @@ loop-v-preserved c =
     let hx = slice_get-get_or g.xs.now c.args.k c.index-graphs-k.result c.requires.within in
     let done = c.in_ok-try_node.ensures in
     record {
-      tried = done.tried;
+      verdicts = done.verdicts;
       state = few_pass c.args.arena.now g edges.first edges.second c.args.k (c.loop-v.v + 1) c.next-v-in-loop-v.result x c.try_node.new.few.sweep hx c.next-v-in-loop-v.ensures.none done.state;
     }
 

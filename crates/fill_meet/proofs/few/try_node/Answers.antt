@@ -15,7 +15,7 @@ loop-l-init c =
     let groups = c.requires.groups in
     let next = c.first-l.ensures groups.keys groups.groups in
     record {
-      tried = c.requires.tried;
+      verdicts = c.requires.verdicts;
       state = few_on c.args.arena.now g edges.first edges.second c.args.k c.args.v groups.keys 0 c.first-l.result c.args.few.now.sweep groups.are next
           (few_node c.args.arena.now g edges.first edges.second c.args.k c.args.v c.args.few.now.sweep c.requires.state);
       from = λ y hy. next.here y.from (groups.are.each c.first-l.result y hy);
@@ -75,7 +75,7 @@ loop-l-preserved c =
     let key = groups.are.each c.loop-l.l _ hy ∙ ap Some (c.loop-l.invariant.from _ hy) in
     let next : IsFirstFrom groups.keys c.args.v (c.loop-l.l + 1) c.next-l.result = c.next-l.ensures groups.keys c.args.v groups.groups key in
     record {
-      tried = c.in_ok-try_edges.ensures.tried;
+      verdicts = c.in_ok-try_edges.ensures.verdicts;
       state = few_on c.args.arena.now g edges.first edges.second c.args.k c.args.v groups.keys (c.loop-l.l + 1) c.next-l.result c.try_edges.new.few.sweep groups.are next
           (few_step c.args.arena.now g edges.first edges.second c.args.k c.args.v c.loop-l.l _ _ hx hy c.loop-l.few.sweep c.loop-l.invariant.state c.try_edges.new.few.sweep c.in_ok-try_edges.ensures.tie);
       from = λ y at. next.here y.from (groups.are.each c.next-l.result y at);

@@ -17,7 +17,7 @@ loop-e-init c =
     let count = length index.groups.firsts.items in
     let P = IsSharedOf c.args.arena.now c.args.task.now c.args.zs.now in
     record {
-      kept = extends_same c.args.arena.now;
+      extends = extends_same c.args.arena.now;
       memo = c.requires.memo;
       task = c.requires.task;
       made = c.requires.made;
@@ -47,17 +47,17 @@ loop-e-preserved c =
     let old = c.loop-e.arena in
     let new = c.make_one.new.arena in
     let made = c.in_ok-make_one.ensures in
-    let o = c.make_one.ensures.kept in
+    let o = c.make_one.ensures.extends in
     let test : c.loop-e.e < length index.items.items = (let at = c.loop-e-test.true in let len = c.len.ensures in omega arith) in
     let within : c.loop-e.e < length index.groups.nexts.items = subst (λ n. c.loop-e.e < n) (sym (nexts_long (λ x. x.hash % count) index.items.items index.groups groups)) test in
     let next : (keys : List ℕ) → AreGroups keys index.groups → IsFirstFrom keys (c.args.hash % count) (c.loop-e.e + 1) c.next-e.result = λ keys are.
     next_of keys index.groups (c.args.hash % count) c.loop-e.e c.next-e.result are within (inv.group keys are) (λ k at. c.next-e.ensures keys k are at) in
     let P = IsSharedOf old task c.loop-e.zs in
     let Q = IsSharedOf new task c.make_one.new.zs in
-    let known = labels_sets (IsAtomSet old) is.0 index.labels is.1.labels is.1.known in
-    let before = entries_stay old new o index known P Q (shared_of_on old new o task c.loop-e.zs c.make_one.new.zs made.grown) c.args.hash c.loop-e.e inv.below in
+    let atom_sets = labels_sets (IsAtomSet old) is.0 index.labels is.1.labels is.1.atom_sets in
+    let before = entries_stay old new o index atom_sets P Q (shared_of_on old new o task c.loop-e.zs c.make_one.new.zs made.grown) c.args.hash c.loop-e.e inv.below in
     record {
-      kept = extends_on c.args.arena.now old new inv.kept o;
+      extends = extends_on c.args.arena.now old new inv.extends o;
       memo = made.memo;
       task = task_stays old new o task inv.task;
       made = made.made;
@@ -66,8 +66,8 @@ loop-e-preserved c =
       below = entries_past new index groups.keys count groups.are Q c.args.hash (c.loop-e.e + 1) c.next-e.result (next groups.keys groups.groups) (entries_more new index Q Q (λ n j y h. h) c.args.hash c.loop-e.e made.done before);
     }
 
-pub returns-in_err-make_one-clause-kept : goal.returns-in_err-make_one-clause-kept
-returns-in_err-make_one-clause-kept c = extends_on c.args.arena.now c.loop-e.arena c.make_one.new.arena c.loop-e.invariant.kept c.make_one.ensures.kept
+pub returns-in_err-make_one-clause-extends : goal.returns-in_err-make_one-clause-extends
+returns-in_err-make_one-clause-extends c = extends_on c.args.arena.now c.loop-e.arena c.make_one.new.arena c.loop-e.invariant.extends c.make_one.ensures.extends
 
 pub returns-clause-done : goal.returns-clause-done
 returns-clause-done c =

@@ -10,7 +10,7 @@ use Rattle.fill_meet.proofs.makes.make_alike.Given as goal
 abbrev pub invariant-loop-e : goal.invariant-loop-e
 invariant-loop-e l =
     record {
-      kept : Extends l.initial.arena l.arena;
+      extends : Extends l.initial.arena l.arena;
       memo : IsRight l.arena l.memo;
       task : IsTask l.arena l.task;
       made : IsMadeTo l.arena l.task l.task.place l.zs;

@@ -7,7 +7,7 @@ use Rattle.fill_meet.proofs.makes.make_guided.Given as goal
 abbrev pub invariant-loop-place : goal.invariant-loop-place
 invariant-loop-place l =
     record {
-      kept : Extends l.initial.arena l.arena;
+      extends : Extends l.initial.arena l.arena;
       memo : IsRight l.arena l.memo;
       guide : IsGuide l.arena l.guide;
       paired : ArePaired l.arena l.s l.t l.place 0 l.zs;

@@ -15,7 +15,7 @@ loop-k-init c =
     let numbers = c.args.task.now.guide.now.mates.lists.numbers.items in
     let P = IsSharedOf c.args.arena.now c.args.task.now c.args.zs.now in
     record {
-      kept = extends_same c.args.arena.now;
+      extends = extends_same c.args.arena.now;
       memo = c.requires.memo;
       task = c.requires.task;
       made = c.requires.made;
@@ -33,7 +33,7 @@ loop-k-preserved c =
     let old = c.loop-k.arena in
     let new = c.make_ends.new.arena in
     let made = c.in_ok-make_ends.ensures in
-    let o = c.make_ends.ensures.kept in
+    let o = c.make_ends.ensures.extends in
     let within = c.requires.begins in
     let test = c.loop-k-test.true in
     let slice = c.as_slice-numbers.result.now in
@@ -44,10 +44,10 @@ loop-k-preserved c =
     let P = IsSharedOf old task c.loop-k.zs in
     let Q = IsSharedOf new task c.make_ends.new.zs in
     let on = shared_of_on old new o task c.loop-k.zs c.make_ends.new.zs made.grown in
-    let known = labels_sets (IsAtomSet old) is.0 index.labels is.1.labels is.1.known in
-    let before = pieces_stay old new o index known P Q on numbers (record { start = c.args.begins.start; end = c.loop-k.k }) c.args.ends inv.done in
+    let atom_sets = labels_sets (IsAtomSet old) is.0 index.labels is.1.labels is.1.atom_sets in
+    let before = pieces_stay old new o index atom_sets P Q on numbers (record { start = c.args.begins.start; end = c.loop-k.k }) c.args.ends inv.done in
     record {
-      kept = extends_on c.args.arena.now old new inv.kept o;
+      extends = extends_on c.args.arena.now old new inv.extends o;
       memo = made.memo;
       task = task_stays old new o task inv.task;
       made = made.made;

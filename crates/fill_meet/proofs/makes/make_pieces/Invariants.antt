@@ -8,7 +8,7 @@ use Rattle.fill_meet.proofs.makes.make_pieces.Given as goal
 abbrev pub invariant-loop-k : goal.invariant-loop-k
 invariant-loop-k l =
     record {
-      kept : Extends l.initial.arena l.arena;
+      extends : Extends l.initial.arena l.arena;
       memo : IsRight l.arena l.memo;
       task : IsTask l.arena l.task;
       made : IsMadeTo l.arena l.task l.task.place l.zs;

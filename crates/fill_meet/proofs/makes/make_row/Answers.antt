@@ -18,8 +18,8 @@ returns-in-Const-clause-made c =
     let new = c.make_alike.new.arena in
     let zs = c.make_alike.new.zs in
     let u = c.in-Const.text in
-    let later = task_stays c.args.arena.now new c.make_alike.ensures.kept task c.requires.task in
-    let hx = item_stays c.args.arena.now new c.make_alike.ensures.kept task.first task.place (Const u) (subst (IsItem c.args.arena.now task.first task.place) c.in-Const.is c.item_at.ensures.at) in
+    let later = task_stays c.args.arena.now new c.make_alike.ensures.extends task c.requires.task in
+    let hx = item_stays c.args.arena.now new c.make_alike.ensures.extends task.first task.place (Const u) (subst (IsItem c.args.arena.now task.first task.place) c.in-Const.is c.item_at.ensures.at) in
     let P = IsSharedOf new task zs in
     let hash = c.hash_constant-hash.ensures ∙ ap constant_hash c.len.ensures.value in
     done_both c.make_alike.result (IsMadeTo new task task.place zs) (AreAlikeDone new index P c.hash_constant-hash.result) (IsMadeTo new task (task.place + 1) zs)
@@ -32,14 +32,14 @@ returns-in-Whole-clause-made c =
     let new = c.make_alike-in-Whole.new.arena in
     let zs = c.make_alike-in-Whole.new.zs in
     let b = c.in-Whole.field-0 in
-    let later = task_stays c.args.arena.now new c.make_alike-in-Whole.ensures.kept task c.requires.task in
-    let hx = item_stays c.args.arena.now new c.make_alike-in-Whole.ensures.kept task.first task.place (Whole b) (subst (IsItem c.args.arena.now task.first task.place) c.in-Whole.is c.item_at.ensures.at) in
+    let later = task_stays c.args.arena.now new c.make_alike-in-Whole.ensures.extends task c.requires.task in
+    let hx = item_stays c.args.arena.now new c.make_alike-in-Whole.ensures.extends task.first task.place (Whole b) (subst (IsItem c.args.arena.now task.first task.place) c.in-Whole.is c.item_at.ensures.at) in
     let P = IsSharedOf new task zs in
     done_both c.make_alike-in-Whole.result (IsMadeTo new task task.place zs) (AreAlikeDone new index P 0) (IsMadeTo new task (task.place + 1) zs)
     (λ made alike. made_next new task later zs (whole_done new index later.guide.index.1.items P b (out_shared new task (Whole b) zs hx) alike) made) c.make_alike-in-Whole.ensures.made c.make_alike-in-Whole.ensures.done
 
-pub returns-in-Some-told-clause-made : goal.returns-in-Some-told-clause-made
-returns-in-Some-told-clause-made c =
+pub returns-in-Some-run_of-clause-made : goal.returns-in-Some-run_of-clause-made
+returns-in-Some-run_of-clause-made c =
     let task = c.args.task.now in
     let index = c.args.task.now.guide.now.index in
     let mates = c.args.task.now.guide.now.mates in
@@ -49,12 +49,12 @@ returns-in-Some-told-clause-made c =
     let p = c.in-Sub.lefts in
     let q = c.in-Sub.rights in
     let begins = c.in-Some.begins in
-    let ends = c.in-Some-told.ends in
-    let later = task_stays c.args.arena.now new c.make_pieces.ensures.kept task c.requires.task in
-    let hx = item_stays c.args.arena.now new c.make_pieces.ensures.kept task.first task.place (Sub b p q) (subst (IsItem c.args.arena.now task.first task.place) c.in-Sub.is c.item_at.ensures.at) in
+    let ends = c.in-Some-run_of.ends in
+    let later = task_stays c.args.arena.now new c.make_pieces.ensures.extends task c.requires.task in
+    let hx = item_stays c.args.arena.now new c.make_pieces.ensures.extends task.first task.place (Sub b p q) (subst (IsItem c.args.arena.now task.first task.place) c.in-Sub.is c.item_at.ensures.at) in
     let P = IsSharedOf new task zs in
     let lefts = later.guide.mates c.in-Some.ensures.0 (record { set = p; run = begins }) c.in-Some.ensures.1 in
-    let rights = later.guide.mates c.in-Some-told.ensures.0 (record { set = q; run = ends }) c.in-Some-told.ensures.1 in
+    let rights = later.guide.mates c.in-Some-run_of.ensures.0 (record { set = q; run = ends }) c.in-Some-run_of.ensures.1 in
     done_both c.make_pieces.result (IsMadeTo new task task.place zs) (ArePiecesDone new index P mates.lists.numbers.items begins ends) (IsMadeTo new task (task.place + 1) zs)
     (λ made pieces. made_next new task later zs (sub_done new index later.guide.index.1.items P b p q mates.lists.numbers.items begins ends lefts rights (out_shared new task (Sub b p q) zs hx) pieces) made) c.make_pieces.ensures.made
     c.make_pieces.ensures.done
@@ -66,5 +66,5 @@ make_pieces-requires-clause-begins c =
 
 pub make_pieces-requires-clause-ends : goal.make_pieces-requires-clause-ends
 make_pieces-requires-clause-ends c =
-    let m : Mated = record { set = c.in-Sub.rights; run = c.in-Some-told.ends } in
-    (c.requires.task.guide.mates c.in-Some-told.ensures.0 m c.in-Some-told.ensures.1).within
+    let m : Mated = record { set = c.in-Sub.rights; run = c.in-Some-run_of.ends } in
+    (c.requires.task.guide.mates c.in-Some-run_of.ensures.0 m c.in-Some-run_of.ensures.1).within

@@ -32,5 +32,5 @@ returns-clause-met c =
     let xs = c.sorted_edges.result.now in
     let ys = c.sorted_edges-2.result.now in
     let product = subst (IsProduct c.pair_edges.new.arena h w xs ys) (sym c.as_slice.ensures) (c.in_ok-edges.ensures.product h w xs ys c.in-Some.ensures.1 c.in_ok-tied.ensures.ties) in
-    walked_result c.args.arena.now c.args.a c.args.b h w xs ys c.keeps_made.ensures (c.nodes-height.ensures, c.sorted_edges.ensures) (c.nodes-width.ensures, c.sorted_edges-2.ensures) c.pair_edges.new.arena c.pair_edges.ensures.kept c.as_slice.result.now product c.in-Some.nodes
+    walked_result c.args.arena.now c.args.a c.args.b h w xs ys c.keeps_made.ensures (c.nodes-height.ensures, c.sorted_edges.ensures) (c.nodes-width.ensures, c.sorted_edges-2.ensures) c.pair_edges.new.arena c.pair_edges.ensures.extends c.as_slice.result.now product c.in-Some.nodes
     c.in-Some.ensures.1 c.trim.result c.trim.ensures

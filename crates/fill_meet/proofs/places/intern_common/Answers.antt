@@ -16,5 +16,5 @@ returns-then-len-eq0-clause-met c =
 
 pub returns-clause-met : goal.returns-clause-met
 returns-clause-met c =
-    places_met c.args.arena.now c.intern_places.new.self c.intern_places.ensures.kept c.args.s c.args.t _ _ _ c.places.ensures c.places-2.ensures c.in_ok-both.ensures.both _
+    places_met c.args.arena.now c.intern_places.new.self c.intern_places.ensures.extends c.args.s c.args.t _ _ _ c.places.ensures c.places-2.ensures c.in_ok-both.ensures.both _
     (c.in_ok-intern_places.ensures.ok ∙ ap (λ l. Some (Places l)) c.as_slice.ensures) (λ e. c.if-len-eq0.false (c.len.ensures ∙ e))

@@ -10,4 +10,4 @@ pub returns-then-are_places_within-2-clause-met : goal.returns-then-are_places_w
 returns-then-are_places_within-2-clause-met c = places_mirror c.args.arena.now c.args.t c.args.s (Some c.args.t) (c.if-are_places_within-2.ensures.within refl)
 
 pub returns-clause-memo : goal.returns-clause-memo
-returns-clause-memo c = right_stays _ _ c.intern_common.ensures.kept _ c.are_places_within-2.ensures.memo
+returns-clause-memo c = right_stays _ _ c.intern_common.ensures.extends _ c.are_places_within-2.ensures.memo

@@ -10,7 +10,7 @@ use Rattle.fill_meet.proofs.product.join_ties.Goals as goal
 pub loop-i-init : goal.loop-i-init
 loop-i-init c =
     record {
-      kept = extends_same c.args.arena.now;
+      extends = extends_same c.args.arena.now;
       memo = c.in_ok-memo.ensures c.args.arena.now;
       guide = c.requires.guide;
       sets = c.requires.sets;
@@ -24,7 +24,7 @@ pub loop-i-preserved-then-not-live-tie : goal.loop-i-preserved-then-not-live-tie
 loop-i-preserved-then-not-live-tie c =
     let inv = c.loop-i.invariant in
     record {
-      kept = inv.kept;
+      extends = inv.extends;
       memo = inv.memo;
       guide = inv.guide;
       sets = inv.sets;
@@ -41,10 +41,10 @@ join-requires-clause-second c = (c.loop-i.invariant.sets c.loop-i.i c.index-ties
 pub loop-i-preserved : goal.loop-i-preserved
 loop-i-preserved c =
     let inv = c.loop-i.invariant in
-    let o = c.join.ensures.kept in
+    let o = c.join.ensures.extends in
     let done = c.in_ok-join.ensures in
     record {
-      kept = extends_on _ _ _ inv.kept o;
+      extends = extends_on _ _ _ inv.extends o;
       memo = done.memo;
       guide = guides_stay c.loop-i.arena c.join.new.arena o c.args.guide.now inv.guide;
       sets = sets_stay c.loop-i.arena c.join.new.arena o c.args.ties.now inv.sets;
@@ -52,8 +52,8 @@ loop-i-preserved c =
           (joined_stays c.loop-i.arena c.join.new.arena o c.args.live.now c.args.ties.now c.loop-i.i c.loop-i.edges inv.joined) c.index-ties-i.result (here _ _ _ c.loop-i-test.true c.index-ties-i.is) c.join.new.edges done.joined;
     }
 
-pub returns-in_err-join-clause-kept : goal.returns-in_err-join-clause-kept
-returns-in_err-join-clause-kept c = extends_on _ _ _ c.loop-i.invariant.kept c.join.ensures.kept
+pub returns-in_err-join-clause-extends : goal.returns-in_err-join-clause-extends
+returns-in_err-join-clause-extends c = extends_on _ _ _ c.loop-i.invariant.extends c.join.ensures.extends
 
 pub returns-clause-joined : goal.returns-clause-joined
 returns-clause-joined c = joined_end c.loop-i.arena c.args.live.now (length c.args.live.now) c.args.ties.now c.requires.ties c.loop-i.i c.loop-i.edges c.loop-i.invariant.joined c.loop-i-test.false

@@ -9,7 +9,7 @@ use Rattle.fill_meet.proofs.product.join_ties.Given as goal
 abbrev pub invariant-loop-i : goal.invariant-loop-i
 invariant-loop-i l =
     record {
-      kept : Extends l.initial.arena l.arena;
+      extends : Extends l.initial.arena l.arena;
       memo : IsRight l.arena l.memo;
       guide : IfSome l.guide (IsGuide l.arena);
       sets : NameSets l.arena l.ties;

@@ -21,7 +21,7 @@ returns-clause-product c = λ h w xs ys nodes are.
     let live = subst (λ n. AreLive n ties marks) nodes (subst (AreLive c.args.nodes ties) (sym c.as_slice.ensures.value) c.in_ok-live.ensures) in
     let some = both_some h w (subst (λ n. 0 < n) nodes c.requires.some) in
     ok_map c.join_ties.result (AreJoined c.join_ties.new.arena marks ties) (IsProduct c.join_ties.new.arena h w xs ys)
-    (λ edges j. joined_product c.args.arena.now c.join_ties.new.arena c.join_ties.ensures.kept h w xs ys ties found marks live edges j some.0 some.1) c.join_ties.ensures.joined
+    (λ edges j. joined_product c.args.arena.now c.join_ties.new.arena c.join_ties.ensures.extends h w xs ys ties found marks live edges j some.0 some.1) c.join_ties.ensures.joined
 
 pub returns-clause-edges : goal.returns-clause-edges
 returns-clause-edges c =

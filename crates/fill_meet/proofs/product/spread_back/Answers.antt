@@ -5,7 +5,7 @@ use Rattle.fill_meet.proofs.Streams.{ClosedFrom, close_spread, kept_spread}
 use Rattle.fill_meet.proofs.product.spread_back.Goals as goal
 
 pub loop-i-init : goal.loop-i-init
-loop-i-init c = record { within = omega arith; kept = λ m h. h; closed = λ k t le at. (let w = slice_get_within c.args.ties.now k t at in absurd (omega arith)) }
+loop-i-init c = record { within = omega arith; extends = λ m h. h; closed = λ k t le at. (let w = slice_get_within c.args.ties.now k t at in absurd (omega arith)) }
 
 pub bounds-ties-i : goal.bounds-ties-i
 bounds-ties-i c = let le = c.loop-i.invariant.within in let lt = c.loop-i-test.true in omega arith
@@ -41,9 +41,9 @@ loop-i-preserved c =
     let closed = subst (λ k. ClosedFrom k c.args.ties.now c.loop-i.marks) next c.loop-i.invariant.closed in
     record {
       within = omega arith;
-      kept = rw c.spread.ensures (λ m h. kept_spread c.loop-i.marks tie.to tie.from m from (c.loop-i.invariant.kept m h));
+      extends = rw c.spread.ensures (λ m h. kept_spread c.loop-i.marks tie.to tie.from m from (c.loop-i.invariant.extends m h));
       closed = rw c.spread.ensures (close_spread (length c.args.marks.now) c.args.ties.now c.requires c.loop-i.marks i tie at closed from to);
     }
 
 pub returns : goal.returns
-returns c = record { kept = c.loop-i.invariant.kept; closed = λ k t at. c.loop-i.invariant.closed k t (omega arith) at }
+returns c = record { extends = c.loop-i.invariant.extends; closed = λ k t at. c.loop-i.invariant.closed k t (omega arith) at }

@@ -7,7 +7,7 @@ abbrev pub invariant-loop-i : goal.invariant-loop-i
 invariant-loop-i l =
     record {
       within : l.i ≤ length l.ties;
-      kept : (m : ℕ) → IsMarked l.initial.marks m → IsMarked l.marks m;
+      extends : (m : ℕ) → IsMarked l.initial.marks m → IsMarked l.marks m;
       closed : (k : ℕ) (t : Tie) → l.i ≤ k → slice_get l.ties k ≡ Some t → IsMarked l.marks t.to → IsMarked l.marks t.from;
     }
 

@@ -11,11 +11,11 @@ loop-e-init c =
     let index = c.args.ask.index.now in
     let groups = c.requires.index.1.groups in
     let count = length index.groups.firsts.items in
-    let P = IsCovered c.args.arena.now c.args.found.now.rows.numbers.items c.args.ask.start c.args.ask.x.now in
+    let P = IsCovered c.args.arena.now c.args.findings.now.rows.numbers.items c.args.ask.start c.args.ask.x.now in
     record {
       start = c.requires.start;
-      tried = c.requires.tried;
-      grown = grows_same c.args.found.now.rows.numbers.items;
+      verdicts = c.requires.verdicts;
+      grown = grows_same c.args.findings.now.rows.numbers.items;
       group = λ keys are v at. (c.first_of-e.ensures keys are).here v at;
       below = entries_past c.args.arena.now index groups.keys count groups.are P c.args.hash 0 c.first_of-e.result (c.first_of-e.ensures groups.keys groups.groups) (entries_start c.args.arena.now index P c.args.hash);
     }
@@ -39,8 +39,8 @@ loop-e-preserved c =
     let x = c.args.ask.x.now in
     let groups = c.requires.index.1.groups in
     let count = length index.groups.firsts.items in
-    let old = c.loop-e.found.rows.numbers.items in
-    let new = c.put_entry.new.found.rows.numbers.items in
+    let old = c.loop-e.findings.rows.numbers.items in
+    let new = c.put_entry.new.findings.rows.numbers.items in
     let put = c.in_ok-put_entry.ensures in
     let test : c.loop-e.e < length index.items.items = (let at = c.loop-e-test.true in let len = c.len.ensures in omega arith) in
     let within : c.loop-e.e < length index.groups.nexts.items = subst (λ n. c.loop-e.e < n) (sym (nexts_long (λ x. x.hash % count) index.items.items index.groups groups)) test in
@@ -50,8 +50,8 @@ loop-e-preserved c =
     let Q = IsCovered arena new start x in
     record {
       start = (let a = inv.start in let b = put.grown.long in omega arith);
-      tried = put.tried;
-      grown = grows_on c.args.found.now.rows.numbers.items old new inv.grown put.grown;
+      verdicts = put.verdicts;
+      grown = grows_on c.args.findings.now.rows.numbers.items old new inv.grown put.grown;
       group = λ keys are v at. (next keys are).here v at;
       below = entries_past arena index groups.keys count groups.are Q c.args.hash (c.loop-e.e + 1) c.next-e.result (next groups.keys groups.groups)
           (entries_more arena index P Q (covered_on arena old new start x put.grown) c.args.hash c.loop-e.e put.done inv.below);
@@ -60,4 +60,4 @@ loop-e-preserved c =
 pub returns-clause-done : goal.returns-clause-done
 returns-clause-done c =
     let past : length c.args.ask.index.now.items.items ≤ c.loop-e.e = (let at = c.loop-e-test.false in let len = c.len.ensures in omega arith) in
-    entries_end c.args.arena.now c.args.ask.index.now (IsCovered c.args.arena.now c.loop-e.found.rows.numbers.items c.args.ask.start c.args.ask.x.now) c.args.hash c.loop-e.e past c.loop-e.invariant.below
+    entries_end c.args.arena.now c.args.ask.index.now (IsCovered c.args.arena.now c.loop-e.findings.rows.numbers.items c.args.ask.start c.args.ask.x.now) c.args.hash c.loop-e.e past c.loop-e.invariant.below

@@ -2,18 +2,18 @@ use Rattle.std.proofs.Common.{◌≡◌, ℕ, ◌-◌, ◌%◌, ◌≤◌, List,
 use Rattle.fill_meet.specs.Groups.{AreGroups}
 use Rattle.fill_meet.specs.Rows.{IsCovered}
 use Rattle.fill_meet.specs.Runs.{Grows}
-use Rattle.fill_meet.specs.Tried.{AreTried}
+use Rattle.fill_meet.specs.Verdicts.{AreVerdicts}
 use Rattle.fill_meet.proofs.RowLaws.{EntriesBelow}
 use Rattle.fill_meet.proofs.rows.put_alike.Given as goal
 
 abbrev pub invariant-loop-e : goal.invariant-loop-e
 invariant-loop-e l =
     record {
-      start : l.ask.start ≤ length l.found.rows.numbers.items;
-      tried : AreTried l.arena l.found.tried;
-      grown : Grows l.initial.found.rows.numbers.items l.found.rows.numbers.items;
+      start : l.ask.start ≤ length l.findings.rows.numbers.items;
+      verdicts : AreVerdicts l.arena l.findings.verdicts;
+      grown : Grows l.initial.findings.rows.numbers.items l.findings.rows.numbers.items;
       group : (keys : List ℕ) → AreGroups keys l.ask.index.now.groups → (v : ℕ) → slice_get keys l.e ≡ Some v → v ≡ l.hash % length l.ask.index.now.groups.firsts.items;
-      below : EntriesBelow l.arena l.ask.index.now (IsCovered l.arena l.found.rows.numbers.items l.ask.start l.ask.x.now) l.hash l.e;
+      below : EntriesBelow l.arena l.ask.index.now (IsCovered l.arena l.findings.rows.numbers.items l.ask.start l.ask.x.now) l.hash l.e;
     }
 
 abbrev pub decreases-loop-e : goal.decreases-loop-e

@@ -9,25 +9,25 @@ pub loop-k-init : goal.loop-k-init
 loop-k-init c =
     record {
       start = c.requires.start;
-      tried = c.requires.tried;
-      grown = grows_same c.args.found.now.rows.numbers.items;
-      done = ends_start c.args.arena.now c.args.ask.index.now (IsCovered c.args.arena.now c.args.found.now.rows.numbers.items c.args.ask.start c.args.ask.x.now) c.args.numbers.now c.args.left c.args.ends.start;
+      verdicts = c.requires.verdicts;
+      grown = grows_same c.args.findings.now.rows.numbers.items;
+      done = ends_start c.args.arena.now c.args.ask.index.now (IsCovered c.args.arena.now c.args.findings.now.rows.numbers.items c.args.ask.start c.args.ask.x.now) c.args.numbers.now c.args.left c.args.ends.start;
     }
 
 pub loop-k-preserved : goal.loop-k-preserved
 loop-k-preserved c =
     let inv = c.loop-k.invariant in
     let put = c.in_ok-put_alike.ensures in
-    let old = c.loop-k.found.rows.numbers.items in
-    let new = c.put_alike.new.found.rows.numbers.items in
+    let old = c.loop-k.findings.rows.numbers.items in
+    let new = c.put_alike.new.findings.rows.numbers.items in
     let within = c.requires.ends in
     let test = c.loop-k-test.true in
     let at = slice_get-get_or c.args.numbers.now c.loop-k.k 0 (omega arith) in
     let ask = c.args.ask in
     record {
       start = (let a = inv.start in let b = put.grown.long in omega arith);
-      tried = put.tried;
-      grown = grows_on c.args.found.now.rows.numbers.items old new inv.grown put.grown;
+      verdicts = put.verdicts;
+      grown = grows_on c.args.findings.now.rows.numbers.items old new inv.grown put.grown;
       done = ends_more c.args.arena.now ask.index.now (IsCovered c.args.arena.now old ask.start ask.x.now) (IsCovered c.args.arena.now new ask.start ask.x.now) (covered_on c.args.arena.now old new ask.start ask.x.now put.grown) c.args.numbers.now c.args.left c.args.ends.start c.loop-k.k
           (get_or c.args.numbers.now c.loop-k.k 0) at (subst (AreAlikeDone c.args.arena.now ask.index.now (IsCovered c.args.arena.now new ask.start ask.x.now)) c.hash_piece.ensures put.done) inv.done;
     }

@@ -14,7 +14,7 @@ pub returns-in-Const-clause-done : goal.returns-in-Const-clause-done
 returns-in-Const-clause-done c =
     let arena = c.args.arena.now in
     let index = c.args.index.now in
-    let numbers = c.put_alike.new.found.rows.numbers.items in
+    let numbers = c.put_alike.new.findings.rows.numbers.items in
     let x = c.args.x.now in
     let u = c.in-Const.text in
     let P = IsCovered arena numbers c.args.start x in
@@ -26,7 +26,7 @@ pub returns-in-Whole-clause-done : goal.returns-in-Whole-clause-done
 returns-in-Whole-clause-done c =
     let arena = c.args.arena.now in
     let index = c.args.index.now in
-    let numbers = c.put_alike-in-Whole.new.found.rows.numbers.items in
+    let numbers = c.put_alike-in-Whole.new.findings.rows.numbers.items in
     let x = c.args.x.now in
     let P = IsCovered arena numbers c.args.start x in
     done_map c.put_alike-in-Whole.result (AreAlikeDone arena index P 0) (AreDone arena index.labels.sets.items P)
@@ -37,7 +37,7 @@ returns-in_ok-ends-in-Sub-clause-done c =
     let arena = c.args.arena.now in
     let index = c.args.index.now in
     let sets = c.args.index.now.places.sets.items in
-    let numbers = c.put_pieces.new.found.rows.numbers.items in
+    let numbers = c.put_pieces.new.findings.rows.numbers.items in
     let old = c.find.new.self.lists.numbers.items in
     let new = c.find-in-Sub.new.self.lists.numbers.items in
     let mates = c.as_slice-numbers.result.now in

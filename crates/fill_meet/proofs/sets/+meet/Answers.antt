@@ -17,13 +17,13 @@ use Rattle.fill_meet.proofs.AtomPairs as atoms
 use Rattle.fill_meet.proofs.Parts.{parts_apart, parts_constants, parts_met, met_set, condition_met}
 use Rattle.fill_meet.proofs.Conditions.{rows_push}
 use Rattle.fill_meet.proofs.Selects as selects
-use Rattle.fill_meet.proofs.Selves.{number_same, atoms_self, sources_self, told}
+use Rattle.fill_meet.proofs.Selves.{number_same, atoms_self, sources_self, entry_right}
 use Rattle.fill_meet.proofs.sets.+meet.Goals as goal
 
 pub make_atoms-loop-i-init : goal.make_atoms-loop-i-init
 make_atoms-loop-i-init n c =
     record {
-      kept = extends_same c.args.arena.now;
+      extends = extends_same c.args.arena.now;
       memo = c.if-are_atoms_within.ensures.memo;
       paired = paired_start c.args.arena.now c.keeps_made.ensures c.args.s c.args.t c.requires.first.0 c.requires.second.0 _ c.requires.first.1 c.requires.second.1 c.in_ok-zs.ensures;
     }
@@ -33,7 +33,7 @@ make_atoms-meet_atom_row-requires n c =
     let inv = c.loop-i.invariant in
     let xs = c.atoms-i-end.result.now in
     let memo : IsRight c.loop-i.arena c.loop-i.memo = inv.memo in
-    (search rules, (memo, (has_item c.loop-i.arena c.args.s c.loop-i.i xs (inv.kept c.args.s (Atoms xs) c.atoms-i-end.ensures) c.loop-i-test.true, inv.paired)))
+    (search rules, (memo, (has_item c.loop-i.arena c.args.s c.loop-i.i xs (inv.extends c.args.s (Atoms xs) c.atoms-i-end.ensures) c.loop-i-test.true, inv.paired)))
 
 pub make_atoms-returns-then-are_atoms_within-clause-met : goal.make_atoms-returns-then-are_atoms_within-clause-met
 make_atoms-returns-then-are_atoms_within-clause-met n c = c.if-are_atoms_within.ensures.within refl
@@ -42,17 +42,17 @@ pub make_atoms-returns-then-len-eq0-clause-met : goal.make_atoms-returns-then-le
 make_atoms-returns-then-len-eq0-clause-met n c =
     let inv = c.loop-i.invariant in
     let xs = c.atoms-i-end.result.now in
-    paired_apart c.loop-i.arena c.args.s c.args.t c.loop-i.i xs _ (inv.kept c.args.s (Atoms xs) c.atoms-i-end.ensures) c.loop-i-test.false inv.paired (sym c.len.ensures ∙ c.if-len-eq0.true)
+    paired_apart c.loop-i.arena c.args.s c.args.t c.loop-i.i xs _ (inv.extends c.args.s (Atoms xs) c.atoms-i-end.ensures) c.loop-i-test.false inv.paired (sym c.len.ensures ∙ c.if-len-eq0.true)
 
 pub make_atoms-returns-clause-memo : goal.make_atoms-returns-clause-memo
-make_atoms-returns-clause-memo n c = right_stays _ _ c.in_ok-intern_atoms.ensures.kept _ c.loop-i.invariant.memo
+make_atoms-returns-clause-memo n c = right_stays _ _ c.in_ok-intern_atoms.ensures.extends _ c.loop-i.invariant.memo
 
 pub make_atoms-returns-clause-met : goal.make_atoms-returns-clause-met
 make_atoms-returns-clause-met n c =
     let inv = c.loop-i.invariant in
     let xs = c.atoms-i-end.result.now in
-    paired_met c.loop-i.arena c.args.s c.args.t c.loop-i.i xs _ (inv.kept c.args.s (Atoms xs) c.atoms-i-end.ensures) c.loop-i-test.false inv.paired c.intern_atoms.new.self _
-    c.in_ok-intern_atoms.ensures.kept c.in_ok-intern_atoms.ensures.ok (λ e. c.if-len-eq0.false (c.len.ensures ∙ e))
+    paired_met c.loop-i.arena c.args.s c.args.t c.loop-i.i xs _ (inv.extends c.args.s (Atoms xs) c.atoms-i-end.ensures) c.loop-i-test.false inv.paired c.intern_atoms.new.self _
+    c.in_ok-intern_atoms.ensures.extends c.in_ok-intern_atoms.ensures.ok (λ e. c.if-len-eq0.false (c.len.ensures ∙ e))
 
 pub make_sources-loop-i-init : goal.make_sources-loop-i-init
 make_sources-loop-i-init n c =
@@ -61,7 +61,7 @@ make_sources-loop-i-init n c =
     let fs = (c.keeps_made.ensures c.args.s (Sources c.as_slice-xs.result.now) hs).each in
     let ft = (c.keeps_made.ensures c.args.t (Sources c.as_slice-ys.result.now) ht).each in
     record {
-      kept = extends_same c.args.arena.now;
+      extends = extends_same c.args.arena.now;
       memo = c.requires.memo;
       pairs = state_start SourceIn NamesOlder source_item_stays c.args.arena.now c.args.s c.args.t _ _ _ c.new-zs.ensures (λ k x h. names_older c.args.arena.now c.args.s x (fs k x h))
           (λ k x h. names_older c.args.arena.now c.args.t x (ft k x h));
@@ -71,31 +71,31 @@ pub make_sources-returns-then-len-eq0-clause-met : goal.make_sources-returns-the
 make_sources-returns-then-len-eq0-clause-met n c =
     let hs = c.sources.ensures ∙ ap (λ l. Some (Sources l)) (sym (c.as_slice-xs.ensures ∙ c.in_ok-first.ensures)) in
     let ht = c.sources-2.ensures ∙ ap (λ l. Some (Sources l)) (sym (c.as_slice-ys.ensures ∙ c.in_ok-second.ensures)) in
-    sources_apart c.args.arena.now c.loop-i.arena c.loop-i.invariant.kept c.args.s c.args.s c.args.t c.loop-i.i _ _ _ hs ht c.loop-i-test.false c.loop-i.invariant.pairs (sym c.len.ensures ∙ c.if-len-eq0.true)
+    sources_apart c.args.arena.now c.loop-i.arena c.loop-i.invariant.extends c.args.s c.args.s c.args.t c.loop-i.i _ _ _ hs ht c.loop-i-test.false c.loop-i.invariant.pairs (sym c.len.ensures ∙ c.if-len-eq0.true)
 
 pub make_sources-intern_sources-requires : goal.make_sources-intern_sources-requires
 make_sources-intern_sources-requires n c =
     let hs = c.sources.ensures ∙ ap (λ l. Some (Sources l)) (sym (c.as_slice-xs.ensures ∙ c.in_ok-first.ensures)) in
     let ht = c.sources-2.ensures ∙ ap (λ l. Some (Sources l)) (sym (c.as_slice-ys.ensures ∙ c.in_ok-second.ensures)) in
-    are_sources c.args.arena.now c.loop-i.arena c.loop-i.invariant.kept c.args.s c.args.s c.args.t c.loop-i.i _ _ _ hs ht c.loop-i-test.false c.loop-i.invariant.pairs c.keeps_made-2.ensures
+    are_sources c.args.arena.now c.loop-i.arena c.loop-i.invariant.extends c.args.s c.args.s c.args.t c.loop-i.i _ _ _ hs ht c.loop-i-test.false c.loop-i.invariant.pairs c.keeps_made-2.ensures
     (λ e. c.if-len-eq0.false (c.len.ensures ∙ e))
 
 pub make_sources-returns-clause-memo : goal.make_sources-returns-clause-memo
-make_sources-returns-clause-memo n c = right_stays _ _ c.in_ok-intern_sources.ensures.kept _ c.loop-i.invariant.memo
+make_sources-returns-clause-memo n c = right_stays _ _ c.in_ok-intern_sources.ensures.extends _ c.loop-i.invariant.memo
 
 pub make_sources-returns-clause-met : goal.make_sources-returns-clause-met
 make_sources-returns-clause-met n c =
     let hs = c.sources.ensures ∙ ap (λ l. Some (Sources l)) (sym (c.as_slice-xs.ensures ∙ c.in_ok-first.ensures)) in
     let ht = c.sources-2.ensures ∙ ap (λ l. Some (Sources l)) (sym (c.as_slice-ys.ensures ∙ c.in_ok-second.ensures)) in
-    sources_met c.args.arena.now c.loop-i.arena c.loop-i.invariant.kept c.args.s c.args.s c.args.t c.loop-i.i _ _ _ hs ht c.loop-i-test.false c.loop-i.invariant.pairs c.intern_sources.new.self _
-    c.in_ok-intern_sources.ensures.kept c.in_ok-intern_sources.ensures.ok (λ e. c.if-len-eq0.false (c.len.ensures ∙ e))
+    sources_met c.args.arena.now c.loop-i.arena c.loop-i.invariant.extends c.args.s c.args.s c.args.t c.loop-i.i _ _ _ hs ht c.loop-i-test.false c.loop-i.invariant.pairs c.intern_sources.new.self _
+    c.in_ok-intern_sources.ensures.extends c.in_ok-intern_sources.ensures.ok (λ e. c.if-len-eq0.false (c.len.ensures ∙ e))
 
 pub meet_atom_items-returns-in_default-2-clause-met : goal.meet_atom_items-returns-in_default-2-clause-met
 meet_atom_items-returns-in_default-2-clause-met n c = (
   c.item_at.result.now,
   c.item_at-2.result.now,
-  item_stays c.args.arena.now _ c.meet_sources-in-Sub-Sub.ensures.kept c.args.s c.args.i _ c.item_at.ensures.at,
-  item_stays c.args.arena.now _ c.meet_sources-in-Sub-Sub.ensures.kept c.args.t c.args.j _ c.item_at-2.ensures.at,
+  item_stays c.args.arena.now _ c.meet_sources-in-Sub-Sub.ensures.extends c.args.s c.args.i _ c.item_at.ensures.at,
+  item_stays c.args.arena.now _ c.meet_sources-in-Sub-Sub.ensures.extends c.args.t c.args.j _ c.item_at-2.ensures.at,
   rw (c.in-Sub-Sub.is-0, c.in-Sub-Sub.is-1) (atoms.sub_apart_source _ _ _ _ _ _ _ (rw (is_none _ c.in_default-2.not-Some) at c.in_ok-sources-in-Sub-Sub.ensures.met)),
 )
 
@@ -103,8 +103,8 @@ pub meet_atom_items-returns-in_default-3-clause-met : goal.meet_atom_items-retur
 meet_atom_items-returns-in_default-3-clause-met n c = (
   c.item_at.result.now,
   c.item_at-2.result.now,
-  item_stays c.args.arena.now _ (extends_on _ _ _ c.meet_sources-in-Sub-Sub.ensures.kept c.meet_places.ensures.kept) c.args.s c.args.i _ c.item_at.ensures.at,
-  item_stays c.args.arena.now _ (extends_on _ _ _ c.meet_sources-in-Sub-Sub.ensures.kept c.meet_places.ensures.kept) c.args.t c.args.j _ c.item_at-2.ensures.at,
+  item_stays c.args.arena.now _ (extends_on _ _ _ c.meet_sources-in-Sub-Sub.ensures.extends c.meet_places.ensures.extends) c.args.s c.args.i _ c.item_at.ensures.at,
+  item_stays c.args.arena.now _ (extends_on _ _ _ c.meet_sources-in-Sub-Sub.ensures.extends c.meet_places.ensures.extends) c.args.t c.args.j _ c.item_at-2.ensures.at,
   rw (c.in-Sub-Sub.is-0, c.in-Sub-Sub.is-1) (atoms.sub_apart_left _ _ _ _ _ _ _ (rw (is_none _ c.in_default-3.not-Some) at c.in_ok-lefts-in-Sub-Sub.ensures.met)),
 )
 
@@ -112,8 +112,8 @@ pub meet_atom_items-returns-in_default-4-clause-met : goal.meet_atom_items-retur
 meet_atom_items-returns-in_default-4-clause-met n c = (
   c.item_at.result.now,
   c.item_at-2.result.now,
-  item_stays c.args.arena.now _ (extends_on _ _ _ (extends_on _ _ _ c.meet_sources-in-Sub-Sub.ensures.kept c.meet_places.ensures.kept) c.meet_places-in-Sub-Sub.ensures.kept) c.args.s c.args.i _ c.item_at.ensures.at,
-  item_stays c.args.arena.now _ (extends_on _ _ _ (extends_on _ _ _ c.meet_sources-in-Sub-Sub.ensures.kept c.meet_places.ensures.kept) c.meet_places-in-Sub-Sub.ensures.kept) c.args.t c.args.j _ c.item_at-2.ensures.at,
+  item_stays c.args.arena.now _ (extends_on _ _ _ (extends_on _ _ _ c.meet_sources-in-Sub-Sub.ensures.extends c.meet_places.ensures.extends) c.meet_places-in-Sub-Sub.ensures.extends) c.args.s c.args.i _ c.item_at.ensures.at,
+  item_stays c.args.arena.now _ (extends_on _ _ _ (extends_on _ _ _ c.meet_sources-in-Sub-Sub.ensures.extends c.meet_places.ensures.extends) c.meet_places-in-Sub-Sub.ensures.extends) c.args.t c.args.j _ c.item_at-2.ensures.at,
   rw (c.in-Sub-Sub.is-0, c.in-Sub-Sub.is-1) (atoms.sub_apart_right _ _ _ _ _ _ _ (rw (is_none _ c.in_default-4.not-Some) at c.in_ok-rights-in-Sub-Sub.ensures.met)),
 )
 
@@ -143,8 +143,8 @@ meet_atom_items-returns-in-Some-clause-met n c =
     let set = (met.some _ (extends_same _)).1 in (
       c.item_at.result.now,
       c.item_at-2.result.now,
-      item_stays c.args.arena.now _ c.meet_sources.ensures.kept c.args.s c.args.i _ c.item_at.ensures.at,
-      item_stays c.args.arena.now _ c.meet_sources.ensures.kept c.args.t c.args.j _ c.item_at-2.ensures.at,
+      item_stays c.args.arena.now _ c.meet_sources.ensures.extends c.args.s c.args.i _ c.item_at.ensures.at,
+      item_stays c.args.arena.now _ c.meet_sources.ensures.extends c.args.t c.args.j _ c.item_at-2.ensures.at,
       (sources_within _ _ (set.0, set.1), rw (c.in-Whole-Whole.is-0, c.in-Whole-Whole.is-1) (atoms.whole_met _ _ _ _ met)),
     )
 
@@ -152,15 +152,15 @@ pub meet_atom_items-returns-in-None-clause-met : goal.meet_atom_items-returns-in
 meet_atom_items-returns-in-None-clause-met n c = (
   c.item_at.result.now,
   c.item_at-2.result.now,
-  item_stays c.args.arena.now _ c.meet_sources.ensures.kept c.args.s c.args.i _ c.item_at.ensures.at,
-  item_stays c.args.arena.now _ c.meet_sources.ensures.kept c.args.t c.args.j _ c.item_at-2.ensures.at,
+  item_stays c.args.arena.now _ c.meet_sources.ensures.extends c.args.s c.args.i _ c.item_at.ensures.at,
+  item_stays c.args.arena.now _ c.meet_sources.ensures.extends c.args.t c.args.j _ c.item_at-2.ensures.at,
   rw (c.in-Whole-Whole.is-0, c.in-Whole-Whole.is-1) (atoms.whole_apart _ _ _ (rw c.in-None.is at c.in_ok-sources-in-Whole-Whole.ensures.met)),
 )
 
 pub meet_atom_items-returns-in-Some-4-clause-met : goal.meet_atom_items-returns-in-Some-4-clause-met
 meet_atom_items-returns-in-Some-4-clause-met n c =
-    let second = c.meet_places.ensures.kept in
-    let third = c.meet_places-in-Sub-Sub.ensures.kept in
+    let second = c.meet_places.ensures.extends in
+    let third = c.meet_places-in-Sub-Sub.ensures.extends in
     let sources = met_stay _ _ third _ _ _ _ (met_stay _ _ second _ _ _ _ (rw c.in-Some-2.is at c.in_ok-sources-in-Sub-Sub.ensures.met)) in
     let lefts = met_stay _ _ third _ _ _ _ (rw c.in-Some-3.is at c.in_ok-lefts-in-Sub-Sub.ensures.met) in
     let rights = rw c.in-Some-4.is at c.in_ok-rights-in-Sub-Sub.ensures.met in
@@ -169,8 +169,8 @@ meet_atom_items-returns-in-Some-4-clause-met n c =
     let s = (sources.some _ (extends_same _)).1 in (
       c.item_at.result.now,
       c.item_at-2.result.now,
-      item_stays c.args.arena.now _ (extends_on _ _ _ (extends_on _ _ _ c.meet_sources-in-Sub-Sub.ensures.kept second) third) c.args.s c.args.i _ c.item_at.ensures.at,
-      item_stays c.args.arena.now _ (extends_on _ _ _ (extends_on _ _ _ c.meet_sources-in-Sub-Sub.ensures.kept second) third) c.args.t c.args.j _ c.item_at-2.ensures.at,
+      item_stays c.args.arena.now _ (extends_on _ _ _ (extends_on _ _ _ c.meet_sources-in-Sub-Sub.ensures.extends second) third) c.args.s c.args.i _ c.item_at.ensures.at,
+      item_stays c.args.arena.now _ (extends_on _ _ _ (extends_on _ _ _ c.meet_sources-in-Sub-Sub.ensures.extends second) third) c.args.t c.args.j _ c.item_at-2.ensures.at,
       (
         (sources_within _ _ (s.0, s.1), places_within _ _ (l.0, l.1), places_within _ _ (r.0, r.1)),
         rw (c.in-Sub-Sub.is-0, c.in-Sub-Sub.is-1) (atoms.sub_met _ _ _ _ _ _ _ _ _ _ sources lefts rights),
@@ -196,24 +196,24 @@ meet_atom_row-meet_atom_items-requires n c =
     let ys = c.atoms-j-end.result.now in
     let memo : IsRight c.loop-j.arena c.loop-j.memo = inv.memo in
     let first = c.requires.within in
-    let second = has_item c.loop-j.arena c.args.t c.loop-j.j ys (inv.kept c.args.t (Atoms ys) c.atoms-j-end.ensures) c.loop-j-test.true in
-    (search rules, (memo, ((first.0, item_stays c.args.arena.now c.loop-j.arena inv.kept c.args.s c.args.i first.0 first.1), second)))
+    let second = has_item c.loop-j.arena c.args.t c.loop-j.j ys (inv.extends c.args.t (Atoms ys) c.atoms-j-end.ensures) c.loop-j-test.true in
+    (search rules, (memo, ((first.0, item_stays c.args.arena.now c.loop-j.arena inv.extends c.args.s c.args.i first.0 first.1), second)))
 
 pub meet_atom_row-loop-j-preserved : goal.meet_atom_row-loop-j-preserved
 meet_atom_row-loop-j-preserved n c =
     record {
-      kept = extends_on _ _ _ c.loop-j.invariant.kept c.meet_atom_items.ensures.kept;
+      extends = extends_on _ _ _ c.loop-j.invariant.extends c.meet_atom_items.ensures.extends;
       memo = c.in_ok-made.ensures.memo;
-      paired = paired_step _ _ c.meet_atom_items.ensures.kept _ _ _ _ _ _ _ c.in_ok-made.ensures.met c.in_ok-push_some.ensures c.loop-j.invariant.paired;
+      paired = paired_step _ _ c.meet_atom_items.ensures.extends _ _ _ _ _ _ _ c.in_ok-made.ensures.met c.in_ok-push_some.ensures c.loop-j.invariant.paired;
     }
 
 pub meet_atom_row-returns-clause-paired : goal.meet_atom_row-returns-clause-paired
 meet_atom_row-returns-clause-paired n c =
     let ys = c.atoms-j-end.result.now in
-    paired_row _ c.args.s c.args.t c.args.i c.loop-j.j ys _ (c.loop-j.invariant.kept c.args.t (Atoms ys) c.atoms-j-end.ensures) c.loop-j-test.false c.loop-j.invariant.paired
+    paired_row _ c.args.s c.args.t c.args.i c.loop-j.j ys _ (c.loop-j.invariant.extends c.args.t (Atoms ys) c.atoms-j-end.ensures) c.loop-j-test.false c.loop-j.invariant.paired
 
 pub meet_atoms-returns-in-Some-clause-met : goal.meet_atoms-returns-in-Some-clause-met
-meet_atoms-returns-in-Some-clause-met n c = told (AtomSetsMeet c.args.arena.now) _ c.args.s c.args.t _ c.requires.memo.atoms c.in-Some.ensures
+meet_atoms-returns-in-Some-clause-met n c = entry_right (AtomSetsMeet c.args.arena.now) _ c.args.s c.args.t _ c.requires.memo.atoms c.in-Some.ensures
 
 pub meet_atoms-returns-clause-memo : goal.meet_atoms-returns-clause-memo
 meet_atoms-returns-clause-memo n c = c.keep_atoms.ensures c.make_atoms.new.arena c.in_ok-made.ensures.memo c.in_ok-made.ensures.met
@@ -230,11 +230,11 @@ meet_conditions-meet_condition-requires n c =
 
 pub meet_conditions-loop-i-preserved : goal.meet_conditions-loop-i-preserved
 meet_conditions-loop-i-preserved n c =
-    let o = c.meet_condition.ensures.kept in
+    let o = c.meet_condition.ensures.extends in
     let hx = here _ _ _ c.loop-i-test.true c.index-xs-i.is in
     let hy = here _ _ _ (subst (λ m. c.loop-i.i < m) c.requires.long c.loop-i-test.true) c.index-ys-i.is in
     record {
-      kept = extends_on _ _ _ c.loop-i.invariant.kept o;
+      extends = extends_on _ _ _ c.loop-i.invariant.extends o;
       memo = c.in_ok-meet_condition.ensures.memo;
       first = conditions_stay _ _ o c.args.of c.args.of (omega arith) _ c.loop-i.invariant.first;
       second = conditions_stay _ _ o _ _ (extends_length _ _ o) _ c.loop-i.invariant.second;
@@ -290,7 +290,7 @@ meet_selects-returns-clause-met n c =
       selects.select_conditions _ c.args.x.now c.args.y.now c.in_ok-conditions.conditions e f r c.args.of (record {
         some = c.requires.first.some;
         few = c.requires.first.few;
-        older = conditions_stay _ _ c.meet_conditions.ensures.kept c.args.of c.args.of (omega arith) _ c.requires.first.older;
+        older = conditions_stay _ _ c.meet_conditions.ensures.extends c.args.of c.args.of (omega arith) _ c.requires.first.older;
       }),
       selects.select_met _ _ _ c.in_ok-conditions.conditions e f r made (c.if-not-have_same_numbers.ensures.0 refl) (refl, refl, refl) refl (subst (EachIn IsFilled) c.as_slice.ensures (c.if-not-are_filled.ensures.0 refl))
           (subst (SomeIn NamesAtoms) c.as_slice-2.ensures (c.if-not-some_names_atoms.ensures.0 refl)),
@@ -312,9 +312,9 @@ meet_source_items-returns-in_default-clause-met n c =
 pub meet_source_row-loop-j-preserved : goal.meet_source_row-loop-j-preserved
 meet_source_row-loop-j-preserved n c =
     record {
-      kept = extends_on _ _ _ c.loop-j.invariant.kept c.meet_source_items.ensures.kept;
+      extends = extends_on _ _ _ c.loop-j.invariant.extends c.meet_source_items.ensures.extends;
       memo = c.in_ok-made.ensures.memo;
-      pairs = state_step SourceIn NamesOlder source_item_stays _ _ _ _ _ _ _ _ _ _ _ _ c.meet_source_items.ensures.kept (here _ _ _ c.requires.within c.index-xs-i.is) (here _ _ _ c.loop-j-test.true c.index-ys-j.is)
+      pairs = state_step SourceIn NamesOlder source_item_stays _ _ _ _ _ _ _ _ _ _ _ _ c.meet_source_items.ensures.extends (here _ _ _ c.requires.within c.index-xs-i.is) (here _ _ _ c.loop-j-test.true c.index-ys-j.is)
           c.in_ok-made.ensures.met c.in_ok-push_some.ensures c.loop-j.invariant.pairs;
     }
 
@@ -322,7 +322,7 @@ pub meet_source_row-returns-clause-pairs : goal.meet_source_row-returns-clause-p
 meet_source_row-returns-clause-pairs n c = state_row SourceIn NamesOlder source_item_stays _ _ _ _ _ _ _ c.loop-j-test.false c.loop-j.invariant.pairs
 
 pub meet_sources-returns-in-Some-clause-met : goal.meet_sources-returns-in-Some-clause-met
-meet_sources-returns-in-Some-clause-met n c = told (SourceSetsMeet c.args.arena.now) _ c.args.s c.args.t _ c.requires.memo.sources c.in-Some.ensures
+meet_sources-returns-in-Some-clause-met n c = entry_right (SourceSetsMeet c.args.arena.now) _ c.args.s c.args.t _ c.requires.memo.sources c.in-Some.ensures
 
 pub meet_sources-returns-clause-memo : goal.meet_sources-returns-clause-memo
 meet_sources-returns-clause-memo n c = c.keep_sources.ensures c.make_sources.new.arena c.in_ok-made.ensures.memo c.in_ok-made.ensures.met

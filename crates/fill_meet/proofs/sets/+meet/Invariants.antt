@@ -45,7 +45,7 @@ decreases-meet_parts l = 8 * l.of
 abbrev pub invariant-make_atoms-loop-i : goal.invariant-make_atoms-loop-i
 invariant-make_atoms-loop-i l =
     record {
-      kept : Extends l.initial.arena l.arena;
+      extends : Extends l.initial.arena l.arena;
       memo : IsRight l.arena l.memo;
       paired : ArePaired l.arena l.s l.t l.i 0 l.zs;
     }
@@ -53,7 +53,7 @@ invariant-make_atoms-loop-i l =
 abbrev pub invariant-make_sources-loop-i : goal.invariant-make_sources-loop-i
 invariant-make_sources-loop-i l =
     record {
-      kept : Extends l.initial.arena l.arena;
+      extends : Extends l.initial.arena l.arena;
       memo : IsRight l.arena l.memo;
       pairs : PairsState SourceIn NamesOlder l.arena l.s l.xs l.ys l.i 0 l.zs;
     }
@@ -61,7 +61,7 @@ invariant-make_sources-loop-i l =
 abbrev pub invariant-meet_atom_row-loop-j : goal.invariant-meet_atom_row-loop-j
 invariant-meet_atom_row-loop-j l =
     record {
-      kept : Extends l.initial.arena l.arena;
+      extends : Extends l.initial.arena l.arena;
       memo : IsRight l.arena l.memo;
       paired : ArePaired l.arena l.s l.t l.i l.j l.zs;
     }
@@ -69,7 +69,7 @@ invariant-meet_atom_row-loop-j l =
 abbrev pub invariant-meet_source_row-loop-j : goal.invariant-meet_source_row-loop-j
 invariant-meet_source_row-loop-j l =
     record {
-      kept : Extends l.initial.arena l.arena;
+      extends : Extends l.initial.arena l.arena;
       memo : IsRight l.arena l.memo;
       pairs : PairsState SourceIn NamesOlder l.arena l.of l.xs l.ys l.i l.j l.zs;
     }
@@ -77,7 +77,7 @@ invariant-meet_source_row-loop-j l =
 abbrev pub invariant-meet_conditions-loop-i : goal.invariant-meet_conditions-loop-i
 invariant-meet_conditions-loop-i l =
     record {
-      kept : Extends l.initial.arena l.arena;
+      extends : Extends l.initial.arena l.arena;
       memo : IsRight l.arena l.memo;
       first : EachIn (IsConditionItem l.arena l.of) l.xs;
       second : EachIn (IsConditionItem l.arena (length l.arena)) l.ys;

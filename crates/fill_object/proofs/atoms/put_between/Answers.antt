@@ -7,7 +7,7 @@ use Rattle.fill_object.proofs.KindLaws.{atoms_laws}
 use Rattle.fill_object.proofs.atoms.put_between.Goals as goal
 
 pub loop-left-init : goal.loop-left-init
-loop-left-init c = scan_none (atoms_on c.args.on.now) (atoms_laws c.args.on.now) (λ x a. IsPieceTo (source_tree c.args.source.now) x.place c.args.rights.now a) c.args.lefts.now c.args.kept.now.items
+loop-left-init c = scan_none (atoms_on c.args.on.now) (atoms_laws c.args.on.now) (λ x a. IsPieceTo (source_tree c.args.source.now) x.place c.args.rights.now a) c.args.lefts.now c.args.rivals.now.items
 
 pub loop-left-preserved : goal.loop-left-preserved
 loop-left-preserved c =
@@ -15,9 +15,9 @@ loop-left-preserved c =
     let i = c.loop-left.left-index in
     let x = c.left-item.result in
     scan_more (atoms_on c.args.on.now) (atoms_laws c.args.on.now) (λ y a. IsPieceTo (source_tree c.args.source.now) y.place c.args.rights.now a) lefts i x (here lefts i x c.loop-left-test.true c.left-item.is)
-    c.args.kept.now.items c.loop-left.kept.items c.put_from.new.kept.items c.loop-left.invariant c.in_ok-put_from.ensures
+    c.args.rivals.now.items c.loop-left.rivals.items c.put_from.new.rivals.items c.loop-left.invariant c.in_ok-put_from.ensures
 
 pub returns : goal.returns
 returns c =
     scan_done (atoms_on c.args.on.now) (atoms_laws c.args.on.now) (λ x a. IsPieceTo (source_tree c.args.source.now) x.place c.args.rights.now a) c.args.lefts.now c.loop-left.left-index c.loop-left-test.false
-    c.args.kept.now.items c.loop-left.kept.items c.loop-left.invariant
+    c.args.rivals.now.items c.loop-left.rivals.items c.loop-left.invariant

@@ -7,4 +7,4 @@ use Rattle.fill_object.specs.Leasts.{Gains}
 use Rattle.fill_object.proofs.atoms.put_from.Given as goal
 
 abbrev pub invariant-loop-right : goal.invariant-loop-right
-invariant-loop-right l = Gains (atoms_on l.on) (λ a. SomeBelow l.right-index l.rights (λ r. a ≡ sub (source_tree l.source) l.left r.place)) l.initial.kept.items l.kept.items
+invariant-loop-right l = Gains (atoms_on l.on) (λ a. SomeBelow l.right-index l.rights (λ r. a ≡ sub (source_tree l.source) l.left r.place)) l.initial.rivals.items l.rivals.items

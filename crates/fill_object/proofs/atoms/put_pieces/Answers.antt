@@ -13,7 +13,7 @@ use Rattle.fill_object.proofs.atoms.put_pieces.Goals as goal
 pub loop-source-init : goal.loop-source-init
 loop-source-init c = record {
   memo = c.requires.memo;
-  gains = scan_none (atoms_on c.args.on.now) (atoms_laws c.args.on.now) (λ x a. IsPieceOf c.args.on.now.arena.now (source_tree x.source) c.args.lefts c.args.rights a) c.args.sources.now c.args.kept.now.items;
+  gains = scan_none (atoms_on c.args.on.now) (atoms_laws c.args.on.now) (λ x a. IsPieceOf c.args.on.now.arena.now (source_tree x.source) c.args.lefts c.args.rights a) c.args.sources.now c.args.rivals.now.items;
 }
 
 pub put_pieces_of-requires-clause-source : goal.put_pieces_of-requires-clause-source
@@ -32,7 +32,7 @@ loop-source-preserved c =
     record {
       memo = c.in_ok-put_pieces_of.ensures.memo;
       gains = scan_more (atoms_on on) (atoms_laws on) (λ y a. IsPieceOf on.arena.now (source_tree y.source) c.args.lefts c.args.rights a) sources i x
-          (here sources i x c.loop-source-test.true c.source-item.is) c.args.kept.now.items c.loop-source.kept.items c.put_pieces_of.new.kept.items
+          (here sources i x c.loop-source-test.true c.source-item.is) c.args.rivals.now.items c.loop-source.rivals.items c.put_pieces_of.new.rivals.items
           c.loop-source.invariant.gains c.in_ok-put_pieces_of.ensures.gains;
     }
 
@@ -42,7 +42,7 @@ returns-clause-gains c s are =
     let sources = c.args.sources.now in
     let l = c.args.lefts in
     let r = c.args.rights in
-    let old = c.args.kept.now.items in
-    let new = c.loop-source.kept.items in
+    let old = c.args.rivals.now.items in
+    let new = c.loop-source.rivals.items in
     gains_through (atoms_on on) (atoms_laws on) (λ a. SomeIn (λ x. IsPieceOf on.arena.now (source_tree x.source) l r a) sources) (PartFits on.arena.now (Sub s l r)) (piece_fits on s sources are l r) (fits_piece on s sources are l r)
     old new (scan_done (atoms_on on) (atoms_laws on) (λ x a. IsPieceOf on.arena.now (source_tree x.source) l r a) sources c.loop-source.source-index c.loop-source-test.false old new c.loop-source.invariant.gains)

@@ -9,5 +9,5 @@ use Rattle.fill_object.proofs.atoms.put_pieces.Given as goal
 abbrev pub invariant-loop-source : goal.invariant-loop-source
 invariant-loop-source l = record {
   memo : IsMemoOf l.on l.memo;
-  gains : Gains (atoms_on l.on) (λ a. SomeBelow l.source-index l.sources (λ x. IsPieceOf l.on.arena.now (source_tree x.source) l.lefts l.rights a)) l.initial.kept.items l.kept.items;
+  gains : Gains (atoms_on l.on) (λ a. SomeBelow l.source-index l.sources (λ x. IsPieceOf l.on.arena.now (source_tree x.source) l.lefts l.rights a)) l.initial.rivals.items l.rivals.items;
 }

@@ -34,7 +34,7 @@ returns-clause-gains c =
     let to = spots_slice on.prices.now on.arena.now r t (text_or_empty o) c.in_ok-to.to.value c.deref-2.result.now rights c.text_or-text.ensures c.deref-2.ensures c.as_slice-2.ensures.value c.in_ok-to.ensures.least in
     ok_on _ _ c.put_between.result c.put_between.ensures
     (λ u h. gains_through (atoms_on on) (atoms_laws on) (IsPieceBetweenSpots x lefts rights) (IsPieceOf on.arena.now x l r) (between_of on x o c.requires.source l r lefts rights from to)
-    (of_between on x o c.requires.source l r lefts rights from to) c.args.kept.now.items c.put_between.new.kept.items h)
+    (of_between on x o c.requires.source l r lefts rights from to) c.args.rivals.now.items c.put_between.new.rivals.items h)
 
 pub returns-clause-memo : goal.returns-clause-memo
 returns-clause-memo c =

@@ -7,4 +7,4 @@ use Rattle.fill_object.specs.Leasts.{Gains}
 use Rattle.fill_object.proofs.atoms.put_wholes.Given as goal
 
 abbrev pub invariant-loop-source : goal.invariant-loop-source
-invariant-loop-source l = Gains (atoms_on l.on) (λ a. SomeBelow l.source-index l.sources (λ x. a ≡ whole (source_tree x.source))) l.initial.kept.items l.kept.items
+invariant-loop-source l = Gains (atoms_on l.on) (λ a. SomeBelow l.source-index l.sources (λ x. a ≡ whole (source_tree x.source))) l.initial.rivals.items l.rivals.items

@@ -11,10 +11,10 @@ returns-in-Some-clause-least c =
 
 pub returns-clause-least : goal.returns-clause-least
 returns-clause-least c =
-    subst (λ (v : Vec ValuedAtom Global). AreLeasts (atoms_on c.args.on.now) (AtomStands c.args.on.now.arena.now c.args.s) v.items) (sym c.in_ok-found.ensures.ok) c.in_ok-scan_atoms.ensures.least
+    subst (λ (v : Vec ValuedAtom Global). AreLeasts (atoms_on c.args.on.now) (AtomStands c.args.on.now.arena.now c.args.s) v.items) (sym c.in_ok-leasts.ensures.ok) c.in_ok-scan_atoms.ensures.least
 
 pub returns-clause-memo : goal.returns-clause-memo
 returns-clause-memo c =
     c.in_ok-keep_atoms.ensures c.args.on.now c.in_ok-scan_atoms.ensures.memo
     (subst (λ (v : Vec ValuedAtom Global). AreLeasts (atoms_on c.args.on.now) (AtomStands c.args.on.now.arena.now c.args.s) v.items)
-    (sym (c.in_ok-clone-2.ensures.cases ∙ c.in_ok-found.ensures.ok)) c.in_ok-scan_atoms.ensures.least)
+    (sym (c.in_ok-clone-2.ensures.cases ∙ c.in_ok-leasts.ensures.ok)) c.in_ok-scan_atoms.ensures.least)

@@ -19,8 +19,8 @@ returns-in_ok-copy-in-Const c =
     let t = c.in-Const.text in
     let copied = c.in_ok-copy-in-Const.field-0 in
     let tree : atom_tree (Const c.in_ok-copy-in-Const.field-0) ≡ constant c.in-Const.text = constant_tree copied ∙ ap constant c.in_ok-copy-in-Const.ensures in
-    let old = c.args.kept.now.items in
-    let new = c.put_atom.new.kept.items in
+    let old = c.args.rivals.now.items in
+    let new = c.put_atom.new.rivals.items in
     ok_on _ _ c.put_atom.result c.put_atom.ensures
     (λ u h. subst (λ it. Gains (atoms_on on) (ConstantFits on.arena.now it) old new) (sym c.in-Const.is)
     (gains_same (atoms_on on) (atoms_laws on) (λ a. a ≡ atom_tree (Const copied)) (ConstantFits on.arena.now (item.Const t)) (λ a e. constant_fits_it on.arena.now t a (e ∙ tree))
@@ -29,4 +29,4 @@ returns-in_ok-copy-in-Const c =
 pub returns-in_default : goal.returns-in_default
 returns-in_default c =
     gains_none (atoms_on c.args.on.now) (atoms_laws c.args.on.now) (ConstantFits c.args.on.now.arena.now c.args.item.now)
-    (no_constant_else c.args.on.now.arena.now c.args.item.now c.in_default.not-Const) c.args.kept.now.items
+    (no_constant_else c.args.on.now.arena.now c.args.item.now c.in_default.not-Const) c.args.rivals.now.items

@@ -12,5 +12,5 @@ returns-clause-least c =
     let s = c.args.s in
     let items = c.atoms.result.now in
     leasts_then (atoms_on on) (atoms_laws on) (PartStands on.arena.now s) (λ a. SomeIn (λ i. ConstantFits on.arena.now i a) items) (AtomStands on.arena.now s)
-    (part_or_constant on.arena.now s items c.atoms.ensures) (λ a h. h.1) (constant_stands on.arena.now s items c.atoms.ensures) c.in_ok-kept.kept.items c.put_constants.new.kept.items
-    c.in_ok-kept.ensures.least c.in_ok-put_constants.ensures
+    (part_or_constant on.arena.now s items c.atoms.ensures) (λ a h. h.1) (constant_stands on.arena.now s items c.atoms.ensures) c.in_ok-rivals.rivals.items c.put_constants.new.rivals.items
+    c.in_ok-rivals.ensures.least c.in_ok-put_constants.ensures

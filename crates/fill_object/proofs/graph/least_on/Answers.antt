@@ -34,4 +34,4 @@ returns c =
     let nodes = c.nodes.result in
     let is = the_graph on.arena.now c.args.g nodes edges c.nodes.ensures c.edges-edges.ensures in
     ok_on _ _ c.least_of.result c.least_of.ensures
-    (λ o h. of_programs on c.args.g nodes edges (option_copied c.args.said) c.characters.result.now c.first_wanted.result is c.first_wanted.ensures c.characters.ensures c.args.limit o h)
+    (λ o h. of_programs on c.args.g nodes edges (option_copied c.args.answer) c.characters.result.now c.first_wanted.result is c.first_wanted.ensures c.characters.ensures c.args.limit o h)

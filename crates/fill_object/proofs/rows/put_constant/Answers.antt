@@ -15,7 +15,7 @@ returns-in_ok-copy-in-Some c =
     let copied = c.in_ok-copy-in-Some.field-0 in
     ok_on _ _ c.put_before.result c.put_before.ensures
     (λ u h on. fixed_front on c.args.constant.now c.in-Some.text (atom_tree (Const copied)) c.in-Some.is (constant_tree copied ∙ ap constant c.in_ok-copy-in-Some.ensures) c.args.rests.now
-    c.args.made.now.items c.put_before.new.made.items (h on))
+    c.args.fronts.now.items c.put_before.new.fronts.items (h on))
 
 pub returns-in-None : goal.returns-in-None
-returns-in-None c on = gains_none (rows_on on) (row_laws on) (IsFixed c.args.constant.now c.args.rests.now) (λ y h. let is = c.in-None.is in let other = h.1 in cc) c.args.made.now.items
+returns-in-None c on = gains_none (rows_on on) (row_laws on) (IsFixed c.args.constant.now c.args.rests.now) (λ y h. let is = c.in-None.is in let other = h.1 in cc) c.args.fronts.now.items

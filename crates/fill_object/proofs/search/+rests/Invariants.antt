@@ -23,16 +23,16 @@ abbrev pub decreases-with_atom : goal.decreases-with_atom
 decreases-with_atom l = 5 * (l.search.now.last - l.to) + 5
 
 abbrev pub invariant-least_rest-loop-within : goal.invariant-least_rest-loop-within
-invariant-least_rest-loop-within l = AreFound l.search l.found
+invariant-least_rest-loop-within l = AreFound l.search l.findings
 
 abbrev pub decreases-least_rest-loop-within : goal.decreases-least_rest-loop-within
 decreases-least_rest-loop-within l = 2 ^ 64 - l.within
 
 abbrev pub invariant-along_edges-loop-left : goal.invariant-along_edges-loop-left
 invariant-along_edges-loop-left l = record {
-  memo : AreFound l.search l.found;
+  memo : AreFound l.search l.findings;
   within : l.left ≤ length l.search.edges.now;
-  least : IsLeastWithin l.search.on.prices.now l.limit (Past l.search l.node l.limit (RestAgrees l.search.on l.search.said.now l.wanted) l.left) (RestAgrees l.search.on l.search.said.now l.wanted) l.best;
+  least : IsLeastWithin l.search.on.prices.now l.limit (Past l.search l.node l.limit (RestAgrees l.search.on l.search.answer.now l.wanted) l.left) (RestAgrees l.search.on l.search.answer.now l.wanted) l.best;
 }
 
 abbrev pub decreases-along_edges-loop-left : goal.decreases-along_edges-loop-left
@@ -40,6 +40,6 @@ decreases-along_edges-loop-left l = l.left
 
 abbrev pub invariant-along_edge-loop-atom : goal.invariant-along_edge-loop-atom
 invariant-along_edge-loop-atom l = record {
-  memo : AreFound l.search l.found;
-  least : IsLeastWithin l.search.on.prices.now l.limit (λ p. SomeBelow l.atom-index l.atom-items (λ x. IsThen (λ a. a ≡ atom_tree x.atom) (RestStands l.search l.edge.to) p)) (RestAgrees l.search.on l.search.said.now l.wanted) l.best;
+  memo : AreFound l.search l.findings;
+  least : IsLeastWithin l.search.on.prices.now l.limit (λ p. SomeBelow l.atom-index l.atom-items (λ x. IsThen (λ a. a ≡ atom_tree x.atom) (RestStands l.search l.edge.to) p)) (RestAgrees l.search.on l.search.answer.now l.wanted) l.best;
 }

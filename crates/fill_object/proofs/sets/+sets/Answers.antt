@@ -23,28 +23,28 @@ use Rattle.fill_object.proofs.sets.+sets.Goals as goal
 
 pub sources_of-returns-clause-least : goal.sources_of-returns-clause-least
 sources_of-returns-clause-least t c =
-    subst (λ (v : Vec ValuedSource Global). AreLeasts (sources_on c.args.on.now) (SourceStands c.args.on.now.arena.now c.args.s) v.items) (sym c.in_ok-found.ensures.ok) c.in_ok-scan_sources.ensures.least
+    subst (λ (v : Vec ValuedSource Global). AreLeasts (sources_on c.args.on.now) (SourceStands c.args.on.now.arena.now c.args.s) v.items) (sym c.in_ok-leasts.ensures.ok) c.in_ok-scan_sources.ensures.least
 
 pub sources_of-returns-clause-memo : goal.sources_of-returns-clause-memo
 sources_of-returns-clause-memo t c =
     c.in_ok-keep_sources.ensures c.args.on.now c.in_ok-scan_sources.ensures.memo
     (subst (λ (v : Vec ValuedSource Global). AreLeasts (sources_on c.args.on.now) (SourceStands c.args.on.now.arena.now c.args.s) v.items)
-    (sym (c.in_ok-clone-2.ensures.cases ∙ c.in_ok-found.ensures.ok)) c.in_ok-scan_sources.ensures.least)
+    (sym (c.in_ok-clone-2.ensures.cases ∙ c.in_ok-leasts.ensures.ok)) c.in_ok-scan_sources.ensures.least)
 
 pub parts_of-returns-clause-least : goal.parts_of-returns-clause-least
 parts_of-returns-clause-least t c =
-    subst (λ (v : Vec ValuedAtom Global). AreLeasts (atoms_on c.args.on.now) (PartStands c.args.on.now.arena.now c.args.s) v.items) (sym c.in_ok-found.ensures.ok) c.in_ok-scan_parts.ensures.least
+    subst (λ (v : Vec ValuedAtom Global). AreLeasts (atoms_on c.args.on.now) (PartStands c.args.on.now.arena.now c.args.s) v.items) (sym c.in_ok-leasts.ensures.ok) c.in_ok-scan_parts.ensures.least
 
 pub parts_of-returns-clause-memo : goal.parts_of-returns-clause-memo
 parts_of-returns-clause-memo t c =
     c.in_ok-keep_parts.ensures c.args.on.now c.in_ok-scan_parts.ensures.memo
     (subst (λ (v : Vec ValuedAtom Global). AreLeasts (atoms_on c.args.on.now) (PartStands c.args.on.now.arena.now c.args.s) v.items)
-    (sym (c.in_ok-clone-2.ensures.cases ∙ c.in_ok-found.ensures.ok)) c.in_ok-scan_parts.ensures.least)
+    (sym (c.in_ok-clone-2.ensures.cases ∙ c.in_ok-leasts.ensures.ok)) c.in_ok-scan_parts.ensures.least)
 
 pub scan_sources-loop-item-init : goal.scan_sources-loop-item-init
 scan_sources-loop-item-init t c = record {
   memo = c.requires.memo;
-  gains = scan_none (sources_on c.args.on.now) (sources_laws c.args.on.now) (λ y x. SourceFits x c.args.on.now.arena.now y) c.sources-items.result.now c.new-kept.result.items;
+  gains = scan_none (sources_on c.args.on.now) (sources_laws c.args.on.now) (λ y x. SourceFits x c.args.on.now.arena.now y) c.sources-items.result.now c.new-rivals.result.items;
 }
 
 pub scan_sources-put_source-requires : goal.scan_sources-put_source-requires
@@ -63,24 +63,24 @@ scan_sources-loop-item-preserved t c =
     let x = c.item-item.result in
     record {
       memo = c.in_ok-put_source.ensures.memo;
-      gains = scan_more (sources_on on) (sources_laws on) (λ y s. SourceFits s on.arena.now y) items i x (here items i x c.loop-item-test.true c.item-item.is) c.new-kept.result.items c.loop-item.kept.items
-          c.put_source.new.kept.items c.loop-item.invariant.gains c.in_ok-put_source.ensures.gains;
+      gains = scan_more (sources_on on) (sources_laws on) (λ y s. SourceFits s on.arena.now y) items i x (here items i x c.loop-item-test.true c.item-item.is) c.new-rivals.result.items c.loop-item.rivals.items
+          c.put_source.new.rivals.items c.loop-item.invariant.gains c.in_ok-put_source.ensures.gains;
     }
 
 pub scan_sources-returns-clause-least : goal.scan_sources-returns-clause-least
 scan_sources-returns-clause-least t c =
     let on = c.args.on.now in
     let items = c.sources-items.result.now in
-    let old = c.new-kept.result.items in
-    let new = c.loop-item.kept.items in
-    leasts_from (sources_on on) (sources_laws on) (SourceStands on.arena.now c.args.s) old new c.new-kept.ensures.items
+    let old = c.new-rivals.result.items in
+    let new = c.loop-item.rivals.items in
+    leasts_from (sources_on on) (sources_laws on) (SourceStands on.arena.now c.args.s) old new c.new-rivals.ensures.items
     (gains_same (sources_on on) (sources_laws on) _ (SourceStands on.arena.now c.args.s) (items_source on.arena.now c.args.s items c.sources-items.ensures) (source_items on.arena.now c.args.s items c.sources-items.ensures) old new
     (scan_done (sources_on on) (sources_laws on) (λ y s. SourceFits s on.arena.now y) items c.loop-item.item-index c.loop-item-test.false old new c.loop-item.invariant.gains))
 
 pub scan_parts-loop-item-init : goal.scan_parts-loop-item-init
 scan_parts-loop-item-init t c = record {
   memo = c.requires.memo;
-  gains = scan_none (atoms_on c.args.on.now) (atoms_laws c.args.on.now) (λ y a. PartFits c.args.on.now.arena.now y a) c.atoms-items.result.now c.new-kept.result.items;
+  gains = scan_none (atoms_on c.args.on.now) (atoms_laws c.args.on.now) (λ y a. PartFits c.args.on.now.arena.now y a) c.atoms-items.result.now c.new-rivals.result.items;
 }
 
 pub scan_parts-put_part-requires : goal.scan_parts-put_part-requires
@@ -99,28 +99,28 @@ scan_parts-loop-item-preserved t c =
     let x = c.item-item.result in
     record {
       memo = c.in_ok-put_part.ensures.memo;
-      gains = scan_more (atoms_on on) (atoms_laws on) (λ y a. PartFits on.arena.now y a) items i x (here items i x c.loop-item-test.true c.item-item.is) c.new-kept.result.items c.loop-item.kept.items
-          c.put_part.new.kept.items c.loop-item.invariant.gains c.in_ok-put_part.ensures.gains;
+      gains = scan_more (atoms_on on) (atoms_laws on) (λ y a. PartFits on.arena.now y a) items i x (here items i x c.loop-item-test.true c.item-item.is) c.new-rivals.result.items c.loop-item.rivals.items
+          c.put_part.new.rivals.items c.loop-item.invariant.gains c.in_ok-put_part.ensures.gains;
     }
 
 pub scan_parts-returns-clause-least : goal.scan_parts-returns-clause-least
 scan_parts-returns-clause-least t c =
     let on = c.args.on.now in
     let items = c.atoms-items.result.now in
-    let old = c.new-kept.result.items in
-    let new = c.loop-item.kept.items in
-    leasts_from (atoms_on on) (atoms_laws on) (PartStands on.arena.now c.args.s) old new c.new-kept.ensures.items
+    let old = c.new-rivals.result.items in
+    let new = c.loop-item.rivals.items in
+    leasts_from (atoms_on on) (atoms_laws on) (PartStands on.arena.now c.args.s) old new c.new-rivals.ensures.items
     (gains_same (atoms_on on) (atoms_laws on) _ (PartStands on.arena.now c.args.s) (items_atom on.arena.now c.args.s items c.atoms-items.ensures IsPart) (atom_items on.arena.now c.args.s items c.atoms-items.ensures IsPart) old new
     (scan_done (atoms_on on) (atoms_laws on) (λ y a. PartFits on.arena.now y a) items c.loop-item.item-index c.loop-item-test.false old new c.loop-item.invariant.gains))
 
 pub put_source-returns-in-Col-clause-gains : goal.put_source-returns-in-Col-clause-gains
 put_source-returns-in-Col-clause-gains t c =
-    subst (λ it. OnOk c.put_column.result (Gains (sources_on c.args.on.now) (λ x. SourceFits x c.args.on.now.arena.now it) c.args.kept.now.items c.put_column.new.kept.items)) (sym c.in-Col.is)
+    subst (λ it. OnOk c.put_column.result (Gains (sources_on c.args.on.now) (λ x. SourceFits x c.args.on.now.arena.now it) c.args.rivals.now.items c.put_column.new.rivals.items)) (sym c.in-Col.is)
     c.put_column.ensures
 
 pub put_source-returns-in-Select-clause-gains : goal.put_source-returns-in-Select-clause-gains
 put_source-returns-in-Select-clause-gains t c =
-    subst (λ it. OnOk c.put_lookups.result (Gains (sources_on c.args.on.now) (λ x. SourceFits x c.args.on.now.arena.now it) c.args.kept.now.items c.put_lookups.new.kept.items)) (sym c.in-Select.is)
+    subst (λ it. OnOk c.put_lookups.result (Gains (sources_on c.args.on.now) (λ x. SourceFits x c.args.on.now.arena.now it) c.args.rivals.now.items c.put_lookups.new.rivals.items)) (sym c.in-Select.is)
     c.put_lookups.ensures.gains
 
 pub put_lookups-rows_of-requires : goal.put_lookups-rows_of-requires
@@ -182,7 +182,7 @@ longer_rows-returns-clause-least t c =
 
 pub conditions_of-returns-in-Some-clause-least : goal.conditions_of-returns-in-Some-clause-least
 conditions_of-returns-in-Some-clause-least t c =
-    ok_on _ _ c.parts_of.result c.parts_of.ensures.least (λ found h. parts_kept c.args.on.now c.args.item.now c.in-Some.s c.in-Some.is found.value.items h)
+    ok_on _ _ c.parts_of.result c.parts_of.ensures.least (λ leasts h. parts_kept c.args.on.now c.args.item.now c.in-Some.s c.in-Some.is leasts.value.items h)
 
 pub conditions_of-returns-in_ok-new-in-None-clause-least : goal.conditions_of-returns-in_ok-new-in-None-clause-least
 conditions_of-returns-in_ok-new-in-None-clause-least t c =
@@ -198,30 +198,30 @@ sources_slice on s list held slice e f are =
 pub put_part-returns-in-Const-clause-gains : goal.put_part-returns-in-Const-clause-gains
 put_part-returns-in-Const-clause-gains t c =
     let on = c.args.on.now in
-    subst (λ it. Gains (atoms_on on) (PartFits on.arena.now it) c.args.kept.now.items c.args.kept.now.items) (sym c.in-Const.is)
-    (gains_none (atoms_on on) (atoms_laws on) (PartFits on.arena.now (atom.Const c.in-Const.field-0)) (no_part on.arena.now c.in-Const.field-0) c.args.kept.now.items)
+    subst (λ it. Gains (atoms_on on) (PartFits on.arena.now it) c.args.rivals.now.items c.args.rivals.now.items) (sym c.in-Const.is)
+    (gains_none (atoms_on on) (atoms_laws on) (PartFits on.arena.now (atom.Const c.in-Const.field-0)) (no_part on.arena.now c.in-Const.field-0) c.args.rivals.now.items)
 
-pub put_part-returns-in_ok-found-in-Whole-clause-gains : goal.put_part-returns-in_ok-found-in-Whole-clause-gains
-put_part-returns-in_ok-found-in-Whole-clause-gains t c =
+pub put_part-returns-in_ok-leasts-in-Whole-clause-gains : goal.put_part-returns-in_ok-leasts-in-Whole-clause-gains
+put_part-returns-in_ok-leasts-in-Whole-clause-gains t c =
     let on = c.args.on.now in
     let s = c.in-Whole.sources in
-    let are = sources_slice on s c.in_ok-found-in-Whole.found.value c.deref.result.now c.as_slice.result.now c.as_slice.ensures.value c.deref.ensures c.in_ok-found-in-Whole.ensures.least in
+    let are = sources_slice on s c.in_ok-leasts-in-Whole.leasts.value c.deref.result.now c.as_slice.result.now c.as_slice.ensures.value c.deref.ensures c.in_ok-leasts-in-Whole.ensures.least in
     ok_on _ _ c.put_wholes.result c.put_wholes.ensures
-    (λ u h. subst (λ it. Gains (atoms_on on) (PartFits on.arena.now it) c.args.kept.now.items c.put_wholes.new.kept.items) (sym c.in-Whole.is) (h s are))
+    (λ u h. subst (λ it. Gains (atoms_on on) (PartFits on.arena.now it) c.args.rivals.now.items c.put_wholes.new.rivals.items) (sym c.in-Whole.is) (h s are))
 
 pub put_part-put_pieces-requires-clause-sources : goal.put_part-put_pieces-requires-clause-sources
 put_part-put_pieces-requires-clause-sources t c =
     let on = c.args.on.now in
     let s = c.in-Sub.sources in
-    (s, sources_slice on s c.in_ok-found-in-Sub.found.value c.deref-in-Sub.result.now c.as_slice-in-Sub.result.now c.as_slice-in-Sub.ensures.value c.deref-in-Sub.ensures c.in_ok-found-in-Sub.ensures.least)
+    (s, sources_slice on s c.in_ok-leasts-in-Sub.leasts.value c.deref-in-Sub.result.now c.as_slice-in-Sub.result.now c.as_slice-in-Sub.ensures.value c.deref-in-Sub.ensures c.in_ok-leasts-in-Sub.ensures.least)
 
-pub put_part-returns-in_ok-found-in-Sub-clause-gains : goal.put_part-returns-in_ok-found-in-Sub-clause-gains
-put_part-returns-in_ok-found-in-Sub-clause-gains t c =
+pub put_part-returns-in_ok-leasts-in-Sub-clause-gains : goal.put_part-returns-in_ok-leasts-in-Sub-clause-gains
+put_part-returns-in_ok-leasts-in-Sub-clause-gains t c =
     let on = c.args.on.now in
     let s = c.in-Sub.sources in
-    let are = sources_slice on s c.in_ok-found-in-Sub.found.value c.deref-in-Sub.result.now c.as_slice-in-Sub.result.now c.as_slice-in-Sub.ensures.value c.deref-in-Sub.ensures c.in_ok-found-in-Sub.ensures.least in
+    let are = sources_slice on s c.in_ok-leasts-in-Sub.leasts.value c.deref-in-Sub.result.now c.as_slice-in-Sub.result.now c.as_slice-in-Sub.ensures.value c.deref-in-Sub.ensures c.in_ok-leasts-in-Sub.ensures.least in
     ok_on _ _ c.put_pieces.result c.put_pieces.ensures.gains
-    (λ u h. subst (λ it. Gains (atoms_on on) (PartFits on.arena.now it) c.args.kept.now.items c.put_pieces.new.kept.items) (sym c.in-Sub.is) (h s are))
+    (λ u h. subst (λ it. Gains (atoms_on on) (PartFits on.arena.now it) c.args.rivals.now.items c.put_pieces.new.rivals.items) (sym c.in-Sub.is) (h s are))
 
 pub sources_of-returns-in-Some-clause-least : goal.sources_of-returns-in-Some-clause-least
 sources_of-returns-in-Some-clause-least t c =

@@ -40,13 +40,13 @@ decreases-put_part l = 16 * l.set + 3
 abbrev pub invariant-scan_sources-loop-item : goal.invariant-scan_sources-loop-item
 invariant-scan_sources-loop-item l = record {
   memo : IsMemoOf l.on l.memo;
-  gains : Gains (sources_on l.on) (λ x. SomeBelow l.item-index l.items (λ y. SourceFits x l.on.arena.now y)) l.initial.kept.items l.kept.items;
+  gains : Gains (sources_on l.on) (λ x. SomeBelow l.item-index l.items (λ y. SourceFits x l.on.arena.now y)) l.initial.rivals.items l.rivals.items;
 }
 
 abbrev pub invariant-scan_parts-loop-item : goal.invariant-scan_parts-loop-item
 invariant-scan_parts-loop-item l = record {
   memo : IsMemoOf l.on l.memo;
-  gains : Gains (atoms_on l.on) (λ a. SomeBelow l.item-index l.items (λ y. PartFits l.on.arena.now y a)) l.initial.kept.items l.kept.items;
+  gains : Gains (atoms_on l.on) (λ a. SomeBelow l.item-index l.items (λ y. PartFits l.on.arena.now y a)) l.initial.rivals.items l.rivals.items;
 }
 
 abbrev pub invariant-rows_of-loop-left : goal.invariant-rows_of-loop-left

@@ -17,4 +17,4 @@ returns c =
     let n = c.args.number in
     ok_on _ _ c.put_source.result c.put_source.ensures
     (λ u h. gains_same (sources_on on) (sources_laws on) (λ x. x ≡ source_tree (source.Col n)) (λ x. SourceFits x on.arena.now (Col n)) (λ x e. column_fits on n x (e ∙ col_tree n))
-    (λ x f. fits_column on n x f ∙ sym (col_tree n)) c.args.kept.now.items c.put_source.new.kept.items h)
+    (λ x f. fits_column on n x f ∙ sym (col_tree n)) c.args.rivals.now.items c.put_source.new.rivals.items h)

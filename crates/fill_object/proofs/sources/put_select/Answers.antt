@@ -23,10 +23,10 @@ returns c =
     let part : HasPart (program_tree c.args.row.now) = subst (λ l. HasPart (atoms_of (map atom_tree l))) c.as_slice.ensures (c.if-not-has_part.ensures.0 refl) in
     ok_on _ _ c.put_source.result c.put_source.ensures
     (λ u h. gains_same (sources_on on) (sources_laws on) (λ x. x ≡ source_tree (source.Select c.in_ok-new.field-0)) (IsSelectBy i c.args.row.now) (λ x e. (part, e ∙ tree)) (λ x f. f.1 ∙ sym tree)
-    c.args.kept.now.items c.put_source.new.kept.items h)
+    c.args.rivals.now.items c.put_source.new.rivals.items h)
 
 pub returns-then-not-has_part : goal.returns-then-not-has_part
 returns-then-not-has_part c =
     let on = c.args.on.now in
     gains_none (sources_on on) (sources_laws on) (IsSelectBy c.args.item.now c.args.row.now)
-    (λ x h. let e = c.if-not-has_part.ensures.1 (subst (λ l. HasPart (atoms_of (map atom_tree l))) (sym c.as_slice.ensures) h.0) in cc) c.args.kept.now.items
+    (λ x h. let e = c.if-not-has_part.ensures.1 (subst (λ l. HasPart (atoms_of (map atom_tree l))) (sym c.as_slice.ensures) h.0) in cc) c.args.rivals.now.items

@@ -15,8 +15,8 @@ loop-place-preserved c =
     let places = c.args.places.now in
     let i = c.loop-place.place-index in
     let x = c.place-item.result in
-    scan_more (spots_in c.args.prices.now t) (spots_laws c.args.prices.now t) (λ y p. p ≡ y) places i x (here places i x c.loop-place-test.true c.place-item.is) c.new-spots.result.items c.loop-place.spots.items c.take.new.kept.items
-    c.loop-place.invariant (gains_spot c.args.prices.now t (record { place = x; at = c.place_value-at.result }) c.loop-place.spots.items c.take.new.kept.items c.in_ok-take.ensures (place_is x t c.place_value-at.result c.place_value-at.ensures))
+    scan_more (spots_in c.args.prices.now t) (spots_laws c.args.prices.now t) (λ y p. p ≡ y) places i x (here places i x c.loop-place-test.true c.place-item.is) c.new-spots.result.items c.loop-place.spots.items c.take.new.rivals.items
+    c.loop-place.invariant (gains_spot c.args.prices.now t (record { place = x; at = c.place_value-at.result }) c.loop-place.spots.items c.take.new.rivals.items c.in_ok-take.ensures (place_is x t c.place_value-at.result c.place_value-at.ensures))
 
 pub returns : goal.returns
 returns c =

@@ -3,7 +3,7 @@ use Rattle.fill_tree.specs.declared.user.Settings.{Settings}
 use Rattle.fill_arena.specs.declared.entry.Entry.{Entry}
 use Rattle.fill_arena.specs.WellMade.{IsWellMade}
 use Rattle.fill_tokens.specs.Prices.{ArePrices}
-use Rattle.fill_session.specs.declared.leads.TheConstants.{CANDIDATES}
+use Rattle.fill_tree.specs.declared.user.TheConstants.{MOST_PROGRAMS}
 use Rattle.fill_session.proofs.Leading.{few_first}
 use Rattle.fill_session.proofs.leads.lead_of.Goals as goal
 
@@ -16,6 +16,6 @@ returns-clause-stands c =
     record {
       guide = c.in_ok-guide.ensures;
       candidates = c.in_ok-candidates.ensures;
-      few = few_first s c.args.space l CANDIDATES c.in_ok-candidates.candidates c.requires.1 (c.in_ok-candidates.ensures l c.requires.1)
+      few = few_first s c.args.space l MOST_PROGRAMS c.in_ok-candidates.candidates c.requires.1 (c.in_ok-candidates.ensures l c.requires.1)
           (λ p stands. c.costs_are_present.ensures.programs s.ground.settings.profile.prices small s.arena made c.args.space p stands);
     }

@@ -4,10 +4,10 @@ use Rattle.std.proofs.lemmas.Bool.{false≢true}
 use Rattle.fill_tables.specs.Keys.{KeysDistinguish}
 use Rattle.fill_tree.specs.declared.user.Example.{Example}
 use Rattle.fill_space.specs.Spaces.{SpacesData, SpaceStands}
-use Rattle.fill_session.specs.Suggested.{LeadStands, ToldIs}
+use Rattle.fill_session.specs.Suggested.{LeadStands, VerdictIs}
 use Rattle.fill_session.specs.Taken.{IsTaken}
 use Rattle.fill_session.specs.declared.answers.Taken.{Taken}
-use Rattle.fill_session.specs.declared.candidates.Told.{Told}
+use Rattle.fill_session.specs.declared.candidates.Verdict.{Verdict}
 use Rattle.fill_session.proofs.Asking.{in_leads, lead_stands, none_alike, none_objects, one_objects}
 use Rattle.fill_session.proofs.Picked.{here}
 use Rattle.fill_session.proofs.suggestion.asked_on.Goals as goal
@@ -48,10 +48,10 @@ returns-in-Found-clause-asked c =
     let lt = in_leads s row n text t leads c.requires.leads in
     let lead = get_or leads (n - 1) c.index-asking-taken.result in
     let stands = lead_stands s row n text t leads c.requires.leads lead (here leads (n - 1) c.index-asking-taken.result lt) in
-    let told : (l : List Example) → SpaceStands s.spaces lead.space l → ToldIs g l row text best c.in_ok-objection.field-0 =
-    subst (λ (v : SpacesData). (l : List Example) → SpaceStands v lead.space l → ToldIs v.ground l row text best c.in_ok-objection.field-0) c.spaces-2.ensures c.in_ok-objection.ensures.told in
+    let told : (l : List Example) → SpaceStands s.spaces lead.space l → VerdictIs g l row text best c.in_ok-objection.field-0 =
+    subst (λ (v : SpacesData). (l : List Example) → SpaceStands v lead.space l → VerdictIs v.ground l row text best c.in_ok-objection.field-0) c.spaces-2.ensures c.in_ok-objection.ensures.told in
     let keys : KeysDistinguish g.tables = subst KeysDistinguish (c.tables.ensures ∙ ap (λ (v : SpacesData). v.ground.tables) c.spaces.ensures) c.keeps_keys.ensures in
-    let found = subst (λ (x : Told). ToldIs g t.branch.examples row text best x) c.in-Found.is (told t.branch.examples stands) in
+    let found = subst (λ (x : Verdict). VerdictIs g t.branch.examples row text best x) c.in-Found.is (told t.branch.examples stands) in
     one_objects g s.examples c.args.asking.now.passed.now row n text t c.args.asking.now.silent best c.in-Found.objection c.requires.first c.requires.last
     (λ has. false≢true (c.if-is_among.ensures.1 has)) keys (c.if-not-is_alike.ensures.0 refl) found.0 found.1
 
@@ -68,7 +68,7 @@ returns-in-Nothing-clause-asked c =
     let lt = in_leads s row n text t leads c.requires.leads in
     let lead = get_or leads (n - 1) c.index-asking-taken.result in
     let stands = lead_stands s row n text t leads c.requires.leads lead (here leads (n - 1) c.index-asking-taken.result lt) in
-    let told : (l : List Example) → SpaceStands s.spaces lead.space l → ToldIs g l row text best c.in_ok-objection.field-0 =
-    subst (λ (v : SpacesData). (l : List Example) → SpaceStands v lead.space l → ToldIs v.ground l row text best c.in_ok-objection.field-0) c.spaces-2.ensures c.in_ok-objection.ensures.told in
+    let told : (l : List Example) → SpaceStands s.spaces lead.space l → VerdictIs g l row text best c.in_ok-objection.field-0 =
+    subst (λ (v : SpacesData). (l : List Example) → SpaceStands v lead.space l → VerdictIs v.ground l row text best c.in_ok-objection.field-0) c.spaces-2.ensures c.in_ok-objection.ensures.told in
     none_objects g s.examples c.args.asking.now.passed.now row n text t c.args.asking.now.silent best
-    (subst (λ (x : Told). ToldIs g t.branch.examples row text best x) c.in-Nothing.is (told t.branch.examples stands))
+    (subst (λ (x : Verdict). VerdictIs g t.branch.examples row text best x) c.in-Nothing.is (told t.branch.examples stands))

@@ -7,4 +7,4 @@ pub returns-then-len-eq0-clause-made : goal.returns-then-len-eq0-clause-made
 returns-then-len-eq0-clause-made c = no_atoms c.args.arena.now c.args.arena.now c.args.items (sym c.len.ensures ∙ c.if-len-eq0.true) (extends_same c.args.arena.now)
 
 pub returns-clause-made : goal.returns-clause-made
-returns-clause-made c = atoms_made c.args.arena.now c.intern_atoms.new.self c.args.items c.in_ok-intern_atoms.field-0 c.intern_atoms.ensures.kept c.in_ok-intern_atoms.ensures.ok
+returns-clause-made c = atoms_made c.args.arena.now c.intern_atoms.new.self c.args.items c.in_ok-intern_atoms.field-0 c.intern_atoms.ensures.extends c.in_ok-intern_atoms.ensures.ok

@@ -33,9 +33,9 @@ returns-clause-adds c =
     on_ok_weaker c.push.result
     (λ is e t at sources.
     puts_between (at_depth on e) texts h c.args.width t at arena c.args.sources
-    (λ d o. sources d (extends_on _ _ _ c.places_at.ensures.kept (extends_on _ _ _ c.places_at-2.ensures.kept o)))
+    (λ d o. sources d (extends_on _ _ _ c.places_at.ensures.extends (extends_on _ _ _ c.places_at-2.ensures.extends o)))
     c.in-Some.left c.in-Some-2.right
-    (λ d o. subst (ArePlacesAt on d t h.at) c.in-Some.is (c.in_ok-left.ensures.made t at d (extends_on _ _ _ c.places_at-2.ensures.kept o)))
+    (λ d o. subst (ArePlacesAt on d t h.at) c.in-Some.is (c.in_ok-left.ensures.made t at d (extends_on _ _ _ c.places_at-2.ensures.extends o)))
     (λ d o. subst (ArePlacesAt on d t (h.at + c.args.width)) c.in-Some-2.is (c.in_ok-right.ensures.made t at d o))
     c.args.items.now c.push.new.self is)
     c.push.ensures.ok

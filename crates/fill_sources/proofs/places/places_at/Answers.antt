@@ -24,5 +24,5 @@ returns-clause-memo c =
     let texts = texts_in c.args.look.now.texts.now in
     let arena = c.place_set.new.arena in
     c.in_ok-keep_place.ensures on texts arena
-    (right_stays on texts c.args.arena.now arena c.place_set.ensures.kept c.list_places.new.memo (c.in_ok-places.ensures.memo c.args.arena.now c.requires.memo))
+    (right_stays on texts c.args.arena.now arena c.place_set.ensures.extends c.list_places.new.memo (c.in_ok-places.ensures.memo c.args.arena.now c.requires.memo))
     (made c)

@@ -7,4 +7,4 @@ pub returns-then-len-eq0-clause-made : goal.returns-then-len-eq0-clause-made
 returns-then-len-eq0-clause-made c = no_sources c.args.arena.now c.args.arena.now c.args.items (sym c.len.ensures ∙ c.if-len-eq0.true) (extends_same c.args.arena.now)
 
 pub returns-clause-made : goal.returns-clause-made
-returns-clause-made c = sources_made c.args.arena.now c.intern_sources.new.self c.args.items c.in_ok-intern_sources.field-0 c.intern_sources.ensures.kept c.in_ok-intern_sources.ensures.ok
+returns-clause-made c = sources_made c.args.arena.now c.intern_sources.new.self c.args.items c.in_ok-intern_sources.field-0 c.intern_sources.ensures.extends c.in_ok-intern_sources.ensures.ok

@@ -11,5 +11,5 @@ pub returns-in-Ok-clause-told : goal.returns-in-Ok-clause-told
 returns-in-Ok-clause-told g c =
     let old = c.args.arena.now in
     let new = c.meet.new.arena in
-    c.keep.ensures new (all_stay old new c.keeps_made.ensures c.meet.ensures.kept c.args.met.now c.requires.told)
-    (told_of_meet old new c.keeps_made.ensures c.meet.ensures.kept c.args.a c.args.b c.in-Ok.made c.requires.first c.requires.second c.in-Ok.ensures.met c.in-Ok.ensures.some)
+    c.keep.ensures new (all_stay old new c.keeps_made.ensures c.meet.ensures.extends c.args.met.now c.requires.told)
+    (told_of_meet old new c.keeps_made.ensures c.meet.ensures.extends c.args.a c.args.b c.in-Ok.made c.requires.first c.requires.second c.in-Ok.ensures.met c.in-Ok.ensures.some)

@@ -9,9 +9,9 @@ bounds-ranks-k c = let long = c.requires.ranks.long in omega arith
 pub count_on-requires-clause-before : goal.count_on-requires-clause-before
 count_on-requires-clause-before c =
     let ranks = c.args.ranks.now in
-    let kept = c.args.kept.now in
+    let node_marks = c.args.node_marks.now in
     let k = c.args.node / 32 in
     let long = c.requires.ranks.long in
     let lt : c.args.node / 32 < length ranks = omega arith in
-    let is : Some (get_or ranks k 0) ≡ Some (rank kept (k * 32)) = sym (slice_get-get_or ranks k 0 lt) ∙ c.requires.ranks.each k lt in
+    let is : Some (get_or ranks k 0) ≡ Some (rank node_marks (k * 32)) = sym (slice_get-get_or ranks k 0 lt) ∙ c.requires.ranks.each k lt in
     cc

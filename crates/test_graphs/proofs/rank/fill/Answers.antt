@@ -13,9 +13,9 @@ intern_atoms-requires-2 g c =
     let c3 = c.intern_places-2.new.self in
     let now = c.intern_sources.new.self in
     let left : IsPlaceSet now c.in_ok-starts.starts =
-    places_later c3 now c.in_ok-starts.starts c.intern_sources.ensures.kept
-    (places_later c.intern_places.new.self c3 c.in_ok-starts.starts c.intern_places-2.ensures.kept (_, c.in_ok-starts.ensures.ok)) in
-    let right : IsPlaceSet now c.in_ok-ends.ends = places_later c3 now c.in_ok-ends.ends c.intern_sources.ensures.kept (_, c.in_ok-ends.ensures.ok) in
+    places_later c3 now c.in_ok-starts.starts c.intern_sources.ensures.extends
+    (places_later c.intern_places.new.self c3 c.in_ok-starts.starts c.intern_places-2.ensures.extends (_, c.in_ok-starts.ensures.ok)) in
+    let right : IsPlaceSet now c.in_ok-ends.ends = places_later c3 now c.in_ok-ends.ends c.intern_sources.ensures.extends (_, c.in_ok-ends.ensures.ok) in
     let whole : IsSourceSet now c.in_ok-whole.whole = (_, c.in_ok-whole.ensures.ok) in
     rw c.in_ok-parts.ensures (sample_parts now c.in_ok-whole.whole c.in_ok-starts.starts c.in_ok-ends.ends whole left right)
 
@@ -27,10 +27,10 @@ intern_graph-requires g c =
     let now = c.intern_atoms-2.new.self in
     let s = c.in_ok-first.first in
     let first : IsAtomSet now s =
-    atoms_later c4 now s c.intern_atoms-2.ensures.kept
-    (atoms_later c3 c4 s c.intern_sources.ensures.kept
-    (atoms_later c2 c3 s c.intern_places-2.ensures.kept
-    (atoms_later c.intern_atoms.new.self c2 s c.intern_places.ensures.kept (_, c.in_ok-first.ensures.ok)))) in
+    atoms_later c4 now s c.intern_atoms-2.ensures.extends
+    (atoms_later c3 c4 s c.intern_sources.ensures.extends
+    (atoms_later c2 c3 s c.intern_places-2.ensures.extends
+    (atoms_later c.intern_atoms.new.self c2 s c.intern_places.ensures.extends (_, c.in_ok-first.ensures.ok)))) in
     let second : IsAtomSet now c.in_ok-second.second = (_, c.in_ok-second.ensures.ok) in
     rw c.in_ok-edges.ensures (sample_graph now s (c.in_ok-second.second ∷ []) (two_sets now s c.in_ok-second.second first second))
 

@@ -19,7 +19,7 @@ pub intern_sources-requires : goal.intern_sources-requires
 intern_sources-requires c =
     let now = c.intern_atoms.new.self in
     let set = c.in_ok-whole.whole in
-    let lists = c.intern_atoms.ensures.kept _ _ c.requires in
+    let lists = c.intern_atoms.ensures.extends _ _ c.requires in
     let wholes : slice_get now set ≡ Some (Atoms (Whole c.args.column ∷ [])) = c.in_ok-whole.ensures.ok ∙ ap (λ (is : List AtomItem). Some (Atoms is)) c.in_ok-wholes.ensures in
     let items = c.in_ok-lookups.ensures ∙ ap (λ (cs : List ConditionItem). let i : SelectItem = record { column = 2; table = 1; key = 1; conditions = cs } in Select i ∷ []) c.in_ok-conditions.ensures in
     subst (λ (is : List SourceItem). AreSources now (length now) is) (sym items) (sample_lookup now c.args.column set lists wholes)

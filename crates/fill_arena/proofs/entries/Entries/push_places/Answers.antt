@@ -1,14 +1,14 @@
 use Rattle.std.proofs.Common.{◌≡◌, ◌+◌, ◌++◌, ◌∷◌, [], map, length, sym, ap, ◌∙◌, subst}
 use Rattle.std.proofs.lemmas.List.{length_push}
 use Rattle.fill_arena.specs.Entries.{AreInPool, entry_at}
-use Rattle.fill_arena.specs.declared.entries.Kept.TheVariants.{Places}
+use Rattle.fill_arena.specs.declared.entries.Stored.TheVariants.{Places}
 use Rattle.fill_arena.specs.declared.entry.Entry.TheVariants as kind
 use Rattle.fill_arena.proofs.Pooled.{places_pushed, shown_pushed}
 use Rattle.fill_arena.proofs.entries.Entries.push_places.Goals as goal
 
 pub invariant_of-self-2 : goal.invariant_of-self-2
 invariant_of-self-2 c =
-    let ks = c.self.inside.kept.items in let places = c.self.inside.places in let b = length places in
+    let ks = c.self.inside.stored.items in let places = c.self.inside.places in let b = length places in
     let made = c.in_ok-span.ensures.ok in
     let items : c.push_reserved.new.self.items ≡ ks ++ Places b b ∷ [] =
     c.push_reserved.ensures.items ∙ ap (λ l. l ++ Places c.in_ok-span.span c.mark-before.result ∷ []) c.reserve.ensures.items
@@ -18,7 +18,7 @@ invariant_of-self-2 c =
 
 pub returns-clause-ok : goal.returns-clause-ok
 returns-clause-ok c =
-    let ks = c.self.inside.kept.items in let places = c.self.inside.places in let b = length places in
+    let ks = c.self.inside.stored.items in let places = c.self.inside.places in let b = length places in
     let made = c.in_ok-span.ensures.ok in
     let items : c.push_reserved.new.self.items ≡ ks ++ Places b b ∷ [] =
     c.push_reserved.ensures.items ∙ ap (λ l. l ++ Places c.in_ok-span.span c.mark-before.result ∷ []) c.reserve.ensures.items

@@ -14,5 +14,5 @@ returns-in-Ok c prices cs k memo first =
       places = memo.places;
       sources = memo.sources;
       parts = memo.parts;
-      atoms = put_right (λ q. get nat_eq c.args.self.now.atoms q) (λ q. get nat_eq c.insert.new.self q) (λ q o. AreCheapest (atom_cost prices) atom_cmp (AtomStands cs q) k o.value.items) c.args.s c.args.found u.1 u.2 memo.atoms first;
+      atoms = put_right (λ q. get nat_eq c.args.self.now.atoms q) (λ q. get nat_eq c.insert.new.self q) (λ q o. AreCheapest (atom_cost prices) atom_cmp (AtomStands cs q) k o.value.items) c.args.s c.args.shortlist u.1 u.2 memo.atoms first;
     }

@@ -13,6 +13,6 @@ returns-in-Ok c prices cs k memo first =
     record {
       places = memo.places;
       sources = memo.sources;
-      parts = put_right (λ q. get nat_eq c.args.self.now.parts q) (λ q. get nat_eq c.insert.new.self q) (λ q o. AreCheapest (atom_cost prices) atom_cmp (PartStands cs q) k o.value.items) c.args.s c.args.found u.1 u.2 memo.parts first;
+      parts = put_right (λ q. get nat_eq c.args.self.now.parts q) (λ q. get nat_eq c.insert.new.self q) (λ q o. AreCheapest (atom_cost prices) atom_cmp (PartStands cs q) k o.value.items) c.args.s c.args.shortlist u.1 u.2 memo.parts first;
       atoms = memo.atoms;
     }

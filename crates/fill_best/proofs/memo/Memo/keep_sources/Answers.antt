@@ -12,7 +12,7 @@ returns-in-Ok c prices cs k memo first =
     let u = c.in-Ok.ensures.updates in
     record {
       places = memo.places;
-      sources = put_right (λ q. get nat_eq c.args.self.now.sources q) (λ q. get nat_eq c.insert.new.self q) (λ q o. AreCheapest (source_cost prices) source_cmp (SourceStands cs q) k o.value.items) c.args.s c.args.found u.1 u.2 memo.sources first;
+      sources = put_right (λ q. get nat_eq c.args.self.now.sources q) (λ q. get nat_eq c.insert.new.self q) (λ q o. AreCheapest (source_cost prices) source_cmp (SourceStands cs q) k o.value.items) c.args.s c.args.shortlist u.1 u.2 memo.sources first;
       parts = memo.parts;
       atoms = memo.atoms;
     }

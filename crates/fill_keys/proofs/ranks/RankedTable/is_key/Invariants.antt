@@ -5,4 +5,4 @@ use Rattle.fill_keys.proofs.MetLaws.{MetSoFar}
 use Rattle.fill_keys.proofs.ranks.RankedTable.is_key.Given as goal
 
 abbrev pub invariant-loop-row : goal.invariant-loop-row
-invariant-loop-row l = MetSoFar (λ k. number_of (map (rank_in l.self.columns.items k) l.columns)) l.row (λ v. contains nat_eq l.met v)
+invariant-loop-row l = MetSoFar (λ k. number_of (map (rank_in l.self.columns.items k) l.columns)) l.row (λ v. contains nat_eq l.numbers_so_far v)

@@ -29,7 +29,7 @@ returns c =
     let are = subst (λ l. AreKeys (λ x. x.hash % count) l keys) c.as_slice-2.ensures.value c.in_ok-keys.ensures.keys in
     let groups = subst (λ l. AreGroups l c.in_ok-groups.groups) c.as_slice-3.ensures.value c.in_ok-groups.ensures.groups in
     record {
-      known = c.requires;
+      atom_sets = c.requires;
       labels = c.in_ok-labels.ensures;
       by_label = subst (λ l. AreGroups l c.in_ok-by_label.by_label) c.as_slice.ensures.value c.in_ok-by_label.ensures.groups;
       items = items_end c.args.arena.now labels.sets.items c.loop-n.n items c.loop-n.places.sets.items (let end = c.len-n-end.ensures in let at = c.loop-n.auto.n-end in let test = c.loop-n-test.false in omega arith) c.loop-n.invariant;

@@ -13,7 +13,7 @@ returns-clause-mates c =
     let low : c.len-start.result ≤ length new = (let a = c.len-start.ensures in let b = put.grown.long in omega arith) in
     let end : c.len.result ≡ length new = (let e = c.len.ensures in omega arith) in
     let is = mated c.args.arena.now sets c.args.index.now.holders.list.items new m c.len-start.result c.places.result.now c.places.ensures refl low end c.requires.held.holders c.requires.sets (λ p n at s. put.each p n at s) in
-    mates_more c.args.arena.now sets old new c.args.self.now.known.items c.push.new.self.items m put.grown c.in_ok-push.ensures.items is c.requires.mates
+    mates_more c.args.arena.now sets old new c.args.self.now.mate_runs.items c.push.new.self.items m put.grown c.in_ok-push.ensures.items is c.requires.mates
 
 pub returns-clause-found : goal.returns-clause-found
 returns-clause-found c =

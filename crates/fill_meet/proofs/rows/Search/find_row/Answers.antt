@@ -18,8 +18,8 @@ pub loop-i-preserved : goal.loop-i-preserved
 loop-i-preserved c =
     let inv = c.loop-i.invariant in
     let put = c.in_ok-put_item.ensures in
-    let old = c.loop-i.self.found.rows.numbers.items in
-    let new = c.put_item.new.search.found.rows.numbers.items in
+    let old = c.loop-i.self.findings.rows.numbers.items in
+    let new = c.put_item.new.search.findings.rows.numbers.items in
     let labels = c.args.index.now.labels.sets.items in
     let items = c.atoms-items.result.now in
     let start = c.len-start.result in
@@ -27,7 +27,7 @@ loop-i-preserved c =
     record {
       start = (let a = inv.start in let b = put.grown.long in omega arith);
       state = put.state;
-      grown = grows_on c.args.self.now.found.rows.numbers.items old new inv.grown put.grown;
+      grown = grows_on c.args.self.now.findings.rows.numbers.items old new inv.grown put.grown;
       done = all_more (λ x. AreDone arena labels (IsCovered arena new start x)) items c.loop-i.i c.index-items-i.result (here items c.loop-i.i c.index-items-i.result c.loop-i-test.true c.index-items-i.is)
           (all_map (λ x. AreDone arena labels (IsCovered arena old start x)) (λ x. AreDone arena labels (IsCovered arena new start x)) items c.loop-i.i (λ x done. done_stays arena labels start old new x put.grown done) inv.done) put.done;
     }
@@ -37,9 +37,9 @@ returns-clause-row c =
     let labels = c.args.index.now.labels.sets.items in
     let start = c.len-start.result in
     let arena = c.args.arena.now in
-    let numbers = c.loop-i.self.found.rows.numbers.items in
+    let numbers = c.loop-i.self.findings.rows.numbers.items in
     let run : Run = record { start = start; end = c.len.result } in
     let end : c.len.result ≡ length numbers = (let e = c.len.ensures in omega arith) in
     let index = c.requires.index in
-    let sets = labels_sets (IsAtomSet arena) index.0 c.args.index.now.labels index.1.labels index.1.known in
+    let sets = labels_sets (IsAtomSet arena) index.0 c.args.index.now.labels index.1.labels index.1.atom_sets in
     row_made arena labels start numbers c.args.s c.loop-i.i c.atoms-items.result.now run c.atoms-items.ensures refl c.loop-i.invariant.start end sets c.loop-i-test.false c.loop-i.invariant.done

@@ -8,5 +8,5 @@ pub returns : goal.returns
 returns c = λ d.
     record {
       mates = subst (EachIn (IsMated d c.args.index.now.places.sets.items c.in_ok-mates.mates.lists.numbers.items)) (sym c.in_ok-mates.ensures) (λ k m at. absurd (in_empty m (k, at)));
-      tried = c.in_ok-tried.ensures d;
+      verdicts = c.in_ok-verdicts.ensures d;
     }

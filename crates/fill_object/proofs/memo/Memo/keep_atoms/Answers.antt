@@ -10,7 +10,7 @@ pub returns-in-Ok : goal.returns-in-Ok
 returns-in-Ok c on memo least =
     let u = c.in-Ok.ensures.updates in
     record {
-      atoms = put_right (λ q. get nat_eq c.args.self.now.atoms q) (λ q. get nat_eq c.insert.new.self q) (λ q o. AreLeasts (atoms_on on) (AtomStands on.arena.now q) o.value.items) c.args.s c.args.found u.1 u.2 memo.atoms least;
+      atoms = put_right (λ q. get nat_eq c.args.self.now.atoms q) (λ q. get nat_eq c.insert.new.self q) (λ q o. AreLeasts (atoms_on on) (AtomStands on.arena.now q) o.value.items) c.args.s c.args.leasts u.1 u.2 memo.atoms least;
       sources = memo.sources;
       parts = memo.parts;
       spots = memo.spots;

@@ -10,7 +10,7 @@ pub returns-in-Ok : goal.returns-in-Ok
 returns-in-Ok c on memo least =
     let u = c.in-Ok.ensures.updates in
     record {
-      parts = put_right (λ q. get nat_eq c.args.self.now.parts q) (λ q. get nat_eq c.insert.new.self q) (λ q o. AreLeasts (atoms_on on) (PartStands on.arena.now q) o.value.items) c.args.s c.args.found u.1 u.2 memo.parts least;
+      parts = put_right (λ q. get nat_eq c.args.self.now.parts q) (λ q. get nat_eq c.insert.new.self q) (λ q o. AreLeasts (atoms_on on) (PartStands on.arena.now q) o.value.items) c.args.s c.args.leasts u.1 u.2 memo.parts least;
       sources = memo.sources;
       atoms = memo.atoms;
       spots = memo.spots;

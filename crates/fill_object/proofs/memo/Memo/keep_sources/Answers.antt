@@ -10,7 +10,7 @@ pub returns-in-Ok : goal.returns-in-Ok
 returns-in-Ok c on memo least =
     let u = c.in-Ok.ensures.updates in
     record {
-      sources = put_right (λ q. get nat_eq c.args.self.now.sources q) (λ q. get nat_eq c.insert.new.self q) (λ q o. AreLeasts (sources_on on) (SourceStands on.arena.now q) o.value.items) c.args.s c.args.found u.1 u.2 memo.sources least;
+      sources = put_right (λ q. get nat_eq c.args.self.now.sources q) (λ q. get nat_eq c.insert.new.self q) (λ q o. AreLeasts (sources_on on) (SourceStands on.arena.now q) o.value.items) c.args.s c.args.leasts u.1 u.2 memo.sources least;
       parts = memo.parts;
       atoms = memo.atoms;
       spots = memo.spots;

@@ -9,7 +9,7 @@ use Rattle.fill_object.proofs.spots.Spots.keep.Goals as goal
 
 pub returns : goal.returns
 returns c prices cs are least =
-    let old = c.args.self.now.found.items in
+    let old = c.args.self.now.readings.items in
     let one : Spotted = record { set = c.args.s; text = c.in_ok-copy.field-0; spots = c.args.spots } in
     let right = subst (λ t. AreLeasts (spots_in prices t) (PlaceStands cs c.args.s) c.args.spots.value.items) (sym c.in_ok-copy.ensures) least in
     record {

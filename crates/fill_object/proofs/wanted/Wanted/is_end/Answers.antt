@@ -7,8 +7,8 @@ use Rattle.fill_object.proofs.wanted.Wanted.is_end.Goals as goal
 
 pub returns-in-Other-clause-wanted : goal.returns-in-Other-clause-wanted
 returns-in-Other-clause-wanted c on h k =
-    let lt : c.in-Other.from < length c.args.said.now = grind (arith, nat_tests) in
-    end_other on c.args.said.now c.in-Other.from lt (subst (λ w. RestAgrees on c.args.said.now w end) c.in-Other.is k)
+    let lt : c.in-Other.from < length c.args.answer.now = grind (arith, nat_tests) in
+    end_other on c.args.answer.now c.in-Other.from lt (subst (λ w. RestAgrees on c.args.answer.now w end) c.in-Other.is k)
 
 pub returns-in-Value-clause-wanted : goal.returns-in-Value-clause-wanted
-returns-in-Value-clause-wanted c on h k = end_value on c.args.said.now (subst (λ w. RestAgrees on c.args.said.now w end) c.in-Value.is k)
+returns-in-Value-clause-wanted c on h k = end_value on c.args.answer.now (subst (λ w. RestAgrees on c.args.answer.now w end) c.in-Value.is k)

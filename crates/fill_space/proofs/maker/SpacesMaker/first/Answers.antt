@@ -14,10 +14,10 @@ pub build_once-requires-clause-allowed : goal.build_once-requires-clause-allowed
 build_once-requires-clause-allowed g c = subst (λ (v : SpacesData). MayStand v.ground c.args.item.now) (sym c.self.view_is) c.requires
 
 pub returns-clause-older : goal.returns-clause-older
-returns-clause-older g c = older_stay c.self.inside.ground c.self.inside.arena c.build_once.new.arena c.args.self.now c.self.view_is c.keeps_made.ensures c.build_once.ensures.kept
+returns-clause-older g c = older_stay c.self.inside.ground c.self.inside.arena c.build_once.new.arena c.args.self.now c.self.view_is c.keeps_made.ensures c.build_once.ensures.extends
 
 pub returns-clause-marks : goal.returns-clause-marks
-returns-clause-marks g c = older_marks c.self.inside.ground c.self.inside.arena c.build_once.new.arena c.args.self.now c.self.view_is c.build_once.ensures.kept
+returns-clause-marks g c = older_marks c.self.inside.ground c.self.inside.arena c.build_once.new.arena c.args.self.now c.self.view_is c.build_once.ensures.extends
 
 pub returns-clause-one : goal.returns-clause-one
 returns-clause-one g c =
@@ -33,7 +33,7 @@ returns-clause-one g c =
 pub invariant_of-self : goal.invariant_of-self
 invariant_of-self g c = (
   c.self.invariant.0,
-  all_stay c.self.inside.arena c.build_once.new.arena c.keeps_made.ensures c.build_once.ensures.kept c.self.inside.met c.self.invariant.1,
+  all_stay c.self.inside.arena c.build_once.new.arena c.keeps_made.ensures c.build_once.ensures.extends c.self.inside.met c.self.invariant.1,
   c.build_once.ensures.built,
-  weights_stay c.self.inside.ground.settings.profile.prices c.self.inside.arena c.build_once.new.arena c.keeps_made.ensures c.build_once.ensures.kept c.self.inside.weights c.self.invariant.3,
+  weights_stay c.self.inside.ground.settings.profile.prices c.self.inside.arena c.build_once.new.arena c.keeps_made.ensures c.build_once.ensures.extends c.self.inside.weights c.self.invariant.3,
 )

@@ -11,10 +11,10 @@ use Rattle.fill_space.proofs.Weighing.{weights_stay}
 use Rattle.fill_space.proofs.maker.SpacesMaker.join.Goals as goal
 
 pub returns-clause-older : goal.returns-clause-older
-returns-clause-older g c = older_stay c.self.inside.ground c.self.inside.arena c.meet_once.new.arena c.args.self.now c.self.view_is c.keeps_made.ensures c.meet_once.ensures.kept
+returns-clause-older g c = older_stay c.self.inside.ground c.self.inside.arena c.meet_once.new.arena c.args.self.now c.self.view_is c.keeps_made.ensures c.meet_once.ensures.extends
 
 pub returns-clause-marks : goal.returns-clause-marks
-returns-clause-marks g c = older_marks c.self.inside.ground c.self.inside.arena c.meet_once.new.arena c.args.self.now c.self.view_is c.meet_once.ensures.kept
+returns-clause-marks g c = older_marks c.self.inside.ground c.self.inside.arena c.meet_once.new.arena c.args.self.now c.self.view_is c.meet_once.ensures.extends
 
 pub returns-clause-both : goal.returns-clause-both
 returns-clause-both g c =
@@ -34,6 +34,6 @@ pub invariant_of-self : goal.invariant_of-self
 invariant_of-self g c = (
   c.self.invariant.0,
   c.meet_once.ensures.told,
-  built_stays c.self.inside.ground c.self.inside.arena c.meet_once.new.arena c.keeps_made.ensures c.meet_once.ensures.kept c.self.inside.built c.self.invariant.2,
-  weights_stay c.self.inside.ground.settings.profile.prices c.self.inside.arena c.meet_once.new.arena c.keeps_made.ensures c.meet_once.ensures.kept c.self.inside.weights c.self.invariant.3,
+  built_stays c.self.inside.ground c.self.inside.arena c.meet_once.new.arena c.keeps_made.ensures c.meet_once.ensures.extends c.self.inside.built c.self.invariant.2,
+  weights_stay c.self.inside.ground.settings.profile.prices c.self.inside.arena c.meet_once.new.arena c.keeps_made.ensures c.meet_once.ensures.extends c.self.inside.weights c.self.invariant.3,
 )

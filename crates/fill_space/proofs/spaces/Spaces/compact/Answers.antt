@@ -24,7 +24,7 @@ invariant_of-self c =
     let lent = c.as_mut_slice.ensures.value ∙ c.in_ok-graphs.ensures in
     let listed = c.as_slice.ensures.value ∙ c.in_ok-listed.ensures in
     let put = c.as_slice-copies.ensures.value ∙ lent_back graphs.items c.as_mut_slice.result.now new graphs.len (let len = graphs.ok.0 in omega arith) c.as_mut_slice.ensures.value c.in_ok-self-inside.ensures.length in
-    let renamed = copied_renamed arena made c.as_mut_slice.result.now new c.as_slice.result.now c.as_slice-copies.result.now _ (lent ∙ sym listed) (sym put) c.in_ok-self-inside.ensures.graphs c.in_ok-self-inside.ensures.same c.known_copies-known.ensures.each in (
+    let renamed = copied_renamed arena made c.as_mut_slice.result.now new c.as_slice.result.now c.as_slice-copies.result.now _ (lent ∙ sym listed) (sym put) c.in_ok-self-inside.ensures.graphs c.in_ok-self-inside.ensures.same c.known_copies-new_numbers.ensures.each in (
       c.self.invariant.0,
       c.carry_met.ensures arena made c.self.invariant.1 renamed,
       c.carry_built.ensures over arena made c.self.invariant.2 renamed,

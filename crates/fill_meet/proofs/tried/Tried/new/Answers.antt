@@ -1,6 +1,0 @@
-use Rattle.std.proofs.Common.{rules, sym, subst}
-use Rattle.fill_meet.specs.Tried.{IsTold}
-use Rattle.fill_meet.proofs.tried.Tried.new.Goals as goal
-
-pub returns : goal.returns
-returns c = λ d. record { places = λ k r at. subst (IsTold d) (sym (c.in_ok-blanks.ensures k r at)) tt; sources = search rules }
