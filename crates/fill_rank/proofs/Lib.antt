@@ -1,4 +1,5 @@
 pub mod Best
+pub mod LowerBounds
 pub mod Parts
 pub mod Pieces
 pub mod Put

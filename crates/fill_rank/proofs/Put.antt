@@ -18,7 +18,7 @@ use Rattle.fill_arena.specs.declared.entry.Entry.{Entry}
 use Rattle.fill_text.specs.Orders.{AtMost}
 use Rattle.fill_tokens.specs.declared.prices.Prices.{Prices}
 use Rattle.fill_arena.specs.Best.{IsBest, IsBestOf, IsLesser}
-use Rattle.fill_rank.specs.Sets.{IsBestPart, IsConstantOf, IsBestChain, AreBestRows, CostsMore, IsPut, link_cost}
+use Rattle.fill_rank.specs.Sets.{IsBestPart, IsConstantOf, IsBestChain, AreBestRows, IsPut, link_cost}
 use Rattle.fill_tree.specs.declared.chain.Chain.{Chain}
 use Rattle.fill_rank.specs.declared.rows.Rows.{Rows}
 use Rattle.fill_arena.proofs.Best.{at_most-itself}
@@ -60,25 +60,6 @@ module _ (own : AtomTree → ℕ) (cost : Atoms → ℕ) (adds : (a : AtomTree) 
         is.3 ∙ ap (λ n. own (atom_tree a) + n) t.0 ∙ sym (adds (atom_tree a) (program_tree x.atoms)) ∙ ap cost (sym is.2) in
         subst (IsBestChain cost (Starts H T)) (sym is.1)
         (carried, subst (IsBest (rank cost atoms_cmp) (Starts H T)) (sym is.2) (best_more (atom_tree a) (program_tree x.atoms) h t.1))
-
--- what costs more than the best so far is not less
-pub dear_put : (prices : Prices) (best : Option Chain) (a : Atom) (rest : Option Chain) → CostsMore prices best (Some a) rest → (along : Option Chain) × IsPut (link_cost prices) (Some a) rest along × IsLesser chain_rank best along best
-dear_put prices None a rest h = absurd (let e = h.3 in cc)
-dear_put prices (Some b) a None h = absurd (let e = h.5 in cc)
-dear_put prices (Some b) a (Some x) h =
-    let same_best : h.0 ≡ b = (let e = h.3 in cc) in
-    let same_atom : h.1 ≡ a = (let e = h.4 in cc) in
-    let same_rest : h.2 ≡ x = (let e = h.5 in cc) in
-    let y : Chain = record { cost = link_cost prices (atom_tree a) + x.cost; atoms = record { atoms = a ∷ x.atoms.atoms } } in
-    let less : b.cost < y.cost = subst (λ (z : Chain). b.cost < link_cost prices (atom_tree a) + z.cost) same_rest
-    (subst (λ d. b.cost < link_cost prices (atom_tree d) + h.2.cost) same_atom (subst (λ (z : Chain). z.cost < link_cost prices (atom_tree h.1) + h.2.cost) same_best h.6)) in
-    let after : Greater ≡ nat_cmp y.cost b.cost = nat_cmp_is y.cost b.cost Greater less in
-    (Some y, (y, refl, refl, refl), inr (refl, λ e. greater_first _ _ (sym after) e))
-  where
-    greater_first : (o p : Ordering) → o ≡ Greater → ordering_then o p ≡ Less → ⊥
-    greater_first Less p g e = absurd (let q = g in cc)
-    greater_first Equal p g e = absurd (let q = g in cc)
-    greater_first Greater p g e = let q = e in cc
 
 -- parts are in the same order as atoms and as conditions
 part_cost : (prices : Prices) (a : AtomTree) → IsPart a → condition_cost prices a ≡ prices.condition + atom_cost prices a

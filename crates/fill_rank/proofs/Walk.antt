@@ -5,9 +5,9 @@ use Rattle.std.specs.declared.cmp.Ordering.TheVariants.{Less}
 use Rattle.std.specs.Ordering.{ordering_reverse}
 use Rattle.std.proofs.lemmas.Bool.{cases_eq}
 use Rattle.fill_tree.specs.Chosen.{IsLeast}
-use Rattle.fill_tree.specs.Cost.{program_cost}
+use Rattle.fill_tree.specs.Cost.{atom_cost, program_cost}
 use Rattle.fill_tree.specs.Meaning.{atom_tree, program_tree}
-use Rattle.fill_tree.specs.Order.{program_cmp, atom_rank, chain_rank}
+use Rattle.fill_tree.specs.Order.{atoms_cmp, program_cmp, atom_rank, chain_rank}
 use Rattle.fill_tree.specs.Tree.{AtomTree, Atoms, end, more}
 use Rattle.fill_tree.specs.declared.tree.Atom.{Atom}
 use Rattle.fill_tree.proofs.ProgramOrder.{program_antisymm}
@@ -20,10 +20,12 @@ use Rattle.fill_arena.proofs.Lists.{get_pushed}
 use Rattle.fill_text.specs.Orders.{AtMost}
 use Rattle.fill_tokens.specs.declared.prices.Prices.{Prices}
 use Rattle.fill_arena.specs.Best.{IsBest, IsLesser}
-use Rattle.fill_rank.specs.Sets.{AreBestRests, IsBestChain, CostsMore, IsPut, link_cost}
+use Rattle.fill_rank.specs.Sets.{AreBestRests, IsBestChain, IsPut, link_cost}
+use Rattle.fill_rank.specs.LowerBounds.{IsBeaten, IsLowerBound}
 use Rattle.fill_tree.specs.declared.chain.Chain.{Chain}
 use Rattle.fill_rank.proofs.Best.{chains_lesser}
-use Rattle.fill_rank.proofs.Put.{Starts, as_link, best_put, dear_put}
+use Rattle.fill_rank.proofs.Put.{Starts, as_link, best_put}
+use Rattle.fill_rank.proofs.LowerBounds.{at_most_cost, cheaper_first}
 
 same_chain : (cost : Atoms → ℕ) (P S : Atoms → Type 0) → ((p : Atoms) → S p → P p) → ((p : Atoms) → P p → S p) → (o : Option Chain) → IsBestChain cost P o → IsBestChain cost S o
 same_chain cost P S to from None h = λ p s. h p (to p s)
@@ -71,11 +73,41 @@ module _ (prices : Prices) (c : List Entry) (e : Edge) (rest : List Edge) (last 
     }
 
     -- an edge along which all costs more than the best so far
-    pub edge_dear : (old : List (Option Chain)) (before next : Option Chain) (a : Atom) → AreBestRests prices c rest last old → slice_get old e.from ≡ Some before → slice_get old e.to ≡ Some next →
-        IsBest (atom_rank prices) (AtomStands c e.atoms) (atom_tree a) → CostsMore prices before (Some a) next → AreBestRests prices c (e ∷ rest) last old
-    edge_dear old before next a are at to best dear =
-        let put = dear_put prices before a next dear in
-        edge_step old old before next put.0 before a are at to best put.1 put.2 at (λ n apart. refl)
+    pub edge_beaten : (old : List (Option Chain)) (before next : Option Chain) (bound : ℕ) → AreBestRests prices c rest last old → slice_get old e.from ≡ Some before → slice_get old e.to ≡ Some next →
+        IsLowerBound (atom_cost prices) (AtomStands c e.atoms) bound → IsBeaten prices before bound next → AreBestRests prices c (e ∷ rest) last old
+    edge_beaten old before next bound are at to low beaten = record {
+      each = λ n o there. elim (cases_eq n e.from) [
+        | inl same ↦
+            let moved : slice_get old e.from ≡ Some o = subst (λ m. slice_get old m ≡ Some o) same there in
+            let one : before ≡ o = cc in
+            let best = subst (IsBestChain (program_cost prices) (λ p. Walks p c rest last e.from)) beaten.2 (are.each e.from before at) in
+            let tail = subst (IsBestChain (program_cost prices) (λ p. Walks p c rest last e.to)) beaten.3 (are.each e.to next to) in
+            subst (λ m. IsBestChain (program_cost prices) (λ p. Walks p c (e ∷ rest) last m) o) (sym same)
+            (subst (IsBestChain (program_cost prices) (λ p. Walks p c (e ∷ rest) last e.from)) (sym beaten.2 ∙ one) (stays beaten.0 beaten.1 best tail beaten.4))
+        | inr apart ↦
+            same_chain (program_cost prices) (λ p. Walks p c rest last n) (λ p. Walks p c (e ∷ rest) last n) (λ p h. walks_back c e rest last first p n apart h) (λ p h. walks_more c e rest last p n h) o
+            (are.each n o there)
+      ];
+    }
+      where
+        stays : (b x : Chain) → IsBestChain (program_cost prices) (λ p. Walks p c rest last e.from) (Some b) → IsBestChain (program_cost prices) (λ p. Walks p c rest last e.to) (Some x) →
+            b.cost < prices.atom + bound + x.cost → IsBestChain (program_cost prices) (λ p. Walks p c (e ∷ rest) last e.from) (Some b)
+        stays b x best tail lt = (
+          best.0,
+          record {
+            has = walks_more c e rest last (program_tree b.atoms) e.from best.1.has;
+            least = λ p h. elim (walk_splits p h) [ inl before ↦ best.1.least p before | inr starts ↦ later p starts ];
+          },
+        )
+          where
+            later : (p : Atoms) → Starts (AtomStands c e.atoms) (λ q. Walks q c rest last e.to) p → AtMost (program_cmp prices (program_tree b.atoms) p)
+            later end s = absurd s
+            later (more a q) s =
+                let head = low a s.0 in
+                let rests = at_most_cost (program_cost prices) atoms_cmp (program_tree x.atoms) q (tail.1.least q s.1) in
+                let own = best.0 in
+                let other = tail.0 in
+                cheaper_first (program_cost prices) atoms_cmp (program_tree b.atoms) (more a q) (omega arith)
 
 -- without edges
 pub rests_start : (prices : Prices) (c : List Entry) (xs : List (Option Chain)) (x : Chain) → ((n : ℕ) (o : Option Chain) → slice_get xs n ≡ Some o → o ≡ None) →

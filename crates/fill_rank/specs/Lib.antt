@@ -1,2 +1,3 @@
+pub mod LowerBounds
 pub mod Memo
 pub mod Sets

@@ -50,10 +50,6 @@ IsCheap cost (Some a) (Some x) = cost (atom_tree a) + x.cost < 2 ^ 64
 abbrev pub link_cost : Prices → AtomTree → ℕ
 link_cost prices a = prices.atom + atom_cost prices a
 
--- all three are there, and the atom and the rest cost more together than the best
-abbrev pub CostsMore : Prices → Option Chain → Option Atom → Option Chain → Type 0
-CostsMore prices best atom rest = (b : Chain) × (a : Atom) × (x : Chain) × (best ≡ Some b) × (atom ≡ Some a) × (rest ≡ Some x) × (b.cost < link_cost prices (atom_tree a) + x.cost)
-
 -- for each node the best program that a walk over the edges from it to the last node has
 pub record AreBestRests (prices : Prices) (c : List Entry) (edges : List Edge) (last : ℕ) (table : List (Option Chain)) : Type 0 where
   pub each : (n : ℕ) (o : Option Chain) → slice_get table n ≡ Some o → IsBestChain (program_cost prices) (λ p. Walks p c edges last n) o

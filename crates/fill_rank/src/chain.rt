@@ -1,9 +1,11 @@
 //! The lesser of two chains, and chains with one atom more: rows of conditions, and the ends of programs.
-ghost use Rattle.std.specs.Prelude.{◌+◌, ◌<◌, IsTrue, IfOk};
-ghost use Rattle.fill_tree.specs.Cost.{condition_cost};
+ghost use Rattle.std.specs.Prelude.{IsTrue, IfOk, Some};
+ghost use Rattle.fill_tree.specs.Cost.{atom_cost, condition_cost};
+ghost use Rattle.fill_tree.specs.Meaning.{atom_tree};
 ghost use Rattle.fill_arena.specs.Best.{IsLesser};
 ghost use Rattle.fill_tree.specs.Order.{chain_rank};
-ghost use Rattle.fill_rank.specs.Sets.{CostsMore, IsCheap, IsPut, link_cost};
+ghost use Rattle.fill_rank.specs.LowerBounds.{IsBeaten};
+ghost use Rattle.fill_rank.specs.Sets.{IsCheap, IsPut, link_cost};
 
 use fill_text::NoMemory;
 use fill_tree::{Atom, Chain, Prices};
@@ -43,17 +45,17 @@ pub(crate) fn put_condition(
     Ok(Some(Chain { cost, atoms }))
 }
 
-/// An atom before the rest of a program; none where either is absent.
+/// An atom before the rest of a program; none where that is absent.
 pub(crate) fn put_atom(
     alloc: Global,
     prices: &Prices,
-    atom: &Option<Atom>,
+    atom: &Atom,
     rest: &Option<Chain>,
 ) -> Result<Option<Chain>, NoMemory>
-    requires { IsCheap (link_cost prices.now) atom.now rest.now }
-    ensures { IfOk result (λ made. IsPut (link_cost prices.now) atom.now rest.now made) }
+    requires { IsCheap (link_cost prices.now) (Some atom.now) rest.now }
+    ensures { IfOk result (λ made. IsPut (link_cost prices.now) (Some atom.now) rest.now made) }
 {
-    let (Some(atom), Some(rest)) = (atom, rest) else {
+    let Some(rest) = rest else {
         return Ok(None);
     };
     let Some(own) = atom.cost(prices) else {
@@ -64,24 +66,33 @@ pub(crate) fn put_atom(
     Ok(Some(Chain { cost, atoms }))
 }
 
-/// Whether the atom before the rest of a program costs more than the best so far, so that it need not be put together.
+/// Whether an atom before the rest of a program costs more than the best so far, so that it need not be put together.
 pub(crate) fn is_dearer(
     prices: &Prices,
     best: &Option<Chain>,
-    atom: &Option<Atom>,
+    atom: &Atom,
     rest: &Option<Chain>,
 ) -> bool
-    requires { IsCheap (link_cost prices.now) atom.now rest.now }
-    ensures { IsTrue result → CostsMore prices.now best.now atom.now rest.now }
+    ensures { IsTrue result → IsBeaten prices.now best.now (atom_cost prices.now (atom_tree atom.now)) rest.now }
 {
-    let (Some(atom), Some(rest)) = (atom, rest) else {
+    match atom.cost(prices) {
+        Some(own) => is_beaten(prices, best, own, rest),
+        None => false,
+    }
+}
+
+/// Whether each atom that costs at least the bound, before the rest of a program, costs more than the best so far.
+pub(crate) fn is_beaten(
+    prices: &Prices,
+    best: &Option<Chain>,
+    bound: u64,
+    rest: &Option<Chain>,
+) -> bool
+    ensures { IsTrue result → IsBeaten prices.now best.now bound rest.now }
+{
+    let (Some(best), Some(rest)) = (best, rest) else {
         return false;
     };
-    let Some(best) = best else {
-        return false;
-    };
-    let Some(own) = atom.cost(prices) else {
-        unreachable!()
-    };
-    best.cost < own + prices.atom as u64 + rest.cost
+    let link = bound.saturating_add(u64::from(prices.atom));
+    best.cost < link.saturating_add(rest.cost)
 }

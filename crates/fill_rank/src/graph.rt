@@ -11,9 +11,9 @@ ghost use Rattle.fill_rank.specs.Memo.{IsMemoOf};
 ghost use Rattle.fill_rank.specs.Sets.{AreBestRests};
 ghost use Rattle.fill_arena.specs.WellMade.{IsFirstEdge};
 
-use crate::chain::{is_dearer, lesser, put_atom};
+use crate::chain::{is_beaten, is_dearer, lesser, put_atom};
 use crate::memo::Memo;
-use crate::sets::atom_of;
+use crate::sets::{atom_of, bound_of};
 use fill_arena::{Arena, Edge, GraphId};
 use fill_text::NoMemory;
 use fill_tree::{Chain, Prices, Program};
@@ -30,7 +30,7 @@ pub fn least(alloc: Global, prices: &Prices, arena: &Arena, g: GraphId) -> Resul
     prices.keep_small();
     let edges = arena.sorted_edges(g);
     let mut rests = no_edges(alloc, arena.nodes(g))?;
-    let mut memo = Memo::new(alloc);
+    let mut memo = Memo::new(alloc, edges.len())?;
     let mut left = edges.len();
     while left > 0 {
         left -= 1;
@@ -75,7 +75,11 @@ fn take_edge(
     ensures best { OnOk result ((last : ℕ) (others : Items Listed) → IsFirstEdge edge others →
         AreBestRests prices.now arena.now others last rests.old.items → AreBestRests prices.now arena.now (edge ∷ others) last rests.new.items) }
 {
-    let atom = Some(atom_of(alloc, prices, arena, memo, edge.atoms)?);
+    let bound = bound_of(prices, arena, memo, edge.atoms);
+    if is_beaten(prices, &rests[edge.from], bound, &rests[edge.to]) {
+        return Ok(());
+    }
+    let atom = atom_of(alloc, prices, arena, memo, edge.atoms)?;
     if is_dearer(prices, &rests[edge.from], &atom, &rests[edge.to]) {
         return Ok(());
     }

@@ -5,6 +5,7 @@
 //! "Learning Semantic String Transformations from Examples" (PVLDB 5(8), 2012).
 #![tactic(auto)]
 
+mod bounds;
 mod chain;
 mod graph;
 mod memo;

@@ -1,5 +1,5 @@
 //! What was found of sets already, so that each is looked at once.
-ghost use Rattle.std.specs.Prelude.{◌≡◌, List as Items, IfSome, OnOk, Some, option_copied};
+ghost use Rattle.std.specs.Prelude.{◌≡◌, List as Items, IfOk, IfSome, OnOk, Some, option_copied};
 ghost use Rattle.std.specs.Bool.{nat_eq};
 ghost use Rattle.std.specs.HashMap.{get};
 ghost use Rattle.fill_tokens.specs.declared.prices.Prices.{Prices};
@@ -10,6 +10,7 @@ ghost use Rattle.fill_rank.specs.Memo.{IsMemoOf};
 ghost use Rattle.fill_arena.specs.Best.{IsBest, IsBestOf};
 ghost use Rattle.fill_tree.specs.Order.{atom_rank, place_rank, source_rank};
 
+use crate::bounds::Bounds;
 use fill_arena::{AtomSet, PlaceSet, SourceSet};
 use fill_text::NoMemory;
 use fill_tokens::Place;
@@ -24,18 +25,21 @@ pub(crate) struct Memo {
     sources: HashMap<SourceSet, Source>,
     parts: HashMap<AtomSet, Option<Atom>>,
     atoms: HashMap<AtomSet, Atom>,
+    pub bounds: Bounds,
 }
 
 impl Memo {
-    pub fn new(alloc: Global) -> Memo
-        ensures { (prices : Prices) (c : Items Entry) → IsMemoOf prices c result }
+    /// Nothing was found yet, of a graph of so many edges.
+    pub fn new(alloc: Global, edges: usize) -> Result<Memo, NoMemory>
+        ensures { IfOk result (λ memo. (prices : Prices) (c : Items Entry) → IsMemoOf prices c memo) }
     {
-        Memo {
+        Ok(Memo {
             places: HashMap::new(alloc),
             sources: HashMap::new(alloc),
             parts: HashMap::new(alloc),
             atoms: HashMap::new(alloc),
-        }
+            bounds: Bounds::new(alloc, edges)?,
+        })
     }
 
     pub fn place(&self, s: PlaceSet) -> Option<Place>

@@ -2,7 +2,10 @@
 //!
 //! The best of a product of sets is the product of the bests, since costs add up and parts are compared one after the
 //! other. Lookups are no such product, for not all of their conditions may be constants: see [`Rows`].
-ghost use Rattle.std.specs.Prelude.{◌≡◌, ◌≤◌, ◌∷◌, length, List as Items, IfOk, OnOk, option_map};
+ghost use Rattle.std.specs.Prelude.{◌≡◌, ◌<◌, ◌≤◌, ◌∷◌, ℕ, length, List as Items, IfOk, IfSome, IsTrue, OnOk, Some, option_map};
+ghost use Rattle.fill_tree.specs.Cost.{atom_cost};
+ghost use Rattle.fill_tree.specs.declared.tree.Atom.{Atom as Tree};
+ghost use Rattle.fill_rank.specs.LowerBounds.{IsLowerBound};
 ghost use Rattle.fill_tokens.specs.declared.prices.Prices.{Prices as Table};
 ghost use Rattle.fill_tree.specs.Meaning.{atom_tree, source_tree};
 ghost use Rattle.fill_arena.specs.Contents.{EachIn, IsAtomSet, IsPlaceSet, IsSourceSet};
@@ -242,9 +245,14 @@ fn scan_parts(
     prices.keep_small();
     let items = arena.atoms(s);
     let mut best: Option<Atom> = None;
+    let mut cost: Option<u64> = None;
     for item in items {
-        let next = part_in(alloc, prices, arena, memo, s, item)?;
-        best = lesser_atom(prices, best, next);
+        let bound = memo.bounds.of_item(prices, arena, item);
+        if !is_below(cost, bound) {
+            let next = part_in(alloc, prices, arena, memo, s, item)?;
+            best = lesser_atom(prices, best, next);
+            cost = cost_of(prices, &best);
+        }
     }
     Ok(best)
 }
@@ -323,6 +331,39 @@ fn scan_atoms(
         unreachable!()
     };
     Ok(atom)
+}
+
+/// What the atom costs, if there is one.
+fn cost_of(prices: &Prices, atom: &Option<Atom>) -> Option<u64>
+    ensures { IfSome result (λ n. (a : Tree) × (atom.now ≡ Some a) × (n ≡ atom_cost prices.now (atom_tree a))) }
+{
+    let Some(atom) = atom else {
+        return None;
+    };
+    atom.cost(prices)
+}
+
+/// Whether the cost is there and below the bound.
+fn is_below(cost: Option<u64>, bound: u64) -> bool
+    ensures { IsTrue result → (n : ℕ) × (cost ≡ Some n) × (n < bound) }
+{
+    let Some(cost) = cost else {
+        return false;
+    };
+    cost < bound
+}
+
+/// What each atom of a set costs at least; 0 for a set of many items, whose best is kept.
+pub(crate) fn bound_of(prices: &Prices, arena: &Arena, memo: &mut Memo, s: AtomSet) -> u64
+    requires set { IsAtomSet arena.now s }
+    requires memo { IsMemoOf prices.now arena.now memo.old }
+    ensures memo { IsMemoOf prices.now arena.now memo.new }
+    ensures least { IsLowerBound (atom_cost prices.now) (AtomStands arena.now s) result }
+{
+    if arena.atoms(s).len() > FEW_ITEMS {
+        return 0;
+    }
+    memo.bounds.of_set(prices, arena, s)
 }
 
 /// The best atom of a set.

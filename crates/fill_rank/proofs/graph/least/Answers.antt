@@ -20,7 +20,7 @@ loop-left-init c =
     let rests = c.in_ok-rests.rests.items in
     record {
       within = omega arith;
-      memo = c.new-memo.ensures c.args.prices.now arena;
+      memo = c.in_ok-memo.ensures c.args.prices.now arena;
       nodes = refl;
       best = subst (λ xs. AreBestRests c.args.prices.now arena xs (length rests - 1) rests) (sym (drop_whole c.sorted_edges-edges.result.now))
           (subst (λ n. AreBestRests c.args.prices.now arena [] (n - 1) rests) (sym c.in_ok-rests.ensures.length) (c.in_ok-rests.ensures.best c.args.prices.now arena));

@@ -1,4 +1,4 @@
-use Rattle.std.proofs.Common.{rules, ◌≡◌, ◌≤◌, ◌-◌, List, ◌∷◌, length, length-drop, suc, drop, Some, sym, subst, ◌∙◌, ap, arith}
+use Rattle.std.proofs.Common.{rules, ◌≡◌, ◌≤◌, ◌+◌, ◌-◌, List, ◌∷◌, length, length-drop, suc, drop, Some, sym, subst, ◌∙◌, ap, arith}
 use Rattle.fill_tree.specs.Cost.{conditions_cost}
 use Rattle.fill_tree.specs.Grammar.{HasPart, IsPart}
 use Rattle.fill_tree.specs.Meaning.{atom_tree, source_tree, select_tree, program_tree}
@@ -25,8 +25,14 @@ use Rattle.fill_rank.proofs.Scan.{scan_step, scan_done}
 use Rattle.fill_arena.proofs.Filled.{source_filled}
 use Rattle.fill_arena.proofs.Stand.{atom_items, items_atom, source_items, items_source}
 use Rattle.fill_arena.proofs.Trees.{sub_tree}
+use Rattle.std.specs.Option.{IfSome}
+use Rattle.fill_tree.specs.Cost.{atom_cost}
+use Rattle.fill_tree.specs.declared.tree.Atom.{Atom}
+use Rattle.fill_arena.specs.Contents.{SomeBelow}
+use Rattle.fill_rank.specs.Memo.{IsMemoOf}
+use Rattle.fill_rank.proofs.LowerBounds.{scan_below}
 use Rattle.fill_rank.proofs.sets.+sets.Goals as goal
-use Rattle.fill_rank.proofs.sets.+sets.Goals.{longer_rows-in-Some+in_ok-copy-in-Some, longer_rows-in-None, longer_rows-in-Some-atoms+in_ok-part-in-Some-atoms, longer_rows-in-None-atoms}
+use Rattle.fill_rank.proofs.sets.+sets.Goals.{scan_parts-then-not-is_below+in_ok-next, scan_parts-else-not-is_below, longer_rows-in-Some+in_ok-copy-in-Some, longer_rows-in-None, longer_rows-in-Some-atoms+in_ok-part-in-Some-atoms, longer_rows-in-None-atoms}
 
 pub longer_rows-returns-clause-best : goal.longer_rows-returns-clause-best
 longer_rows-returns-clause-best t c =
@@ -146,18 +152,51 @@ scan_parts-part_in-requires t c =
     let items = c.atoms-items.result.now in
     let i = c.loop-item.item-index in
     let x = c.item-item.result in
-    (search rules, ((c.keeps_made.ensures c.args.s (Atoms items) c.atoms-items.ensures).each i x (here items i x c.loop-item-test.true c.item-item.is), c.loop-item.invariant.memo))
+    let m = c.loop-item.invariant.memo in
+    let old = c.loop-item.memo in
+    let memo : IsMemoOf c.args.prices.now c.args.arena.now (record { places = old.places; sources = old.sources; parts = old.parts; atoms = old.atoms; bounds = c.of_item-bound.new.self }) =
+    record { places = m.places; sources = m.sources; parts = m.parts; atoms = m.atoms; bounds = c.of_item-bound.ensures.bounds } in
+    (search rules, ((c.keeps_made.ensures c.args.s (Atoms items) c.atoms-items.ensures).each i x (here items i x c.loop-item-test.true c.item-item.is), memo))
+
+pub scan_parts-of_item-bound-requires : goal.scan_parts-of_item-bound-requires
+scan_parts-of_item-bound-requires t c =
+    let items = c.atoms-items.result.now in
+    let i = c.loop-item.item-index in
+    let x = c.item-item.result in
+    record { item = (c.args.s, (c.keeps_made.ensures c.args.s (Atoms items) c.atoms-items.ensures).each i x (here items i x c.loop-item-test.true c.item-item.is)); bounds = c.loop-item.invariant.memo.bounds }
 
 pub scan_parts-loop-item-preserved : goal.scan_parts-loop-item-preserved
 scan_parts-loop-item-preserved t c =
     let items = c.atoms-items.result.now in
     let i = c.loop-item.item-index in
     let x = c.item-item.result in
-    record {
-      memo = c.in_ok-next.ensures.memo;
-      best = scan_step (λ x a. PartFits c.args.arena.now x a) items atom_tree (atom_rank c.args.prices.now) (atom_rank-total c.args.prices.now) (atom_rank-exact c.args.prices.now) i x (here items i x c.loop-item-test.true c.item-item.is)
-          c.loop-item.best c.in_ok-next.next c.lesser_atom-best.result c.lesser_atom-best.ensures c.loop-item.invariant.best c.in_ok-next.ensures.best;
-    }
+    let at = here items i x c.loop-item-test.true c.item-item.is in
+    let prices = c.args.prices.now in
+    let arena = c.args.arena.now in
+    let inv = c.loop-item.invariant in
+    elim c.if-not-is_below.branch [
+      | scan_parts-then-not-is_below+in_ok-next w ↦ record {
+        memo = subst (IsMemoOf prices arena) (sym w.memo-is) w.in_ok-next.ensures.memo;
+        best = subst (IsBestOf atom_tree (atom_rank prices) (λ a. SomeBelow (i + 1) items (λ y. PartFits arena y a))) (sym w.best-is)
+            (scan_step (λ y a. PartFits arena y a) items atom_tree (atom_rank prices) (atom_rank-total prices) (atom_rank-exact prices) i x at c.loop-item.best w.in_ok-next.next w.lesser_atom-best.result
+            w.lesser_atom-best.ensures inv.best w.in_ok-next.ensures.best);
+        cost = subst (λ b. IfSome c.if-not-is_below.cost (λ n. (a : Atom) × (b ≡ Some a) × (n ≡ atom_cost prices (atom_tree a)))) (sym w.best-is)
+            (subst (λ o. IfSome o (λ n. (a : Atom) × (w.lesser_atom-best.result ≡ Some a) × (n ≡ atom_cost prices (atom_tree a)))) (sym w.cost-is) w.cost_of-cost.ensures);
+      }
+      | scan_parts-else-not-is_below w ↦ (
+          let m = inv.memo in
+          let memo : IsMemoOf prices arena _ = record { places = m.places; sources = m.sources; parts = m.parts; atoms = m.atoms; bounds = c.of_item-bound.ensures.bounds } in
+          let below = c.is_below.ensures w.if-not-is_below.false in
+          let known = subst (λ o. IfSome o (λ n. (a : Atom) × (c.loop-item.best ≡ Some a) × (n ≡ atom_cost prices (atom_tree a)))) below.1 inv.cost in
+          record {
+            memo = subst (IsMemoOf prices arena) (sym w.memo-is) memo;
+            best = subst (IsBestOf atom_tree (atom_rank prices) (λ a. SomeBelow (i + 1) items (λ y. PartFits arena y a))) (sym w.best-is)
+                (scan_below prices (PartFits arena) items i x at c.loop-item.best known.0 known.1 c.of_item-bound.result (omega (arith, known.2, below.2)) (λ a h. c.of_item-bound.ensures.least a h.1) inv.best);
+            cost = subst (λ b. IfSome c.if-not-is_below.cost (λ n. (a : Atom) × (b ≡ Some a) × (n ≡ atom_cost prices (atom_tree a)))) (sym w.best-is)
+                (subst (λ o. IfSome o (λ n. (a : Atom) × (c.loop-item.best ≡ Some a) × (n ≡ atom_cost prices (atom_tree a)))) (sym w.cost-is) inv.cost);
+          }
+          )
+    ]
 
 pub scan_parts-returns-clause-best : goal.scan_parts-returns-clause-best
 scan_parts-returns-clause-best t c =
@@ -228,3 +267,9 @@ scan_parts-lesser_atom-best-requires t c =
       best = atoms_cheap c.args.prices.now c.keep_small.ensures arena c.keeps_made.ensures c.args.s (PartFits arena) (part_fits arena) items each i c.loop-item.best c.loop-item.invariant.best;
       next = atom_cheap c.args.prices.now c.keep_small.ensures arena c.keeps_made.ensures c.args.s (PartFits arena) (part_fits arena) x (each i x (here items i x c.loop-item-test.true c.item-item.is)) c.in_ok-next.next c.in_ok-next.ensures.best;
     }
+
+pub source_of-returns-clause-memo : goal.source_of-returns-clause-memo
+source_of-returns-clause-memo t c =
+    let prices = c.args.prices.now in
+    let arena = c.args.arena.now in
+    c.in_ok-keep_source.ensures.kept prices arena c.in_ok-best.ensures.memo (subst (IsBest (source_rank prices) (SourceStands arena c.args.s)) (sym c.in_ok-copy.ensures) c.in_ok-best.ensures.best)

@@ -1,4 +1,7 @@
-use Rattle.std.proofs.Common.{◌+◌, ◌*◌, ◌≤◌, length, drop}
+use Rattle.std.proofs.Common.{◌≡◌, ◌+◌, ◌*◌, ◌≤◌, length, drop, Some}
+use Rattle.std.specs.Option.{IfSome}
+use Rattle.fill_tree.specs.Cost.{atom_cost}
+use Rattle.fill_tree.specs.declared.tree.Atom.{Atom}
 use Rattle.fill_tree.specs.Meaning.{atom_tree, source_tree}
 use Rattle.fill_arena.specs.Stands.{SourceFits, PartFits}
 use Rattle.fill_rank.specs.Memo.{IsMemoOf}
@@ -45,6 +48,7 @@ abbrev pub invariant-scan_parts-loop-item : goal.invariant-scan_parts-loop-item
 invariant-scan_parts-loop-item l = record {
   memo : IsMemoOf l.prices l.arena l.memo;
   best : IsBestOf atom_tree (atom_rank l.prices) (λ a. SomeBelow l.item-index l.items (λ y. PartFits l.arena y a)) l.best;
+  cost : IfSome l.cost (λ n. (a : Atom) × (l.best ≡ Some a) × (n ≡ atom_cost l.prices (atom_tree a)));
 }
 
 abbrev pub invariant-rows_of-loop-left : goal.invariant-rows_of-loop-left

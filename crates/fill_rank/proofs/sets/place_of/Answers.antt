@@ -11,3 +11,6 @@ returns-clause-memo c = c.in_ok-keep_place.ensures.kept c.args.prices.now c.args
 
 pub returns-clause-best : goal.returns-clause-best
 returns-clause-best c = place_best c.args.prices.now c.args.arena.now c.args.s c.places.result.now c.least_place-best.result c.places.ensures c.least_place-best.ensures
+
+pub returns-in-Some-clause-best : goal.returns-in-Some-clause-best
+returns-in-Some-clause-best c = c.in-Some.ensures.right c.args.prices.now c.args.arena.now c.requires.memo

@@ -15,4 +15,5 @@ returns-in-Ok-clause-kept c prices cs memo best =
       sources = memo.sources;
       parts = memo.parts;
       atoms = put_right (λ q. get nat_eq c.args.self.now.atoms q) (λ q. get nat_eq c.insert.new.self q) (λ q a. IsBest (atom_rank prices) (AtomStands cs q) (atom_tree a)) c.args.s c.args.a u.1 u.2 memo.atoms best;
+      bounds = memo.bounds;
     }

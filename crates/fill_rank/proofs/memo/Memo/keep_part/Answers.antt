@@ -15,4 +15,5 @@ returns-in-Ok-clause-kept c prices cs memo best =
       sources = memo.sources;
       parts = put_right (λ q. get nat_eq c.args.self.now.parts q) (λ q. get nat_eq c.insert.new.self q) (λ q o. IsBestOf atom_tree (atom_rank prices) (PartStands cs q) o) c.args.s c.args.o u.1 u.2 memo.parts best;
       atoms = memo.atoms;
+      bounds = memo.bounds;
     }

@@ -14,4 +14,5 @@ returns-in-Ok-clause-kept c prices cs memo best =
       sources = memo.sources;
       parts = memo.parts;
       atoms = memo.atoms;
+      bounds = memo.bounds;
     }

@@ -15,4 +15,5 @@ returns-in-Ok-clause-kept c prices cs memo best =
       sources = put_right (λ q. get nat_eq c.args.self.now.sources q) (λ q. get nat_eq c.insert.new.self q) (λ q x. IsBest (source_rank prices) (SourceStands cs q) (source_tree x)) c.args.s c.args.x u.1 u.2 memo.sources best;
       parts = memo.parts;
       atoms = memo.atoms;
+      bounds = memo.bounds;
     }
