@@ -103,14 +103,13 @@ impl Block {
         }
     }
 
-    /// Adds examples of rows of the long sheet that were accepted one after the other before.
+    /// Adds examples of rows of the long sheet that were accepted one after the other before. Where one is not accepted now, as
+    /// where the rows are others than then, it is answered as memory that ran out is.
     pub fn learn_again<L: Ledger>(
         &mut self,
         examples: &[Example],
         steps: &mut Steps<L>,
     ) -> Result<(), NoMemory>
-        requires here { All (λ e. Contains self.old.numbers e.row) examples.now }
-        requires accepted { (g : Ground) × (a : Listed ExampleData) × (b : Listed ExampleData) × StandsFor g self.old a × Accepts g a examples.now b }
         ensures numbers { self.new.numbers ≡ self.old.numbers }
         ensures learned { OnOk result ((g : Ground) (a b : Listed ExampleData) → StandsFor g self.old a → Accepts g a examples.now b → StandsFor g self.new b) }
     {
@@ -126,8 +125,23 @@ impl Block {
         example: &Example,
         steps: &mut Steps<L>,
     ) -> Result<(), NoMemory>
-        requires here { Contains self.old.numbers example.now.row }
-        requires accepted { (g : Ground) × (a : Listed ExampleData) × StandsFor g self.old a × OutcomeIs g a (Add example.now.row example.now.text) None }
+        ensures numbers { self.new.numbers ≡ self.old.numbers }
+        ensures learned { OnOk result ((g : Ground) (a : Listed ExampleData) → StandsFor g self.old a → OutcomeIs g a (Add example.now.row example.now.text) None →
+            StandsFor g self.new (changed a (Add example.now.row example.now.text))) }
+    {
+        match self.row(example.row) {
+            Some(_) => self.add_here(example, steps),
+            None => Err(NoMemory),
+        }
+    }
+
+    /// Adds an example that was accepted before, of a row that the block has.
+    fn add_here<L: Ledger>(
+        &mut self,
+        example: &Example,
+        steps: &mut Steps<L>,
+    ) -> Result<(), NoMemory>
+        requires { Contains self.old.numbers example.now.row }
         ensures numbers { self.new.numbers ≡ self.old.numbers }
         ensures learned { OnOk result ((g : Ground) (a : Listed ExampleData) → StandsFor g self.old a → OutcomeIs g a (Add example.now.row example.now.text) None →
             StandsFor g self.new (changed a (Add example.now.row example.now.text))) }
@@ -135,10 +149,7 @@ impl Block {
         let text = example.text.copy()?;
         match self.add(example.row, text, steps) {
             Ok(()) => Ok(()),
-            Err(reason) => match reason {
-                EditError::NoMemory => Err(NoMemory),
-                _ => unreachable!(),
-            },
+            Err(_) => Err(NoMemory),
         }
     }
 

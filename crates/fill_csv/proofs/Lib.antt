@@ -1,3 +1,4 @@
+pub mod Cases
 pub mod Desks
 pub mod Endings
 pub mod Nears
@@ -7,3 +8,5 @@ pub mod Steps
 pub mod Tolds
 pub mod Likeness
 pub mod Switching
+pub mod Marks
+pub mod Scans

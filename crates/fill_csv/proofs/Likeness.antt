@@ -23,13 +23,12 @@ use Rattle.fill_report.specs.Records.{Fields}
 use Rattle.fill_filter.specs.Filled.{ValueIs}
 use Rattle.fill_open.specs.Opened.{Held, Opened, Opening, Passed, Refused, Unread, at_once, further}
 use Rattle.fill_columns.specs.Choice.{ChoiceData, Refusal}
-use Rattle.fill_lookups.specs.Files.{file_opens, most_of_sheet}
 use Rattle.fill_lookups.specs.Tables.{lookups_open}
 use Rattle.fill_words.specs.Words.{AskedData}
 use Rattle.fill_csv.specs.Alike.{learned}
 use Rattle.fill_csv.specs.Ends.{rows_of}
 use Rattle.fill_csv.specs.Ground.{ground_of}
-use Rattle.fill_csv.specs.Opening.{SheetRead, choice_of, examples_in, from_bytes, from_sheet, most_records, output_of, records_in, sheet_in, sheet_opens, with_choice, with_examples, with_rows, with_tables}
+use Rattle.fill_csv.specs.Opening.{SheetRead, choice_of, examples_in, from_bytes, from_sheet, most_records, output_of, records_in, sheet_file_opens, sheet_in, sheet_opens, with_choice, with_examples, with_rows, with_tables}
 use Rattle.fill_csv.proofs.Switching.{takes_branch}
 
 -- the sheet is that of its bytes in the chosen columns
@@ -75,7 +74,7 @@ record IsOpened (asked : AskedData) (held : Held) (read : SheetRead) : Type 0 wh
 
 opened_is : (asked : AskedData) (held : Held) (read : SheetRead) → (sheet_opens asked held).outcome ≡ Passed read → IsOpened asked held read
 opened_is asked held read is =
-    let bytes = passed_through (from_bytes asked held) (file_opens most_of_sheet held asked.file).outcome read is in
+    let bytes = passed_through (from_bytes asked held) (sheet_file_opens held asked.file).outcome read is in
     let first = passed_through (from_sheet asked held) (sheet_in asked bytes.0) read bytes.2 in
     let found = of_choice asked bytes.0 (choice_of asked (records_in bytes.0)) first.0 first.1 in
     let tables = passed_through (λ tables. at_once (Passed (with_tables first.0 tables))) (lookups_open held [] asked.lookups).outcome read first.2 in

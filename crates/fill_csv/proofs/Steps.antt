@@ -7,10 +7,9 @@ use Rattle.fill_open.specs.Stops.{Counts, Refuses, Stops}
 use Rattle.fill_open.specs.declared.stop.Stop.{Stop}
 use Rattle.fill_open.specs.declared.stop.Stop.TheVariants as stop
 use Rattle.fill_open.proofs.Binds.{Continues, all_go_on, continues_both, goes_on, stops_first, stops_later, told_both}
-use Rattle.fill_lookups.specs.Files.{file_opens, most_of_sheet}
 use Rattle.fill_lookups.specs.Tables.{lookups_open}
 use Rattle.fill_words.specs.Words.{AskedData}
-use Rattle.fill_csv.specs.Opening.{SheetRead, from_bytes, from_sheet, sheet_in, sheet_opens, with_tables}
+use Rattle.fill_csv.specs.Opening.{SheetRead, from_bytes, from_sheet, sheet_file_opens, sheet_in, sheet_opens, with_tables}
 
 pub told_all : (files : Files) (P : Held → Type 0) → ((held : Held) → P held) → Told files P
 told_all None P f = tt
@@ -22,9 +21,9 @@ refuses_stops o files before now (stop.Unread name) r = absurd r
 refuses_stops o files before now (stop.Refused line) r = told_all files _ (λ held. r)
 refuses_stops o files before now stop.NoMemory r = r
 
-module _ (asked : AskedData) (files : Files) (bytes : List ℕ) (read : Told files (λ held. (file_opens most_of_sheet held asked.file).outcome ≡ Passed bytes)) where
+module _ (asked : AskedData) (files : Files) (bytes : List ℕ) (read : Told files (λ held. (sheet_file_opens held asked.file).outcome ≡ Passed bytes)) where
   bytes_on : Told files (λ held. Continues (sheet_opens asked held) (from_bytes asked held bytes))
-  bytes_on = all_go_on files (λ held. file_opens most_of_sheet held asked.file) (λ held. from_bytes asked held) bytes read
+  bytes_on = all_go_on files (λ held. sheet_file_opens held asked.file) (λ held. from_bytes asked held) bytes read
 
   -- what the check of the sheet refuses stops the opening
   pub check_stops : (before mid now : Counts) → NoneFell before mid → (why : Stop (List ℕ)) → Refuses (sheet_in asked bytes) why → Stops (sheet_opens asked) files before now why

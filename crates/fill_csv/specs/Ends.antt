@@ -23,7 +23,6 @@ use Rattle.fill_csv.specs.Asking.{AreTyped, Heard}
 use Rattle.fill_csv.specs.Ground.{ground_of}
 use Rattle.fill_csv.specs.Opening.{SheetRead, header_of, mark_of, most_records, records_in, sheet_opens}
 use Rattle.fill_csv.specs.Saved.{IsSavedText, StoreAt, lacks_rule, saving_of, stored}
-use Rattle.fill_files.specs.Saves.{SavedFiles}
 
 -- the column of states, where one is asked for: after the last column of all records and the one that is filled (at most
 -- 2^64 - 1, which no file reaches)
@@ -71,15 +70,15 @@ Opens asked files read = Told files (λ held. (sheet_opens asked held).outcome �
 abbrev pub is_wanting : Bool → List RefusedText → List RowState → Bool
 is_wanting strict refused states = list_any counts refused || (strict && list_any is_unsure states)
 
--- the words opened a sheet, all of it was written with its column filled, and the rule was saved where that is asked for;
--- the flag tells whether something is left to do
-abbrev pub WritesFilled : Bool → AskedData → Files → Heard → Option (List ℕ) → Option (List ℕ) → SavedFiles → SavedFiles → Type 0
-WritesFilled flag asked files input old new held kept = (read : SheetRead) × (typed : List Example) × (examples : List Example) × (refused : List RefusedText) × (states : List RowState)
+-- the words opened a sheet, all of it was written with its column filled, and this is the text of its rule, where one is to be
+-- saved; the flag tells whether something is left to do
+abbrev pub WritesFilled : Bool → AskedData → Files → Heard → Option (List ℕ) → Option (List ℕ) → Option (List ℕ) → Type 0
+WritesFilled flag asked files input old new text = (read : SheetRead) × (typed : List Example) × (examples : List Example) × (refused : List RefusedText) × (states : List RowState)
     × Opens asked files read × AreTyped asked.ask (ground_of asked read) read.typed input typed
     × AreLearned typed (ground_of asked read) examples refused
     × AreCellStates typed (ground_of asked read) examples (length (rows_of asked read)) states
     × WritesRows (form_of asked read) typed (ground_of asked read) examples (rows_of asked read) (head_of asked read) (length (rows_of asked read)) old new
-    × (text : Option (List ℕ)) × IsSavedText (saving_of asked read) (ground_of asked read) examples text × (kept ≡ stored asked.save text held)
+    × IsSavedText (saving_of asked read) (ground_of asked read) examples text
     × (flag ≡ (is_wanting asked.strict refused states || lacks_rule asked.save text))
 
 -- the words opened a sheet, and a part of what is to be written was written: a proper prefix of the head and the first rows
@@ -98,24 +97,36 @@ WritesFilledRows asked files input old new = (read : SheetRead) × (typed : List
 
 -- the words opened a sheet, all of it was written, and its rule could not be saved
 abbrev pub FailsToSave : AskedData → Files → Heard → Option (List ℕ) → Option (List ℕ) → StoreAt → StoreAt → (List ℕ → Type 0) → Type 0
-FailsToSave asked files input old new held kept Said = (read : SheetRead) × (typed : List Example) × (examples : List Example) × (refused : List RefusedText) × (path text : List ℕ)
+FailsToSave asked files input old new held kept Said = (path text : List ℕ)
+    × (asked.save ≡ Some path) × Rose held.faults kept.faults × Said (unsaved_line path)
+    × Told files (λ _. (read : SheetRead) × (typed : List Example) × (examples : List Example) × (refused : List RefusedText)
     × Opens asked files read × AreTyped asked.ask (ground_of asked read) read.typed input typed
     × AreLearned typed (ground_of asked read) examples refused
     × WritesRows (form_of asked read) typed (ground_of asked read) examples (rows_of asked read) (head_of asked read) (length (rows_of asked read)) old new
-    × (asked.save ≡ Some path) × IsSavedText (saving_of asked read) (ground_of asked read) examples (Some text)
-    × Rose held.faults kept.faults × Said (unsaved_line path)
+    × IsSavedText (saving_of asked read) (ground_of asked read) examples (Some text))
 
--- how the filling of a sheet ends, by its status: what its output got, what its store holds, what it said, and why
-pub record EndsFilled (asked : AskedData) (files : Files) (input : Heard) (status : ℕ) (before now : Counts) (old new : Option (List ℕ)) (held kept : StoreAt) (Said : List ℕ → Type 0) : Type 0 where
+-- the words opened a sheet whose file could not be read again: what was written before is a part of what is to be written
+abbrev pub FailsAgain : AskedData → Files → Heard → Counts → Counts → Option (List ℕ) → Option (List ℕ) → (List ℕ → Type 0) → Type 0
+FailsAgain asked files input before now old new Said = Rose (before asked.file) (now asked.file)
+    × Told files (λ _. Keeps old new ⊎ WritesFilledRows asked files input old new) × Said (unread_line asked.file)
+
+-- how the filling of a sheet ends, by its status: what its output got, what its store holds, what it said, and why; a write of
+-- the output failed where `Unwritten` holds
+pub record EndsFilled (asked : AskedData) (files : Files) (input : Heard) (status : ℕ) (before now : Counts) (old new : Option (List ℕ)) (held kept : StoreAt) (Unwritten : Type 0) (Said : List ℕ → Type 0) : Type 0 where
   -- 0 and 1 only where every step of the opening passed, and the whole sheet was written; 1 where something is left to do
-  pub done : status ≡ 0 → WritesFilled false asked files input old new held.files kept.files
-  pub refusing : status ≡ 1 → WritesFilled true asked files input old new held.files kept.files
+  -- (a file of which nothing is told may change between two passes over it, and then nothing is promised of what was written)
+  pub done : status ≡ 0 → (text : Option (List ℕ)) × (kept.files ≡ stored asked.save text held.files) × (lacks_rule asked.save text ≡ false)
+      × Told files (λ _. WritesFilled false asked files input old new text)
+  pub refusing : status ≡ 1 → (text : Option (List ℕ)) × (kept.files ≡ stored asked.save text held.files)
+      × Told files (λ _. WritesFilled true asked files input old new text)
   -- 2 is for wrong words alone
   pub worded : status ≢ 2
   pub unread : status ≡ 3 → (name : List ℕ) × (IsUnread (sheet_opens asked) files name ⊎ ReadFails (sheet_opens asked) files before now name) × Said (unread_line name)
-  pub part : status ≡ 4 → (WritesFilledPart asked files input old new × Said output_line) ⊎ FailsToSave asked files input old new held kept Said
+  pub part : status ≡ 4 → (Unwritten × Told files (λ _. WritesFilledPart asked files input old new) × Said output_line)
+      ⊎ FailsAgain asked files input before now old new Said
+      ⊎ FailsToSave asked files input old new held kept Said
   pub refused : status ≡ 5 → (line : List ℕ) × Told files (λ held. (sheet_opens asked held).outcome ≡ Refused line) × Said line
-  pub memory : status ≡ 6 → (Keeps old new ⊎ WritesFilledRows asked files input old new) × Said memory_line
+  pub memory : status ≡ 6 → Told files (λ _. Keeps old new ⊎ WritesFilledRows asked files input old new) × Said memory_line
   pub quiet : (status ≡ 3) ⊎ (status ≡ 5) → Keeps old new
   -- nothing is saved but by a run that ends with 0 or 1
   pub unsaved : 2 ≤ status → kept.files ≡ held.files

@@ -2,6 +2,7 @@
 use Rattle.std.specs.Prelude.{◌≡◌, ◌⊎◌, ◌≤◌, ◌||◌, ◌&&◌, ℕ, List, Bool, true, false, Option, Some}
 use Rattle.std.specs.List.{list_any}
 use Rattle.fill_edge.specs.Outside.{Files, Rose}
+use Rattle.fill_open.specs.Opened.{Told as IsToldOf}
 use Rattle.fill_filled.specs.Learned.{counts}
 use Rattle.fill_words.specs.Words.{AskedData}
 use Rattle.fill_lookups.specs.Lines.{memory_line}
@@ -15,8 +16,8 @@ use Rattle.fill_csv.specs.declared.told.Told.{Told}
 
 -- the words opened a sheet, all of it was written with its column filled, and this is told of it
 abbrev pub Fills : AskedData → Files → Heard → Option (List ℕ) → Option (List ℕ) → Told → Type 0
-Fills asked files input old new told = (read : SheetRead) × Opens asked files read
-    × FillsPage asked.ask (page_of asked read) input old new told.refused told.summary.unsure told.text
+Fills asked files input old new told = IsToldOf files (λ _. (read : SheetRead) × Opens asked files read
+    × FillsPage asked.ask (page_of asked read) input old new told.refused told.summary.unsure told.text)
 
 -- whether something is left to do on a sheet of which this is told
 abbrev pub is_left : AskedData → Told → Bool

@@ -10,3 +10,5 @@ pub mod Read
 pub mod Said
 pub mod Saved
 pub mod Alike
+pub mod Unfilled
+pub mod Filling

@@ -1,6 +1,7 @@
 -- From the files of a sheet and its tables to what is learned from: the steps, and what each one may stop at.
-use Rattle.std.specs.Prelude.{ℕ, ◌+◌, ◌-◌, ◌&&◌, List, [], ◌∷◌, length, map, nat_le, min, take, Bool, true, false, if◌then◌else◌, nat_lt, Option, None, Some, Result, Ok, Err}
-use Rattle.std.specs.Str.{bytes_eq, chars}
+use Rattle.fill_edge.specs.declared.outside.TheConstants.{LAST_PLACE}
+use Rattle.std.specs.Prelude.{ℕ, ◌+◌, ◌-◌, ◌&&◌, List, [], ◌∷◌, length, map, nat_le, take, Bool, true, false, if◌then◌else◌, nat_lt, Option, None, Some, Result, Ok, Err}
+use Rattle.std.specs.Str.{chars}
 use Rattle.fill_text.specs.Data.{SheetData, TableData}
 use Rattle.fill_records.specs.Records.{records_of}
 use Rattle.fill_sheet.specs.Sheet.{headers, read_up_to}
@@ -10,7 +11,8 @@ use Rattle.fill_columns.specs.Columns.{names_of, width}
 use Rattle.fill_columns.specs.Choice.{ChoiceData, Refusal, choice_after, choice_in}
 use Rattle.fill_tree.specs.declared.user.Example.{Example}
 use Rattle.fill_words.specs.Words.{AskedData, New, TargetData, There, TypedData}
-use Rattle.fill_lookups.specs.Files.{file_opens, most_of_sheet}
+use Rattle.fill_lookups.specs.Files.{file_opens}
+use Rattle.fill_stream.specs.Fronts.{is_marked}
 use Rattle.fill_csv.specs.Lines.{choice_line, row_line, sheet_line}
 use Rattle.fill_lookups.specs.Tables.{lookups_open}
 
@@ -109,14 +111,23 @@ from_sheet asked held read = and_then (lookups_open held [] asked.lookups) (λ t
 abbrev pub from_bytes : AskedData → Held → List ℕ → Opening (List ℕ) SheetRead
 from_bytes asked held bytes = and_then (at_once (sheet_in asked bytes)) (from_sheet asked held)
 
+-- the file of a sheet is read, which may have as many bytes as can be read
+abbrev pub sheet_file_opens : Held → List ℕ → Opening (List ℕ) (List ℕ)
+sheet_file_opens held name = file_opens LAST_PLACE held name
+
 -- the sheet's file is read and checked, and then those of its tables
 abbrev pub sheet_opens : AskedData → Held → Opening (List ℕ) SheetRead
-sheet_opens asked held = and_then (file_opens most_of_sheet held asked.file) (from_bytes asked held)
+sheet_opens asked held = and_then (sheet_file_opens held asked.file) (from_bytes asked held)
 
 -- the byte order mark
 abbrev pub mark : List ℕ
 mark = 239 ∷ 187 ∷ 191 ∷ []
 
--- the mark in front of the bytes, or nothing
+-- the mark, or nothing
+abbrev pub mark_if : Bool → List ℕ
+mark_if true = mark
+mark_if false = []
+
+-- the mark where it stands in front of the bytes
 abbrev pub mark_of : List ℕ → List ℕ
-mark_of bytes = if bytes_eq (take (min (length bytes) 3) bytes) mark then take (min (length bytes) 3) bytes else []
+mark_of bytes = mark_if (is_marked bytes)

@@ -10,12 +10,10 @@ use Rattle.fill_filled.specs.Filled.{AreCellStates, WritesPart, WritesRows, is_u
 use Rattle.fill_filled.specs.Learned.{AreLearned}
 use Rattle.fill_filled.specs.declared.form.Form.{Form}
 use Rattle.fill_filled.specs.declared.learning.Refused.{Refused}
-use Rattle.fill_lookups.specs.Lines.{memory_line}
 use Rattle.fill_words.specs.Words.{AskedData}
 use Rattle.fill_csv.specs.Asking.{AreTyped, Heard}
 use Rattle.fill_csv.specs.Ends.{form_of, head_of, rows_of}
 use Rattle.fill_csv.specs.Ground.{ground_of}
-use Rattle.fill_csv.specs.Lines.{output_line}
 use Rattle.fill_csv.specs.Opening.{SheetRead}
 use Rattle.fill_csv.specs.Saved.{FrameData, IsSavedText, saving_of}
 
@@ -71,8 +69,3 @@ FillsPart ask p input old new = (typed : List Example) × AreTyped ask p.over p.
 
 abbrev pub FillsRows : Bool → PageData → Heard → Option (List ℕ) → Option (List ℕ) → Type 0
 FillsRows ask p input old new = Keeps old new ⊎ ((typed : List Example) × AreTyped ask p.over p.typed input typed × IsBegun old new (with_typed p typed))
-
--- why the filling of a page fails
-abbrev pub FailsPage : ℕ → Bool → PageData → Heard → Option (List ℕ) → Option (List ℕ) → (List ℕ → Type 0) → Type 0
-FailsPage status ask p input old new Said = ((status ≡ 4) × FillsPart ask p input old new × Said output_line)
-    ⊎ ((status ≡ 6) × FillsRows ask p input old new × Said memory_line)

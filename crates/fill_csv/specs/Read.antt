@@ -1,5 +1,5 @@
 -- A sheet as the code has read it.
-use Rattle.std.specs.Prelude.{◌≡◌, ◌≤◌, ◌++◌, ℕ, List, All, Bool, IfSome, Ok, Option, Some, length, map, option_map, option_to_list}
+use Rattle.std.specs.Prelude.{◌≡◌, ◌≤◌, ◌++◌, ℕ, List, [], All, Bool, IfSome, Result, Ok, Err, Option, None, Some, ⊤, length, map, option_map, option_to_list, string_bytes, unwrap_or}
 use Rattle.std.specs.List.{list_any}
 use Rattle.fill_text.specs.Data.{SheetData, TableData}
 use Rattle.fill_edge.specs.Outside.{Files}
@@ -8,19 +8,26 @@ use Rattle.fill_records.specs.Texts.{IsText}
 use Rattle.fill_sheet.specs.Columns.{AreInputs, IsOutput, rising}
 use Rattle.fill_sheet.specs.Sheet.{read_up_to}
 use Rattle.fill_tree.specs.Grammar.{AreSettings}
+use Rattle.fill_tree.specs.declared.user.Example.{Example}
 use Rattle.fill_report.specs.declared.rows.RowState.{RowState}
 use Rattle.fill_columns.specs.Choice.{choice_data}
+use Rattle.fill_columns.specs.declared.choice.Choice.{Choice}
+use Rattle.fill_stream.specs.Fronts.{is_marked}
+use Rattle.fill_open.specs.Opened.{Held, Passed, Refused}
+use Rattle.fill_open.specs.Stops.{Refuses}
+use Rattle.fill_open.specs.declared.stop.Stop.{Stop}
+use Rattle.fill_open.specs.declared.stop.Stop.TheVariants as stop
 use Rattle.fill_columns.specs.Columns.{width}
 use Rattle.fill_filled.specs.Filled.{AreCellStates, WritesRows, is_unsure}
 use Rattle.fill_filled.specs.Learned.{AreLearned}
 use Rattle.fill_blocks.specs.Blocks.{StandsFor}
-use Rattle.fill_long.specs.Long.{ground_of, rows_in, rows_of, sheet_over}
-use Rattle.fill_long.specs.declared.sheet.LongSheet.{LongSheet}
+use Rattle.fill_long.specs.Long.{LongData, ground_of, rows_in, rows_of, sheet_over}
 use Rattle.fill_words.specs.Words.{AskedData, lookup_data}
-use Rattle.fill_csv.specs.Opening.{SheetRead, header_of, most_records, output_of, records_in}
+use Rattle.fill_csv.specs.Opening.{SheetRead, header_of, most_records, output_of, records_in, rows_in as rows_in_file, sheet_in as sheet_in_file}
 use Rattle.fill_csv.specs.Saved.{FrameData}
+use Rattle.fill_csv.specs.Asking.{AreTyped, Heard}
 use Rattle.fill_csv.specs.Ends.{Opens}
-use Rattle.fill_csv.specs.Pages.{PageData, page_of}
+use Rattle.fill_csv.specs.Pages.{PageData, page_of, with_typed}
 use Rattle.fill_csv.specs.declared.desk.Desk.{Desk}
 use Rattle.fill_csv.specs.declared.fill.Filled.{Filled}
 use Rattle.fill_csv.specs.declared.saving.RuleFrame.{RuleFrame}
@@ -36,12 +43,21 @@ pub record AreReadable (header : Bool) (inputs : List ℕ) (output : Option ℕ)
   pub text : All (IsText (rising inputs ++ option_to_list output)) (rows_in header bytes)
   pub few : length (records_of bytes) ≤ most_records
 
--- what it stands for
-abbrev pub read_data : AskedData → Code → SheetRead
-read_data asked r = record {
-  bytes = r.bytes;
+-- the bytes of a file, none where there is no such file
+abbrev pub bytes_in : Held → List ℕ → List ℕ
+bytes_in held name = unwrap_or (held name) []
+
+-- a fact of the bytes of a file, where files are told
+abbrev pub OfFile : Files → List ℕ → (List ℕ → Type 0) → Type 0
+OfFile None name P = ⊤
+OfFile (Some held) name P = P (bytes_in held name)
+
+-- what it stands for over the bytes of its file
+abbrev pub read_data : AskedData → List ℕ → Code → SheetRead
+read_data asked bytes r = record {
+  bytes = bytes;
   choice = choice_data r.choice;
-  sheet = sheet_in asked.header r.choice.from.items (output_of asked.replace r.choice.to) r.bytes;
+  sheet = sheet_in asked.header r.choice.from.items (output_of asked.replace r.choice.to) bytes;
   typed = r.typed;
   tables = r.tables;
 }
@@ -50,42 +66,98 @@ read_data asked r = record {
 abbrev pub frame_data : RuleFrame → FrameData
 frame_data f = record { names = f.names; inputs = f.inputs.items; output = f.output; lookups = map lookup_data f.lookups.items }
 
--- its parts are those of its bytes: the header, the number of columns, and rows that can be read in columns that rules may have
-pub record AreParts (asked : AskedData) (r : Code) : Type 0 where
-  pub header : r.header ≡ header_of asked.header (records_in r.bytes)
-  pub width : r.width ≡ width (records_in r.bytes)
-  pub inputs : AreInputs r.choice.from.items
-  pub output : IsOutput r.choice.from.items (Some r.choice.to)
-  pub readable : AreReadable asked.header r.choice.from.items (output_of asked.replace r.choice.to) r.bytes
+-- the columns are some that rules may have
+pub record AreChosen (c : Choice) : Type 0 where
+  pub inputs : AreInputs c.from.items
+  pub output : IsOutput c.from.items (Some c.to)
 
--- what the writing of a sheet on the desk depends on
-abbrev pub page_data : Desk → PageData
-page_data d = record {
+-- its parts are those of these bytes: the mark in front, the header, the number of columns, and rows that can be read
+pub record AreParts (asked : AskedData) (bytes : List ℕ) (r : Code) : Type 0 where
+  pub marked : r.marked ≡ is_marked bytes
+  pub header : r.header ≡ header_of asked.header (records_in bytes)
+  pub width : r.width ≡ width (records_in bytes)
+  pub readable : AreReadable asked.header r.choice.from.items (output_of asked.replace r.choice.to) bytes
+
+-- how the scan of a file of these bytes ended: with its parts, or with the reason for which it is refused; a read that failed and
+-- out of memory are free
+abbrev pub IsScanned : AskedData → List ℕ → Result Code (Stop (List ℕ)) → Type 0
+IsScanned asked bytes (Ok r) = (sheet_in_file asked bytes ≡ Passed (read_data asked bytes r)) × AreParts asked bytes r
+IsScanned asked bytes (Err (stop.Unread name)) = ⊤
+IsScanned asked bytes (Err (stop.Refused why)) = sheet_in_file asked bytes ≡ Refused why
+IsScanned asked bytes (Err stop.NoMemory) = ⊤
+
+-- how the check of its rows in the chosen columns ended: they can be read, and these texts are typed for them, or why not
+abbrev pub AreRowsIn : AskedData → List ℕ → Choice → Result (List Example) (Stop (List ℕ)) → Type 0
+AreRowsIn asked bytes c (Ok typed) = AreReadable asked.header c.from.items (output_of asked.replace c.to) bytes
+    × (rows_in_file asked bytes (choice_data c) ≡ Passed (record {
+      bytes = bytes;
+      choice = choice_data c;
+      sheet = sheet_in asked.header c.from.items (output_of asked.replace c.to) bytes;
+      typed = typed;
+      tables = [];
+    }))
+AreRowsIn asked bytes c (Err why) = Refuses (rows_in_file asked bytes (choice_data c)) why
+
+-- the stop is not of a read
+abbrev pub IsNoRead : Stop (List ℕ) → Type 0
+IsNoRead (stop.Unread name) = ⊥
+IsNoRead (stop.Refused why) = ⊤
+IsNoRead stop.NoMemory = ⊤
+
+-- a stop that is of a read is of the file of this name, and the flag holds then
+abbrev pub IsUnreadFor : List ℕ → Type 0 → Stop (List ℕ) → Type 0
+IsUnreadFor name Failed (stop.Unread other) = (string_bytes other ≡ name) × Failed
+IsUnreadFor name Failed (stop.Refused why) = ⊤
+IsUnreadFor name Failed stop.NoMemory = ⊤
+
+-- the stop is for this file, which could not be read, or of memory
+abbrev pub IsStopUnread : List ℕ → Stop (List ℕ) → Type 0
+IsStopUnread name (stop.Unread other) = string_bytes other ≡ name
+IsStopUnread name (stop.Refused why) = ⊥
+IsStopUnread name stop.NoMemory = ⊤
+
+-- the words opened this sheet
+abbrev pub OpensFile : AskedData → Files → Code → Type 0
+OpensFile asked files r = OfFile files asked.file (λ bytes. Opens asked files (read_data asked bytes r) × AreParts asked bytes r)
+
+-- what the writing of a sheet on the desk depends on, over the bytes of its file
+abbrev pub page_data : List ℕ → Desk → PageData
+page_data bytes d = record {
   form = d.form;
   typed = d.typed;
-  over = record { settings = d.settings; sheet = sheet_in d.header d.choice.from.items d.output d.bytes; tables = d.tables };
-  rows = rows_in d.header d.bytes;
+  over = record { settings = d.settings; sheet = sheet_in d.header d.choice.from.items d.output bytes; tables = d.tables };
+  rows = rows_in d.header bytes;
   head = d.head;
   saving = option_map frame_data d.saving;
 }
 
--- the sheet can be read, and columns count from 1
-pub record IsReady (d : Desk) : Type 0 where
+-- columns count from 1, and are some that rules may have, whatever the file holds
+pub record IsLaid (d : Desk) : Type 0 where
   pub settings : AreSettings d.settings
   pub inputs : AreInputs d.choice.from.items
   pub output : IsOutput d.choice.from.items d.output
-  pub readable : AreReadable d.header d.choice.from.items d.output d.bytes
   pub column : 1 ≤ d.form.column
   pub states : IfSome d.form.states (λ column. 1 ≤ column)
 
+-- the sheet of these bytes can be read too
+pub record IsReady (bytes : List ℕ) (d : Desk) : Type 0 where
+  pub laid : IsLaid d
+  pub readable : AreReadable d.header d.choice.from.items d.output bytes
+
+-- what a dialogue leaves of a sheet of these bytes, where one is wanted: only the typed texts are others
+abbrev pub IsAsked : List ℕ → Bool → Desk → Desk → Heard → Type 0
+IsAsked bytes ask old new input = IsReady bytes new
+    × (page_data bytes new ≡ with_typed (page_data bytes old) new.typed)
+    × AreTyped ask (page_data bytes old).over old.typed input new.typed
+
 -- what the writing of a long sheet depends on, with these tables, where this is to be saved
-abbrev pub page_over : LongSheet → List TableData → Option FrameData → PageData
+abbrev pub page_over : LongData → List TableData → Option FrameData → PageData
 page_over s tables saving = record {
   form = s.form;
-  typed = s.typed.now;
+  typed = s.typed;
   over = ground_of s tables;
   rows = rows_of s;
-  head = s.head.now;
+  head = s.head;
   saving = saving;
 }
 
@@ -100,4 +172,5 @@ IsFilled old new p f = (states : List RowState)
 
 -- the words opened a sheet, which lies on the desk
 abbrev pub OpensDesk : AskedData → Files → Desk → Type 0
-OpensDesk asked files desk = (read : SheetRead) × Opens asked files read × (page_data desk ≡ page_of asked read) × (desk.ask ≡ asked.ask)
+OpensDesk asked files desk = (string_bytes desk.file ≡ asked.file) × (desk.ask ≡ asked.ask)
+    × OfFile files asked.file (λ bytes. (read : SheetRead) × Opens asked files read × IsReady bytes desk × (page_data bytes desk ≡ page_of asked read))

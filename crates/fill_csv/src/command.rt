@@ -1,12 +1,14 @@
 //! The run of `fillcsv`, over any cabinet of files, any store, any input and any sinks.
 ghost use Rattle.std.specs.Prelude.{◌≡◌, ◌≢◌, ◌⊎◌, ◌≤◌, ℕ, List as Listed, [], All, IfErr, IfOk, IsOk, false, map, Option, option_map, string_bytes, true, unwrap_or};
-ghost use Rattle.fill_edge.specs.Outside.{Rose};
+ghost use Rattle.fill_edge.specs.declared.outside.TheConstants.{LAST_PLACE};
+ghost use Rattle.fill_edge.specs.Outside.{NoneFell, Rose};
+ghost use Rattle.fill_passes.specs.Files.{IsThere};
 ghost use Rattle.fill_filter.specs.RuleFile.{RanFile};
 ghost use Rattle.fill_words.specs.Words.{AskedData, Asks, IsLookup, Runs, SavedData, Shows, Wrong, asked_in, data_of, lookup_data};
 ghost use Rattle.fill_csv.specs.Asking.{Heard, SaysAfter, heard};
 ghost use Rattle.fill_csv.specs.Ends.{EndsFilled, EndsShown, EndsWrong, OutBefore};
 ghost use Rattle.fill_csv.specs.Fills.{EndsTold};
-ghost use Rattle.fill_csv.specs.Read.{IsReady, OpensDesk};
+ghost use Rattle.fill_csv.specs.Read.{IsLaid, OpensDesk};
 ghost use Rattle.fill_csv.specs.Said.{IsUnsaved, Says};
 ghost use Rattle.fill_csv.specs.Saved.{StoreAt};
 
@@ -34,6 +36,13 @@ pub struct Folder<C, T> {
     pub store: T,
 }
 
+/// A run that has ended: its status, and the files after it.
+#[derive(Drop)]
+pub struct Ran<C, T> {
+    pub status: u8,
+    pub folder: Folder<C, T>,
+}
+
 /// Runs `fillcsv` with these words, those after the program's name, and answers the status.
 ///
 /// The words name a sheet and the column that is to be filled. What they give for rows and its filled cells are the
@@ -49,41 +58,45 @@ pub struct Folder<C, T> {
 /// | 1 | the whole sheet was written, and some given text is no example, or there is no rule to save, or with `--strict` some cell is neither given nor sure |
 /// | 2 | the words are wrong |
 /// | 3 | a file is not there, or it or the input could not be read |
-/// | 4 | the output or the rule could not be written |
+/// | 4 | the output or the rule could not be written, or the file of the sheet could not be read again |
 /// | 5 | a file or the input is refused, or has no such columns or rows |
 /// | 6 | out of memory |
-pub fn run<C: Cabinet, T: Store, S: Source + Drop, O: Sink, E: Sink>(
+///
+/// The file of the sheet is read again for each pass over it. A file of which nothing is told may change between two passes:
+/// nothing is promised then of what was written, and where a later pass meets a row that cannot be read, or too many rows, the
+/// run ends with 6.
+pub fn run<C: Cabinet + Drop, T: Store + Drop, S: Source + Drop, O: Sink, E: Sink>(
     alloc: Global,
     words: &[String],
-    folder: &mut Folder<C, T>,
+    mut folder: Folder<C, T>,
     mut input: S,
     out: &mut O,
     err: &mut E,
-) -> u8
+) -> Ran<C, T>
     // Where the words ask for a sheet, the run ends as its filling does, with the input at some place where it is asked.
     ensures filled { (asked : AskedData) → asked_in (map string_bytes words.now) ≡ Asks asked →
-        (after : S) × EndsFilled asked (C.files folder.old.cabinet) (heard (S.left input) (S.faults input) (S.faults after)) result (C.faults folder.old.cabinet) (C.faults folder.new.cabinet) (O.written out.old) (O.written out.new)
-        (record { files = T.saved folder.old.store; faults = T.faults folder.old.store }) (record { files = T.saved folder.new.store; faults = T.faults folder.new.store })
+        (after : S) × EndsFilled asked (C.files folder.cabinet) (heard (S.left input) (S.faults input) (S.faults after)) result.status (C.faults folder.cabinet) (C.faults result.folder.cabinet) (O.written out.old) (O.written out.new)
+        (record { files = T.saved folder.store; faults = T.faults folder.store }) (record { files = T.saved result.folder.store; faults = T.faults result.folder.store }) (Rose (O.faults out.old) (O.faults out.new))
         (SaysAfter asked.ask (E.written err.old) (E.written err.new) (E.faults err.old) (E.faults err.new)) }
 
     // Where they name a saved rule, it ends as the run of that rule does, with the input at some place, or memory runs out before.
-    ensures ran { (saved : SavedData) → asked_in (map string_bytes words.now) ≡ Runs saved → OutBefore result (O.written out.old) (O.written out.new) (Says (E.written err.old) (E.written err.new) (E.faults err.old) (E.faults err.new)) ⊎ ((after : S)
-        × RanFile saved.rule (C.files folder.old.cabinet) (C.faults folder.old.cabinet) (C.faults folder.new.cabinet) result (S.left input) (S.left after) (S.faults input) (S.faults after)
+    ensures ran { (saved : SavedData) → asked_in (map string_bytes words.now) ≡ Runs saved → OutBefore result.status (O.written out.old) (O.written out.new) (Says (E.written err.old) (E.written err.new) (E.faults err.old) (E.faults err.new)) ⊎ ((after : S)
+        × RanFile saved.rule (C.files folder.cabinet) (C.faults folder.cabinet) (C.faults result.folder.cabinet) result.status (S.left input) (S.left after) (S.faults input) (S.faults after)
         (O.written out.old) (O.written out.new) (O.faults out.old) (O.faults out.new) (Says (E.written err.old) (E.written err.new) (E.faults err.old) (E.faults err.new))) }
-    ensures stays { (saved : SavedData) → asked_in (map string_bytes words.now) ≡ Runs saved → folder.new.store ≡ folder.old.store }
+    ensures stays { (saved : SavedData) → asked_in (map string_bytes words.now) ≡ Runs saved → result.folder.store ≡ folder.store }
 
     // Where they are wrong, nothing is read and nothing is written to `out`.
-    ensures wrong { asked_in (map string_bytes words.now) ≡ Wrong → EndsWrong result (Says (E.written err.old) (E.written err.new) (E.faults err.old) (E.faults err.new)) × (folder.new ≡ folder.old) × (out.new ≡ out.old) }
+    ensures wrong { asked_in (map string_bytes words.now) ≡ Wrong → EndsWrong result.status (Says (E.written err.old) (E.written err.new) (E.faults err.old) (E.faults err.new)) × (result.folder ≡ folder) × (out.new ≡ out.old) }
 
     // Where they ask for help, nothing is read.
-    ensures shown { asked_in (map string_bytes words.now) ≡ Shows → EndsShown result (Says (E.written err.old) (E.written err.new) (E.faults err.old) (E.faults err.new)) × (folder.new ≡ folder.old) }
+    ensures shown { asked_in (map string_bytes words.now) ≡ Shows → EndsShown result.status (Says (E.written err.old) (E.written err.new) (E.faults err.old) (E.faults err.new)) × (result.folder ≡ folder) }
 
     // Where they ask for quiet, nothing is said of a sheet that was written.
-    ensures silent { (asked : AskedData) → asked_in (map string_bytes words.now) ≡ Asks asked → asked.quiet ≡ true → result ≤ 1 → err.new ≡ err.old }
+    ensures silent { (asked : AskedData) → asked_in (map string_bytes words.now) ≡ Asks asked → asked.quiet ≡ true → result.status ≤ 1 → err.new ≡ err.old }
 
-    ensures fault { result ≡ 4 → Rose (O.faults out.old) (O.faults out.new) ⊎ Rose (T.faults folder.old.store) (T.faults folder.new.store) }
-    ensures statuses { result ≤ 6 }
-    ensures files { C.files folder.new.cabinet ≡ C.files folder.old.cabinet }
+    ensures fault { result.status ≡ 4 → Rose (O.faults out.old) (O.faults out.new) ⊎ Rose (T.faults folder.store) (T.faults result.folder.store) ⊎ ((asked : AskedData) × (asked_in (map string_bytes words.now) ≡ Asks asked) × Rose (C.faults folder.cabinet asked.file) (C.faults result.folder.cabinet asked.file)) }
+    ensures statuses { result.status ≤ 6 }
+    ensures files { C.files result.folder.cabinet ≡ C.files folder.cabinet }
 {
     match read_words(alloc, words) {
         Ok(Order::Fill(asked)) => fill_sheet(alloc, &asked, folder, &mut input, out, err),
@@ -92,75 +105,107 @@ pub fn run<C: Cabinet, T: Store, S: Source + Drop, O: Sink, E: Sink>(
                 name: saved.rule.as_str(),
                 quiet: saved.quiet,
             };
-            run_rule_file(alloc, file, &mut folder.cabinet, input, out, err).status
+            let status = run_rule_file(alloc, file, &mut folder.cabinet, input, out, err).status;
+            Ran { status, folder }
         }
         Err(Refusal::Usage(text)) => {
             let _ = write_all(err, text.as_bytes());
-            2
+            Ran { status: 2, folder }
         }
-        Err(Refusal::Shown(text)) => show(text.as_str(), out, err),
+        Err(Refusal::Shown(text)) => {
+            let status = show(text.as_str(), out, err);
+            Ran { status, folder }
+        }
         Err(Refusal::NoMemory) => {
             say(err, MEMORY_LINE);
-            6
+            Ran { status: 6, folder }
         }
     }
 }
 
 /// Fills the column that the words ask for, saves the rule where they ask for it, and answers the status.
-fn fill_sheet<C: Cabinet, T: Store, S: Source, O: Sink, E: Sink>(
+fn fill_sheet<C: Cabinet + Drop, T: Store, S: Source, O: Sink, E: Sink>(
     alloc: Global,
     asked: &Asked,
-    folder: &mut Folder<C, T>,
+    folder: Folder<C, T>,
     input: &mut S,
     out: &mut O,
     err: &mut E,
-) -> u8
+) -> Ran<C, T>
     requires lookups { All IsLookup (map lookup_data asked.now.lookups.items) }
     requires loud { asked.now.quiet ≡ true → asked.now.ask ≡ false }
-    ensures ends { EndsFilled (data_of asked.now) (C.files folder.old.cabinet) (heard (S.left input.old) (S.faults input.old) (S.faults input.new)) result (C.faults folder.old.cabinet) (C.faults folder.new.cabinet) (O.written out.old) (O.written out.new)
-        (record { files = T.saved folder.old.store; faults = T.faults folder.old.store }) (record { files = T.saved folder.new.store; faults = T.faults folder.new.store })
+    ensures ends { EndsFilled (data_of asked.now) (C.files folder.cabinet) (heard (S.left input.old) (S.faults input.old) (S.faults input.new)) result.status (C.faults folder.cabinet) (C.faults result.folder.cabinet) (O.written out.old) (O.written out.new)
+        (record { files = T.saved folder.store; faults = T.faults folder.store }) (record { files = T.saved result.folder.store; faults = T.faults result.folder.store }) (Rose (O.faults out.old) (O.faults out.new))
         (SaysAfter asked.now.ask (E.written err.old) (E.written err.new) (E.faults err.old) (E.faults err.new)) }
-    ensures silent { asked.now.quiet ≡ true → result ≤ 1 → err.new ≡ err.old }
-    ensures fault { result ≡ 4 → Rose (O.faults out.old) (O.faults out.new) ⊎ Rose (T.faults folder.old.store) (T.faults folder.new.store) }
-    ensures statuses { result ≤ 6 }
-    ensures files { C.files folder.new.cabinet ≡ C.files folder.old.cabinet }
+    ensures silent { asked.now.quiet ≡ true → result.status ≤ 1 → err.new ≡ err.old }
+    ensures fault { result.status ≡ 4 → Rose (O.faults out.old) (O.faults out.new) ⊎ Rose (T.faults folder.store) (T.faults result.folder.store) ⊎ Rose (C.faults folder.cabinet (data_of asked.now).file) (C.faults result.folder.cabinet (data_of asked.now).file) }
+    ensures statuses { result.status ≤ 6 }
+    ensures files { C.files result.folder.cabinet ≡ C.files folder.cabinet }
 {
-    let desk = match open_desk(alloc, asked, &mut folder.cabinet, err) {
+    let Folder { cabinet, mut store } = folder;
+    let (cabinet, desk) = open_desk(alloc, asked, cabinet, err);
+    let desk = match desk {
         Ok(desk) => desk,
-        Err(status) => return status,
+        Err(status) => {
+            return Ran {
+                status,
+                folder: Folder { cabinet, store },
+            };
+        }
     };
-    match fill::<S, O, E, Brand>(alloc, desk, input, out, err, Blank::new(1)) {
-        Ok(told) => end(alloc, asked, &told, &mut folder.store, err),
-        Err(status) => status,
+    let (cabinet, told) = fill::<C, S, O, E, Brand>(
+        alloc,
+        desk,
+        cabinet,
+        input,
+        out,
+        err,
+        Blank::new(1),
+    );
+    match told {
+        Ok(told) => {
+            let status = end(alloc, asked, &told, &mut store, err);
+            Ran {
+                status,
+                folder: Folder { cabinet, store },
+            }
+        }
+        Err(status) => Ran {
+            status,
+            folder: Folder { cabinet, store },
+        },
     }
 }
 
-/// Opens the sheet that the words name. Where that fails, the line that says why is written, and the answer is the status.
-fn open_desk<C: Cabinet, E: Sink>(
+/// Opens the sheet that the words name. Where that fails, the line that says why is written, and the answer is the status. The
+/// cabinet is given back.
+fn open_desk<C: Cabinet + Drop, E: Sink>(
     alloc: Global,
     asked: &Asked,
-    cabinet: &mut C,
+    cabinet: C,
     err: &mut E,
-) -> Result<Desk, u8>
+) -> (C, Result<Desk, u8>)
     requires { All IsLookup (map lookup_data asked.now.lookups.items) }
-    ensures ready { IfOk result IsReady }
-    ensures opened { IfOk result (OpensDesk (data_of asked.now) (C.files cabinet.old)) }
-    ensures silent { IsOk result → err.new ≡ err.old }
-    ensures fails { IfErr result (λ status. (input : Heard) (old : Option (Listed ℕ)) (store : StoreAt) → EndsFilled (data_of asked.now) (C.files cabinet.old) input status (C.faults cabinet.old) (C.faults cabinet.new) old old store store
+    ensures laid { IfOk result.1 IsLaid }
+    ensures there { IfOk result.1 (λ desk. IsThere (C.files cabinet) (string_bytes desk.file) LAST_PLACE) }
+    ensures opened { IfOk result.1 (OpensDesk (data_of asked.now) (C.files cabinet)) }
+    ensures silent { IsOk result.1 → err.new ≡ err.old }
+    ensures fails { IfErr result.1 (λ status. (input : Heard) (old : Option (Listed ℕ)) (store : StoreAt) → EndsFilled (data_of asked.now) (C.files cabinet) input status (C.faults cabinet) (C.faults result.0) old old store store ⊥
         (SaysAfter asked.now.ask (E.written err.old) (E.written err.new) (E.faults err.old) (E.faults err.new))) }
-    ensures statuses { IfErr result (λ status. (2 ≤ status) × (status ≤ 6) × (status ≢ 4)) }
-    ensures files { C.files cabinet.new ≡ C.files cabinet.old }
+    ensures statuses { IfErr result.1 (λ status. (2 ≤ status) × (status ≤ 6) × (status ≢ 4)) }
+    ensures files { C.files result.0 ≡ C.files cabinet }
+    ensures later { NoneFell (C.faults cabinet) (C.faults result.0) }
 {
-    let read = match open_sheet(alloc, cabinet, asked) {
-        Ok(read) => read,
-        Err(stop) => return Err(tell(alloc, err, &stop)),
-    };
-    match Desk::of(alloc, asked, read) {
-        Ok(desk) => Ok(desk),
-        Err(NoMemory) => {
-            say(err, MEMORY_LINE);
-            Err(6)
-        }
+    let (cabinet, read) = open_sheet(alloc, cabinet, asked);
+    match read {
+        Ok(read) => match Desk::of(alloc, asked, read) {
+            Ok(desk) => (cabinet, Ok(desk)),
+            Err(NoMemory) => {
+                say(err, MEMORY_LINE);
+                (cabinet, Err(6))
+            }
+        },
+        Err(stop) => (cabinet, Err(tell(alloc, err, &stop))),
     }
 }
 

@@ -1,12 +1,14 @@
 //! A sheet that is ready to be filled.
-ghost use Rattle.std.specs.Prelude.{◌≡◌, ◌≤◌, [], IfOk, OnOk, false};
+ghost use Rattle.std.specs.Prelude.{◌≡◌, ◌≤◌, ℕ, List as Listed, [], IfOk, IsErrOf, OnOk, false, string_bytes, true};
+ghost use Rattle.fill_edge.specs.Outside.{NoneFell, Rose};
+ghost use Rattle.fill_passes.specs.Files.{IsTold};
 ghost use Rattle.fill_tree.specs.Grammar.{AreSettings};
 ghost use Rattle.fill_words.specs.Words.{data_of};
 ghost use Rattle.fill_csv.specs.Ground.{profile_of, settings_of};
 ghost use Rattle.fill_ask.specs.Told.{Grew};
-ghost use Rattle.fill_csv.specs.Asking.{AreTyped, heard};
-ghost use Rattle.fill_csv.specs.Pages.{page_of, with_typed};
-ghost use Rattle.fill_csv.specs.Read.{AreParts, IsReady, page_data, read_data};
+ghost use Rattle.fill_csv.specs.Asking.{heard};
+ghost use Rattle.fill_csv.specs.Pages.{page_of};
+ghost use Rattle.fill_csv.specs.Read.{AreChosen, AreParts, IsAsked, IsLaid, IsReady, page_data, read_data};
 
 use crate::columns::output_of;
 use crate::explain::Spoken;
@@ -15,7 +17,7 @@ use crate::opening::{MOST_RECORDS, SheetFile};
 use crate::saving::{RuleFrame, saving_of};
 use fill_ask::{Topic, ask};
 use fill_columns::Choice;
-use fill_edge::{Ledger, Sink, Steps};
+use fill_edge::{Cabinet, LAST_PLACE, Ledger, ReadError, Sink, Steps, read_all};
 use fill_filled::Form;
 use fill_session::Session;
 use fill_sheet::Sheet;
@@ -54,8 +56,8 @@ impl Doubts {
 /// A sheet that is ready to be filled.
 #[derive(Drop)]
 pub(crate) struct Desk {
-    /// The bytes of its file.
-    pub bytes: List<u8>,
+    /// The name of its file.
+    pub file: String,
     /// Whether the first record names the columns.
     pub header: bool,
     /// The columns that rules may read, and the one that is filled.
@@ -85,24 +87,26 @@ pub(crate) struct Desk {
 impl Desk {
     /// The sheet that was read, for what the words ask.
     pub(crate) fn of(alloc: Global, asked: &Asked, read: SheetFile) -> Result<Desk, NoMemory>
-        requires { AreParts (data_of asked.now) read }
-        ensures page { IfOk result (λ desk. page_data desk ≡ page_of (data_of asked.now) (read_data (data_of asked.now) read)) }
-        ensures ready { IfOk result IsReady }
+        requires { AreChosen read.choice }
+        ensures laid { IfOk result IsLaid }
+        ensures page { (bytes : Listed ℕ) → AreParts (data_of asked.now) bytes read → IfOk result (λ desk. page_data bytes desk ≡ page_of (data_of asked.now) (read_data (data_of asked.now) bytes read)) }
+        ensures ready { (bytes : Listed ℕ) → AreParts (data_of asked.now) bytes read → IfOk result (IsReady bytes) }
+        ensures file { IfOk result (λ desk. string_bytes desk.file ≡ string_bytes asked.now.file) }
         ensures asks { IfOk result (λ desk. desk.ask ≡ asked.now.ask) }
     {
         let form = head::form_of(asked, &read);
         let head = head::head_of(alloc, asked, &read, &form)?;
         let saving = saving_of(alloc, asked, &read)?;
         let spoken = Spoken::of(alloc, asked, &read)?;
+        let file = String::from_str(alloc, asked.file.as_str())?;
         let SheetFile {
-            bytes,
             choice,
             typed,
             tables,
             ..
         } = read;
         Ok(Desk {
-            bytes,
+            file,
             header: asked.header,
             output: output_of(asked.replace, choice.to),
             choice,
@@ -119,26 +123,58 @@ impl Desk {
     }
 
     /// Asks about the cells in doubt, where that is wanted: the replies are typed texts beside those that the words give. The
-    /// whole sheet stands in memory for it.
-    pub(crate) fn ask_about<S: Source, E: Sink, L: Ledger>(
+    /// whole sheet stands in memory for it. A read that fails is answered as memory that ran out is.
+    pub(crate) fn ask_about<C: Cabinet, S: Source, E: Sink, L: Ledger>(
         &mut self,
         alloc: Global,
+        cabinet: &mut C,
         input: &mut S,
         err: &mut E,
         steps: &mut Steps<L>,
-    ) -> Result<(), NoMemory>
-        requires { IsReady self.old }
-        ensures ready { OnOk result (IsReady self.new) }
-        ensures page { OnOk result (page_data self.new ≡ with_typed (page_data self.old) self.new.typed) }
-        ensures typed { OnOk result (AreTyped self.old.ask (page_data self.old).over self.old.typed (heard (S.left input.old) (S.faults input.old) (S.faults input.new)) self.new.typed) }
+    ) -> Result<(), Unasked>
+        requires { IsLaid self.old }
+        ensures laid { OnOk result (IsLaid self.new) }
+        ensures same { (self.new.file ≡ self.old.file) × (self.new.ask ≡ self.old.ask) }
+        ensures asked { (bytes : Listed ℕ) → IsTold (C.files cabinet.old) (string_bytes self.old.file) bytes → IsReady bytes self.old →
+            OnOk result (IsAsked bytes self.old.ask self.old self.new (heard (S.left input.old) (S.faults input.old) (S.faults input.new))) }
         ensures silent { self.old.ask ≡ false → err.new ≡ err.old }
         ensures grew { Grew (E.written err.old) (E.written err.new) (E.faults err.old) (E.faults err.new) }
+        ensures files { C.files cabinet.new ≡ C.files cabinet.old }
+        ensures later { NoneFell (C.faults cabinet.old) (C.faults cabinet.new) }
+        ensures failed { IsErrOf result Unasked.Unread → Rose (C.faults cabinet.old (string_bytes self.old.file)) (C.faults cabinet.new (string_bytes self.old.file)) }
     {
         if !self.ask {
             return Ok(());
         }
+        let bytes = match read_all(alloc, cabinet, self.file.as_str(), LAST_PLACE) {
+            Ok(bytes) => bytes,
+            Err(ReadError::ReadFault) => return Err(Unasked::Unread),
+            Err(_) => return Err(Unasked::NoMemory),
+        };
+        match self.ask_over(alloc, bytes.as_slice(), input, err, steps) {
+            Ok(()) => Ok(()),
+            Err(NoMemory) => Err(Unasked::NoMemory),
+        }
+    }
+
+    /// Asks about the cells in doubt of a sheet of these bytes.
+    fn ask_over<S: Source, E: Sink, L: Ledger>(
+        &mut self,
+        alloc: Global,
+        bytes: &[u8],
+        input: &mut S,
+        err: &mut E,
+        steps: &mut Steps<L>,
+    ) -> Result<(), NoMemory>
+        requires { IsLaid self.old }
+        ensures laid { OnOk result (IsLaid self.new) }
+        ensures same { (self.new.file ≡ self.old.file) × (self.new.ask ≡ self.old.ask) }
+        ensures asked { IsReady bytes.now self.old →
+            OnOk result (IsAsked bytes.now true self.old self.new (heard (S.left input.old) (S.faults input.old) (S.faults input.new))) }
+        ensures grew { Grew (E.written err.old) (E.written err.new) (E.faults err.old) (E.faults err.new) }
+    {
         let tables = mem::replace(&mut self.tables, Tables::new(alloc));
-        let mut session = self.open_session(alloc, tables)?;
+        let mut session = self.open_session(alloc, bytes, tables)?;
         let topic = Topic {
             words: self.typed.as_slice(),
             columns: self.spoken.columns(),
@@ -150,20 +186,28 @@ impl Desk {
         Ok(())
     }
 
-    /// A session over all rows of the sheet, with these tables.
-    fn open_session(&self, alloc: Global, tables: Tables) -> Result<Session, NoMemory>
-        requires { IsReady self.now }
-        ensures over { IfOk result (λ session. session.spaces.ground ≡ record { settings = self.now.settings; sheet = (page_data self.now).over.sheet; tables = tables }) }
+    /// A session over all rows of a sheet of these bytes, with these tables.
+    fn open_session(&self, alloc: Global, bytes: &[u8], tables: Tables) -> Result<Session, NoMemory>
+        requires { IsLaid self.now }
+        ensures over { IsReady bytes.now self.now → IfOk result (λ session. session.spaces.ground ≡ record { settings = self.now.settings; sheet = (page_data bytes.now self.now).over.sheet; tables = tables }) }
         ensures empty { IfOk result (λ session. session.examples ≡ []) }
     {
-        let bytes = self.bytes.as_slice();
         let inputs = &self.choice.from;
         match Sheet::read_up_to(alloc, MOST_RECORDS, bytes, self.header, inputs, self.output) {
             Ok(sheet) => Session::new(alloc, self.settings, sheet, tables),
-            // its rows can be read, so that only memory can be short
+            // its rows could be read, so that only memory can be short, if the file is the same
             Err(_) => Err(NoMemory),
         }
     }
+}
+
+/// Why cells were not asked about.
+#[derive(Clone, Copy, Debug, PartialEq, Eq)]
+pub(crate) enum Unasked {
+    /// The file could not be read again.
+    Unread,
+    /// Out of memory.
+    NoMemory,
 }
 
 /// The settings that words ask for, by the number of the profile and how many lookups may stand inside each other.

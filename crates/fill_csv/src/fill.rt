@@ -1,138 +1,208 @@
 //! Filling a sheet.
-ghost use Rattle.std.specs.Prelude.{◌≡◌, List as Listed, IfErr, IfOk, IsErrOf, IsOk, None, false, option_map};
-ghost use Rattle.fill_edge.specs.Outside.{Rose};
+ghost use Rattle.std.specs.Prelude.{◌≡◌, ℕ, List as Listed, IfErr, IfOk, IsErrOf, IsOk, None, Option, Some, false, option_map, string_bytes, true};
+ghost use Rattle.fill_edge.specs.declared.outside.TheConstants.{LAST_PLACE};
+ghost use Rattle.fill_edge.specs.Outside.{NoneFell, Rose};
+ghost use Rattle.fill_passes.specs.Files.{IsThere, IsTold, told_bytes};
+ghost use Rattle.fill_records.specs.Records.{records_of};
+ghost use Rattle.fill_text.specs.Data.{TableData};
 ghost use Rattle.fill_tree.specs.declared.user.Example.{Example};
+ghost use Rattle.fill_tree.specs.declared.user.TheConstants.{MOST_EXAMPLES};
 ghost use Rattle.fill_space.specs.declared.ground.Ground.{Ground};
 ghost use Rattle.fill_blocks.specs.Blocks.{StandsFor};
-ghost use Rattle.fill_filled.specs.Learned.{AreLearned};
-ghost use Rattle.fill_long.specs.Long.{IsLong, ground_of};
-ghost use Rattle.fill_long.specs.Taught.{IsTaught, tables_of};
+ghost use Rattle.fill_long.specs.Long.{AreFit, IsLong, IsSet, LongData, long_of};
+ghost use Rattle.fill_long.specs.Taught.{Teaches, tables_of};
 ghost use Rattle.fill_ask.specs.Told.{Grew};
 ghost use Rattle.fill_csv.specs.Asking.{SaysAfter, heard};
-ghost use Rattle.fill_csv.specs.Pages.{FailsPage, FillsPage, FillsPart, FillsRows, IsBegun, IsDone, IsPart};
+ghost use Rattle.fill_csv.specs.Filling.{EndsDesk, EndsPage, EndsSheet, FailsDesk, OfPage};
+ghost use Rattle.fill_csv.specs.Pages.{FillsPage};
+ghost use Rattle.fill_csv.specs.Said.{Says};
 ghost use Rattle.fill_csv.specs.Saved.{IsSavedText};
-ghost use Rattle.fill_csv.specs.Read.{IsFilled, IsReady, frame_data, page_data, page_over};
+ghost use Rattle.fill_csv.specs.Unfilled.{TellsUnfilled, unfilled_by};
+ghost use Rattle.fill_csv.specs.Read.{IsLaid, IsReady, frame_data, page_data, page_over};
 
-use crate::desk::{Desk, Doubts};
+use crate::desk::{Desk, Doubts, Unasked};
 use crate::explain::{Speech, Spoken};
+use crate::lines::unread_line;
 use crate::saving::{RuleFrame, saved_text};
 use crate::stop::{MEMORY_LINE, OUTPUT_LINE, say};
 use crate::told::Told;
 use fill_blocks::Block;
-use fill_edge::{Ledger, Sink, Steps};
+use fill_edge::{Cabinet, Ledger, Sink, Steps};
 use fill_filled::Summary;
 use fill_long::{Basis, Learned, LongSheet, learn, write};
+use fill_passes::{FileReader, Origin, Pass};
 use fill_report::Halt;
 use fill_stream::Source;
 use fill_tables::Tables;
 use fill_text::NoMemory;
-use std::alloc::Global;
+use std::alloc::{AllocError, Global};
+use std::marker::Brand;
+use std::mem;
 use std::sync::ledger::Blank;
 
 /// Fills the column of a sheet, and writes it; where that is wanted, the cells in doubt are asked about first. Where it fails, the
-/// line that says why is written too, and the answer is the status.
-pub(crate) fn fill<S: Source, O: Sink, E: Sink, L: Ledger>(
+/// line that says why is written too, and the answer is the status. The cabinet is given back.
+pub(crate) fn fill<C: Cabinet + Drop, S: Source, O: Sink, E: Sink, L: Ledger>(
     alloc: Global,
-    desk: Desk,
+    mut desk: Desk,
+    cabinet: C,
     input: &mut S,
     out: &mut O,
     err: &mut E,
     blank: Blank,
-) -> Result<Told, u8>
+) -> (C, Result<Told, u8>)
     requires name { blank.name ≡ L.name }
     requires parts { blank.parts ≡ L.parts }
     requires one { blank.parts ≡ 1 }
-    requires ready { IsReady desk }
-    ensures filled { IfOk result (λ told. FillsPage desk.ask (page_data desk) (heard (S.left input.old) (S.faults input.old) (S.faults input.new)) (O.written out.old) (O.written out.new) told.refused told.summary.unsure told.text) }
-    ensures silent { IsOk result → desk.ask ≡ false → err.new ≡ err.old }
-    ensures grew { IsOk result → Grew (E.written err.old) (E.written err.new) (E.faults err.old) (E.faults err.new) }
-    ensures fails { IfErr result (λ status. FailsPage status desk.ask (page_data desk) (heard (S.left input.old) (S.faults input.old) (S.faults input.new)) (O.written out.old) (O.written out.new)
+    requires laid { IsLaid desk }
+    requires there { IsThere (C.files cabinet) (string_bytes desk.file) LAST_PLACE }
+    ensures filled { IfOk result.1 (λ told. OfPage (C.files cabinet) desk (λ p. FillsPage desk.ask p (heard (S.left input.old) (S.faults input.old) (S.faults input.new)) (O.written out.old) (O.written out.new) told.refused told.summary.unsure told.text)) }
+    ensures silent { IsOk result.1 → desk.ask ≡ false → err.new ≡ err.old }
+    ensures grew { IsOk result.1 → Grew (E.written err.old) (E.written err.new) (E.faults err.old) (E.faults err.new) }
+    ensures fails { IfErr result.1 (λ status. FailsDesk status (C.files cabinet) desk (Rose (O.faults out.old) (O.faults out.new)) (Rose (C.faults cabinet (string_bytes desk.file)) (C.faults result.0 (string_bytes desk.file))) (heard (S.left input.old) (S.faults input.old) (S.faults input.new)) (O.written out.old) (O.written out.new)
         (SaysAfter desk.ask (E.written err.old) (E.written err.new) (E.faults err.old) (E.faults err.new))) }
-    ensures fault { IsErrOf result 4 → Rose (O.faults out.old) (O.faults out.new) }
+    ensures files { C.files result.0 ≡ C.files cabinet }
+    ensures later { NoneFell (C.faults cabinet) (C.faults result.0) }
 {
     let (book, share) = blank.open::<L>();
     let mut steps = Steps::new(book, share);
-    match fill_desk(alloc, desk, input, out, err, &mut steps) {
-        Ok(told) => Ok(told),
-        Err(Halt::Fault) => {
+    let (cabinet, done) = fill_desk(alloc, &mut desk, cabinet, input, out, err, &mut steps);
+    match done {
+        Ok(told) => (cabinet, Ok(told)),
+        Err(why) => (
+            cabinet,
+            Err(tell_unfilled(alloc, desk.file.as_str(), why, err)),
+        ),
+    }
+}
+
+/// Why a sheet was not filled.
+#[derive(Clone, Copy, Debug, PartialEq, Eq)]
+pub(crate) enum Unfilled {
+    /// A write failed.
+    Unwritten,
+    /// The file could not be read again.
+    Unread,
+    /// Out of memory.
+    NoMemory,
+}
+
+/// Tells why a sheet was not filled, and answers the status. Where there is no memory for the line of a file that could not be
+/// read again, it is that of memory.
+fn tell_unfilled<E: Sink>(alloc: Global, file: &str, why: Unfilled, err: &mut E) -> u8
+    ensures { TellsUnfilled file.now why result (Says (E.written err.old) (E.written err.new) (E.faults err.old) (E.faults err.new)) }
+{
+    match why {
+        Unfilled::Unwritten => {
             say(err, OUTPUT_LINE);
-            Err(4)
+            4
         }
-        Err(Halt::NoMemory) => {
+        Unfilled::Unread => match unread_line(alloc, file) {
+            Ok(line) => {
+                say(err, line.as_bytes());
+                4
+            }
+            Err(AllocError) => {
+                say(err, MEMORY_LINE);
+                6
+            }
+        },
+        Unfilled::NoMemory => {
             say(err, MEMORY_LINE);
-            Err(6)
+            6
         }
     }
 }
 
-/// Asks about the cells in doubt, where that is wanted, and writes the sheet.
-fn fill_desk<S: Source, O: Sink, E: Sink, L: Ledger>(
+/// Asks about the cells in doubt, where that is wanted, and writes the sheet. The cabinet is given back.
+fn fill_desk<C: Cabinet + Drop, S: Source, O: Sink, E: Sink, L: Ledger>(
     alloc: Global,
-    mut desk: Desk,
+    desk: &mut Desk,
+    mut cabinet: C,
     input: &mut S,
     out: &mut O,
     err: &mut E,
     steps: &mut Steps<L>,
-) -> Result<Told, Halt>
-    requires { IsReady desk }
-    ensures done { IfOk result (λ told. FillsPage desk.ask (page_data desk) (heard (S.left input.old) (S.faults input.old) (S.faults input.new)) (O.written out.old) (O.written out.new) told.refused told.summary.unsure told.text) }
-    ensures silent { desk.ask ≡ false → err.new ≡ err.old }
+) -> (C, Result<Told, Unfilled>)
+    requires laid { IsLaid desk.old }
+    requires there { IsThere (C.files cabinet) (string_bytes desk.old.file) LAST_PLACE }
+    ensures ends { OfPage (C.files cabinet) desk.old (λ p. EndsDesk desk.old.ask p (heard (S.left input.old) (S.faults input.old) (S.faults input.new)) (O.written out.old) (O.written out.new) result.1) }
+    ensures silent { desk.old.ask ≡ false → err.new ≡ err.old }
     ensures grew { Grew (E.written err.old) (E.written err.new) (E.faults err.old) (E.faults err.new) }
-    ensures part { IsErrOf result Halt.Fault → FillsPart desk.ask (page_data desk) (heard (S.left input.old) (S.faults input.old) (S.faults input.new)) (O.written out.old) (O.written out.new) }
-    ensures fault { IsErrOf result Halt.Fault → Rose (O.faults out.old) (O.faults out.new) }
-    ensures memory { IsErrOf result Halt.NoMemory → FillsRows desk.ask (page_data desk) (heard (S.left input.old) (S.faults input.old) (S.faults input.new)) (O.written out.old) (O.written out.new) }
+    ensures fault { IsErrOf result.1 Unfilled.Unwritten → Rose (O.faults out.old) (O.faults out.new) }
+    ensures unread { IsErrOf result.1 Unfilled.Unread → Rose (C.faults cabinet (string_bytes desk.old.file)) (C.faults result.0 (string_bytes desk.old.file)) }
+    ensures file { desk.new.file ≡ desk.old.file }
+    ensures files { C.files result.0 ≡ C.files cabinet }
+    ensures later { NoneFell (C.faults cabinet) (C.faults result.0) }
 {
-    match desk.ask_about(alloc, input, err, steps) {
-        Ok(()) => write_desk(alloc, desk, out, steps),
-        Err(NoMemory) => Err(Halt::NoMemory),
+    match desk.ask_about(alloc, &mut cabinet, input, err, steps) {
+        Ok(()) => {}
+        Err(Unasked::Unread) => return (cabinet, Err(Unfilled::Unread)),
+        Err(Unasked::NoMemory) => return (cabinet, Err(Unfilled::NoMemory)),
+    }
+    let (cabinet, failed, done) = write_desk::<C, Brand, O, L>(alloc, desk, cabinet, out, steps);
+    match done {
+        Ok(told) => (cabinet, Ok(told)),
+        Err(halt) => (cabinet, Err(unfilled_by(halt, failed))),
     }
 }
 
-/// Writes the sheet with its column filled, and makes what is told of it.
-fn write_desk<O: Sink, L: Ledger>(
+/// Why a sheet was not filled whose writing ended so, where it is known whether a read of the file failed.
+fn unfilled_by(halt: Halt, failed: bool) -> Unfilled
+    ensures { result ≡ unfilled_by halt failed }
+{
+    match halt {
+        Halt::Fault => Unfilled::Unwritten,
+        Halt::NoMemory => {
+            if failed {
+                Unfilled::Unread
+            } else {
+                Unfilled::NoMemory
+            }
+        }
+    }
+}
+
+/// Writes the sheet with its column filled, and makes what is told of it. Answers too whether a read of the file failed.
+fn write_desk<C: Cabinet + Drop, B: Origin, O: Sink, L: Ledger>(
     alloc: Global,
-    desk: Desk,
+    desk: &mut Desk,
+    cabinet: C,
     out: &mut O,
     steps: &mut Steps<L>,
-) -> Result<Told, Halt>
-    requires { IsReady desk }
-    ensures done { IfOk result (λ told. IsDone (O.written out.old) (O.written out.new) (page_data desk) told.refused told.summary.unsure told.text) }
-    ensures part { IsErrOf result Halt.Fault → IsPart (O.written out.old) (O.written out.new) (page_data desk) }
-    ensures fault { IsErrOf result Halt.Fault → Rose (O.faults out.old) (O.faults out.new) }
-    ensures memory { IsErrOf result Halt.NoMemory → IsBegun (O.written out.old) (O.written out.new) (page_data desk) }
+) -> (C, bool, Result<Told, Halt>)
+    requires laid { IsLaid desk.old }
+    requires files { B.files ≡ C.files cabinet }
+    requires before { B.before ≡ C.faults cabinet }
+    requires name { B.name ≡ string_bytes desk.old.file }
+    requires there { IsThere (C.files cabinet) (string_bytes desk.old.file) LAST_PLACE }
+    ensures ends { (bytes : Listed ℕ) → IsTold B.files B.name bytes → IsReady bytes desk.old → EndsPage (O.written out.old) (O.written out.new) (page_data bytes desk.old) result.2 }
+    ensures fault { IsErrOf result.2 Halt.Fault → Rose (O.faults out.old) (O.faults out.new) }
+    ensures failed { result.1 ≡ true → Rose (B.before B.name) (C.faults result.0 B.name) }
+    ensures file { desk.new.file ≡ desk.old.file }
+    ensures files { C.files result.0 ≡ C.files cabinet }
+    ensures later { NoneFell (C.faults cabinet) (C.faults result.0) }
 {
-    let Desk {
-        bytes,
-        header,
-        choice,
-        output,
-        tables,
-        settings,
-        typed,
-        form,
-        head,
-        saving,
-        spoken,
-        doubts,
-        ..
-    } = desk;
-    let sheet = LongSheet {
-        bytes: bytes.as_slice(),
-        header,
-        inputs: &choice.from,
-        output,
-        typed: typed.as_slice(),
-        settings,
-        form,
-        head: head.as_slice(),
+    let name = match String::from_str(alloc, desk.file.as_str()) {
+        Ok(name) => name,
+        Err(_) => return (cabinet, false, Err(Halt::NoMemory)),
     };
-    match write_sheet(alloc, &sheet, tables, out, steps) {
-        Ok(filled) => match told_of(alloc, filled, saving, &spoken, doubts) {
-            Ok(told) => Ok(told),
-            Err(NoMemory) => Err(Halt::NoMemory),
-        },
-        Err(halt) => Err(halt),
-    }
+    let tables = mem::replace(&mut desk.tables, Tables::new(alloc));
+    let saving = desk.saving.take();
+    let pass = Pass::new(alloc, FileReader::<C, B>::new(cabinet, name));
+    let sheet = LongSheet {
+        header: desk.header,
+        inputs: &desk.choice.from,
+        output: desk.output,
+        typed: desk.typed.as_slice(),
+        settings: desk.settings,
+        form: desk.form,
+        head: desk.head.as_slice(),
+    };
+    let (pass, filled) = write_sheet(alloc, pass, &sheet, tables, out, steps);
+    let (cabinet, failed) = pass.into_cabinet();
+    let told = told_after(alloc, filled, saving, &desk.spoken, desk.doubts);
+    (cabinet, failed, told)
 }
 
 /// A sheet that was written with its column filled.
@@ -146,50 +216,76 @@ struct Filled {
     block: Block,
 }
 
-/// Learns from a sheet, and writes it with its column filled.
-fn write_sheet<O: Sink, L: Ledger>(
+/// Learns from a sheet in one pass over its file, and writes it with its column filled in the next one.
+fn write_sheet<C: Cabinet + Drop, B: Origin, O: Sink, L: Ledger>(
     alloc: Global,
+    mut pass: Pass<C, B>,
     sheet: &LongSheet<'_>,
     tables: Tables,
     out: &mut O,
     steps: &mut Steps<L>,
-) -> Result<Filled, Halt>
-    requires { IsLong sheet.now }
-    ensures done { IfOk result (IsFilled (O.written out.old) (O.written out.new) (page_over sheet.now tables None)) }
-    ensures part { IsErrOf result Halt.Fault → IsPart (O.written out.old) (O.written out.new) (page_over sheet.now tables None) }
-    ensures fault { IsErrOf result Halt.Fault → Rose (O.faults out.old) (O.faults out.new) }
-    ensures memory { IsErrOf result Halt.NoMemory → IsBegun (O.written out.old) (O.written out.new) (page_over sheet.now tables None) }
+) -> (Pass<C, B>, Result<Filled, Halt>)
+    requires fresh { pass ≡ option_map records_of (told_bytes B.files B.name) }
+    requires set { IsSet sheet.now }
+    ensures ends { (bytes : Listed ℕ) → IsTold B.files B.name bytes → let s = long_of bytes sheet.now in IsLong s →
+        EndsSheet (O.written out.old) (O.written out.new) (page_over s tables None) result.1 }
+    ensures fault { IsErrOf result.1 Halt.Fault → Rose (O.faults out.old) (O.faults out.new) }
 {
-    match learn(alloc, sheet, tables, steps) {
-        Ok((learned, basis)) => write_learned(alloc, sheet, learned, basis, out, steps),
-        Err(NoMemory) => Err(Halt::NoMemory),
+    let learned = learn(alloc, &mut pass, sheet, tables, steps);
+    let mut pass = pass.again(alloc);
+    match learned {
+        Ok((learned, basis)) => {
+            let filled = write_learned(alloc, &mut pass, sheet, learned, basis, out, steps);
+            (pass, filled)
+        }
+        Err(NoMemory) => (pass, Err(Halt::NoMemory)),
     }
 }
 
 /// Writes a sheet with its column filled by what its rows taught.
-fn write_learned<O: Sink, L: Ledger>(
+fn write_learned<C: Cabinet + Drop, B: Origin, O: Sink, L: Ledger>(
     alloc: Global,
+    pass: &mut Pass<C, B>,
     sheet: &LongSheet<'_>,
     learned: Learned,
     basis: Basis,
     out: &mut O,
     steps: &mut Steps<L>,
 ) -> Result<Filled, Halt>
-    requires long { IsLong sheet.now }
-    requires taught { IsTaught sheet.now learned basis }
-    requires learned { AreLearned sheet.now.typed.now (ground_of sheet.now (tables_of basis)) learned.examples learned.refused }
-    ensures done { IfOk result (IsFilled (O.written out.old) (O.written out.new) (page_over sheet.now (tables_of basis) None)) }
-    ensures part { IsErrOf result Halt.Fault → IsPart (O.written out.old) (O.written out.new) (page_over sheet.now (tables_of basis) None) }
+    requires set { IsSet sheet.now }
+    requires kept { AreFit sheet.now MOST_EXAMPLES learned.kept.items }
+    ensures ends { (bytes : Listed ℕ) → pass.old ≡ Some (records_of bytes) → let s = long_of bytes sheet.now in IsLong s → Teaches s (tables_of basis) learned basis →
+        EndsSheet (O.written out.old) (O.written out.new) (page_over s (tables_of basis) None) result }
     ensures fault { IsErrOf result Halt.Fault → Rose (O.faults out.old) (O.faults out.new) }
-    ensures memory { IsErrOf result Halt.NoMemory → IsBegun (O.written out.old) (O.written out.new) (page_over sheet.now (tables_of basis) None) }
 {
-    match write(alloc, sheet, &learned, basis, steps, out) {
+    match write(alloc, pass, sheet, &learned, basis, steps, out) {
         Ok((written, basis)) => match sheet.block(alloc, &learned, basis, &written.shown, steps) {
             Ok(block) => Ok(Filled {
                 learned,
                 summary: written.summary,
                 block,
             }),
+            Err(NoMemory) => Err(Halt::NoMemory),
+        },
+        Err(halt) => Err(halt),
+    }
+}
+
+/// What is told of a sheet whose writing ended so.
+fn told_after(
+    alloc: Global,
+    filled: Result<Filled, Halt>,
+    saving: Option<RuleFrame>,
+    spoken: &Spoken,
+    doubts: Doubts,
+) -> Result<Told, Halt>
+    ensures ends { (first last : Option (Listed ℕ)) (s : LongData) (tables : Listed TableData) → EndsSheet first last (page_over s tables None) filled →
+        EndsPage first last (page_over s tables (option_map frame_data saving)) result }
+    ensures fault { IsErrOf result Halt.Fault → IsErrOf filled Halt.Fault }
+{
+    match filled {
+        Ok(filled) => match told_of(alloc, filled, saving, spoken, doubts) {
+            Ok(told) => Ok(told),
             Err(NoMemory) => Err(Halt::NoMemory),
         },
         Err(halt) => Err(halt),

@@ -1,12 +1,12 @@
 //! What stands before the records of rows, and how answers are written.
-ghost use Rattle.std.specs.Prelude.{◌≡◌, ◌≤◌, ◌++◌, List as Listed, IfOk, IfSome, OnOk, option_copied};
+ghost use Rattle.std.specs.Prelude.{◌≡◌, ◌≤◌, ◌++◌, ℕ, List as Listed, IfOk, IfSome, OnOk, option_copied};
 ghost use Rattle.fill_report.specs.Output.{report_text};
 ghost use Rattle.fill_report.specs.Records.{Fields};
 ghost use Rattle.fill_columns.specs.Columns.{width as width_of};
 ghost use Rattle.fill_words.specs.Words.{data_of, target_data};
 ghost use Rattle.fill_csv.specs.Ends.{form_of, head_of, heads_of, name_of, some_record, states_of};
-ghost use Rattle.fill_csv.specs.Opening.{mark_of};
-ghost use Rattle.fill_csv.specs.Read.{AreParts, read_data};
+ghost use Rattle.fill_csv.specs.Opening.{mark_if};
+ghost use Rattle.fill_csv.specs.Read.{AreChosen, AreParts, read_data};
 
 use crate::opening::SheetFile;
 use fill_filled::{Form, head_fields};
@@ -21,8 +21,8 @@ const MARK: &[u8] = b"\xef\xbb\xbf";
 
 /// How answers are written into the records of a sheet.
 pub(crate) fn form_of(asked: &Asked, read: &SheetFile) -> Form
-    requires { AreParts (data_of asked.now) read.now }
-    ensures form { result ≡ form_of (data_of asked.now) (read_data (data_of asked.now) read.now) }
+    requires { AreChosen read.now.choice }
+    ensures form { (bytes : Listed ℕ) → AreParts (data_of asked.now) bytes read.now → result ≡ form_of (data_of asked.now) (read_data (data_of asked.now) bytes read.now) }
     ensures column { 1 ≤ result.column }
     ensures states { IfSome result.states (λ column. 1 ≤ column) }
 {
@@ -52,14 +52,13 @@ pub(crate) fn head_of(
     read: &SheetFile,
     form: &Form,
 ) -> Result<List<u8>, NoMemory>
-    requires parts { AreParts (data_of asked.now) read.now }
-    requires form { form.now ≡ form_of (data_of asked.now) (read_data (data_of asked.now) read.now) }
     requires column { 1 ≤ form.now.column }
     requires states { IfSome form.now.states (λ column. 1 ≤ column) }
-    ensures { IfOk result (λ head. head ≡ head_of (data_of asked.now) (read_data (data_of asked.now) read.now)) }
+    ensures { (bytes : Listed ℕ) → AreParts (data_of asked.now) bytes read.now → form.now ≡ form_of (data_of asked.now) (read_data (data_of asked.now) bytes read.now) →
+        IfOk result (λ head. head ≡ head_of (data_of asked.now) (read_data (data_of asked.now) bytes read.now)) }
 {
     let mut head = List::new(alloc);
-    head.append(mark_of(read.bytes.as_slice()))?;
+    head.append(mark_of(read.marked))?;
     put_header(
         alloc,
         &mut head,
@@ -80,12 +79,11 @@ fn name_of(to: &Target) -> Option<&[u8]>
     }
 }
 
-/// The byte order mark in front of the bytes, or nothing.
-fn mark_of(bytes: &[u8]) -> &[u8]
-    ensures { result.now ≡ mark_of bytes.now }
+/// The byte order mark, where it stands in front of the file, or nothing.
+fn mark_of(marked: bool) -> &'static [u8]
+    ensures { result.now ≡ mark_if marked }
 {
-    let (front, _) = bytes.split_at(bytes.len().min(3));
-    if front == MARK { front } else { &[] }
+    if marked { MARK } else { &[] }
 }
 
 /// Puts the header at the end, where there is one.

@@ -5,6 +5,7 @@ mod columns;
 mod command;
 mod desk;
 mod explain;
+mod file;
 mod fill;
 mod head;
 pub mod laws;
@@ -16,5 +17,5 @@ mod stop;
 mod told;
 mod typed;
 
-pub use command::{Folder, run};
+pub use command::{Folder, Ran, run};
 pub use stop::{MEMORY_LINE, say};

@@ -1,7 +1,7 @@
 //! The lines that say why no sheet was written.
 ghost use Rattle.std.specs.Prelude.{◌≡◌, ◌≢◌, ◌++◌, IfOk, codes, option_copied, option_map, string_bytes};
 ghost use Rattle.fill_columns.specs.Columns.{names_of};
-ghost use Rattle.fill_lookups.specs.Lines.{line_of};
+ghost use Rattle.fill_lookups.specs.Lines.{line_of, long_line};
 ghost use Rattle.fill_csv.specs.Near.{near};
 ghost use Rattle.fill_csv.specs.Lines.{IsChoiceLine, question, row_line, sheet_line, unread_line, unsaved_line};
 
@@ -16,6 +16,13 @@ pub(crate) fn unread_line(alloc: Global, name: &str) -> Result<String, AllocErro
     ensures { IfOk result (λ line. string_bytes line ≡ unread_line name.now) }
 {
     format!(in alloc; "fillcsv: {name}: cannot be read\n")
+}
+
+/// The line of a file that has more bytes than one may have.
+pub(crate) fn long_line(alloc: Global, most: usize, name: &str) -> Result<String, AllocError>
+    ensures { IfOk result (λ line. string_bytes line ≡ long_line most name.now) }
+{
+    format!(in alloc; "fillcsv: {name}: more than {most} bytes\n")
 }
 
 /// The line of a rule that could not be saved under this path.

@@ -9,7 +9,7 @@ ghost use Rattle.fill_space.specs.declared.ground.Ground.{Ground};
 ghost use Rattle.fill_rule.specs.Rule.{rule_text};
 ghost use Rattle.fill_words.specs.Words.{data_of, lookup_data, target_data};
 ghost use Rattle.fill_blocks.specs.Blocks.{StandsFor};
-ghost use Rattle.fill_csv.specs.Read.{AreParts, frame_data, read_data};
+ghost use Rattle.fill_csv.specs.Read.{AreChosen, AreParts, frame_data, read_data};
 ghost use Rattle.fill_csv.specs.Saved.{IsSavedText, frame_of, lacks_rule, output_name, rule_with, saving_of, stored};
 
 use crate::columns::rising;
@@ -43,8 +43,8 @@ pub(crate) fn saving_of(
     asked: &Asked,
     read: &SheetFile,
 ) -> Result<Option<RuleFrame>, NoMemory>
-    requires { AreParts (data_of asked.now) read.now }
-    ensures { IfOk result (λ saving. option_map frame_data saving ≡ saving_of (data_of asked.now) (read_data (data_of asked.now) read.now)) }
+    requires { AreChosen read.now.choice }
+    ensures { (bytes : Listed ℕ) → AreParts (data_of asked.now) bytes read.now → IfOk result (λ saving. option_map frame_data saving ≡ saving_of (data_of asked.now) (read_data (data_of asked.now) bytes read.now)) }
 {
     match asked.save {
         Some(_) => Ok(Some(frame_of(alloc, asked, read)?)),
@@ -54,8 +54,8 @@ pub(crate) fn saving_of(
 
 /// The frame of the rule for a sheet.
 fn frame_of(alloc: Global, asked: &Asked, read: &SheetFile) -> Result<RuleFrame, NoMemory>
-    requires { AreParts (data_of asked.now) read.now }
-    ensures { IfOk result (λ frame. frame_data frame ≡ frame_of (data_of asked.now) (read_data (data_of asked.now) read.now)) }
+    requires { AreChosen read.now.choice }
+    ensures { (bytes : Listed ℕ) → AreParts (data_of asked.now) bytes read.now → IfOk result (λ frame. frame_data frame ≡ frame_of (data_of asked.now) (read_data (data_of asked.now) bytes read.now)) }
 {
     let inputs = rising(alloc, &read.choice.from)?;
     let output = read.choice.to;

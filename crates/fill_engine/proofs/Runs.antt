@@ -70,13 +70,13 @@ flashfill_ends words files a r old new before now quiet said ago lately first la
 
 -- what the run of `fillcsv` promises, likewise, and by its input and its store, of which no read and no save failed
 pub record RanFillcsv (words : List (List ℕ)) (files : List (List ℕ × List ℕ)) (r : ℕ) (old new : List ℕ) (before now : ℕ) (quiet said : List ℕ) (ago lately : ℕ) (first : List ℕ) (held kept : StoreAt) : Type 0 where
-  pub filled : (asked : AskedData) → asked_in words ≡ Asks asked → EndsFilled asked (files_of files) (heard (Some first) 0 0) r no_faults no_faults (Some old) (Some new) held kept (SaysAfter asked.ask (Some quiet) (Some said) ago lately)
+  pub filled : (asked : AskedData) → asked_in words ≡ Asks asked → EndsFilled asked (files_of files) (heard (Some first) 0 0) r no_faults no_faults (Some old) (Some new) held kept (Rose before now) (SaysAfter asked.ask (Some quiet) (Some said) ago lately)
   pub ran : (saved : SavedData) → asked_in words ≡ Runs saved → OutBefore r (Some old) (Some new) (SaysFilled (Some quiet) (Some said) ago lately) ⊎ ((left : Option (List ℕ))
       × RanFile saved.rule (files_of files) no_faults no_faults r (Some first) left 0 0 (Some old) (Some new) before now (SaysFilled (Some quiet) (Some said) ago lately))
   pub wrong : asked_in words ≡ Wrong → EndsWrong r (SaysFilled (Some quiet) (Some said) ago lately) × (new ≡ old)
   pub shown : asked_in words ≡ Shows → EndsShown r (SaysFilled (Some quiet) (Some said) ago lately)
   pub silent : (asked : AskedData) → asked_in words ≡ Asks asked → asked.quiet ≡ true → r ≤ 1 → said ≡ quiet
-  pub fault : r ≡ 4 → Rose before now ⊎ Rose held.faults kept.faults
+  pub fault : r ≡ 4 → Rose before now ⊎ Rose held.faults kept.faults ⊎ ((asked : AskedData) × (asked_in words ≡ Asks asked) × Rose (no_faults asked.file) (no_faults asked.file))
   pub statuses : r ≤ 6
 
 fillcsv_answers : (words : List (List ℕ)) (files : List (List ℕ × List ℕ)) (a : AnswerData) (kept : StoreAt) → Stores a.saved kept →
@@ -87,7 +87,10 @@ fillcsv_answers words files a kept stores ran = record {
   wrong = ran.wrong;
   shown = ran.shown;
   silent = ran.silent;
-  written = λ four. elim (ran.fault four) [ inl rose ↦ no_rise rose | inr rose ↦ no_rise (subst (Rose 0) stores.0 rose) ];
+  written = λ four. elim (ran.fault four) [
+    | inl rose ↦ no_rise rose
+    | inr more ↦ elim more [ inl rose ↦ no_rise (subst (Rose 0) stores.0 rose) | inr read ↦ no_rise read.2 ]
+  ];
   statuses = ran.statuses;
 }
 

@@ -1,7 +1,7 @@
 -- What answers a request.
 use Rattle.std.specs.Prelude.{◌≡◌, ◌≢◌, ◌⊎◌, ◌≤◌, ℕ, List, [], Option, None, Some, true}
 use Rattle.fill_edge.specs.Memory.{held}
-use Rattle.fill_edge.specs.Outside.{Files}
+use Rattle.fill_edge.specs.Outside.{Files, Rose}
 use Rattle.fill_open.specs.Command.{command_in, made}
 use Rattle.fill_open.specs.Stops.{Counts}
 use Rattle.fill_words.specs.Words.{AskedData, Asks, Runs, SavedData, Shows, Wrong, asked_in}
@@ -55,7 +55,7 @@ nothing_stored = record { files = Some []; faults = 0 }
 pub record EndsFillcsv (words : List (List ℕ)) (files : List (List ℕ × List ℕ)) (a : AnswerData) : Type 0 where
   -- words that ask for a sheet end as its filling does; what it asks is answered by standard input, of which no read fails
   pub filled : (asked : AskedData) → asked_in words ≡ Asks asked → (store : StoreAt) × Stores a.saved store
-      × EndsFilled asked (files_of files) (heard (Some (input_in files)) 0 0) a.status no_faults no_faults (Some []) (Some a.out) nothing_stored store (SaysAfter asked.ask (Some []) (Some a.err) 0 0)
+      × EndsFilled asked (files_of files) (heard (Some (input_in files)) 0 0) a.status no_faults no_faults (Some []) (Some a.out) nothing_stored store (Rose 0 0) (SaysAfter asked.ask (Some []) (Some a.err) 0 0)
   -- words that name a saved rule end as its run over standard input does, of which no read fails
   pub ran : (saved : SavedData) → asked_in words ≡ Runs saved → OutBefore a.status (Some []) (Some a.out) (SaysFilled (Some []) (Some a.err) 0 0) ⊎ ((left : Option (List ℕ))
       × RanFile saved.rule (files_of files) no_faults no_faults a.status (Some (input_in files)) left 0 0 (Some []) (Some a.out) 0 0 (SaysFilled (Some []) (Some a.err) 0 0))
@@ -63,7 +63,7 @@ pub record EndsFillcsv (words : List (List ℕ)) (files : List (List ℕ × List
   pub shown : asked_in words ≡ Shows → EndsShown a.status (SaysFilled (Some []) (Some a.err) 0 0)
   -- where they ask for quiet, nothing is said of a sheet that was written
   pub silent : (asked : AskedData) → asked_in words ≡ Asks asked → asked.quiet ≡ true → a.status ≤ 1 → a.err ≡ []
-  -- no write fails
+  -- no write fails, and no read of the file in a later pass
   pub written : a.status ≢ 4
   pub statuses : a.status ≤ 6
 

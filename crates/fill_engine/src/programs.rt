@@ -55,12 +55,12 @@ fn run_fillcsv(alloc: Global, words: &[String], files: NamedFiles) -> Result<Ans
 {
     let bytes = files.input()?;
     let input = Input::new(&bytes);
-    let mut folder = folder_of(alloc, files);
+    let folder = folder_of(alloc, files);
     let mut out = Page::new(alloc);
     let mut err = Page::new(alloc);
-    let status = fill_csv::run(alloc, words, &mut folder, input, &mut out, &mut err);
-    let saved = saved_by(alloc, &folder.store)?;
-    whole(status, out, err, saved)
+    let ran = fill_csv::run(alloc, words, folder, input, &mut out, &mut err);
+    let saved = saved_by(alloc, &ran.folder.store)?;
+    whole(ran.status, out, err, saved)
 }
 
 /// These files, and a store that holds nothing.

@@ -1,11 +1,9 @@
 -- A long sheet gone over block by block.
-use Rattle.std.proofs.Common.{◌≡◌, ◌∙◌, ℕ, zero, suc, ◌+◌, ◌-◌, ◌<◌, ◌≤◌, List, [], ◌∷◌, ◌++◌, length, take, drop, Bool, true, false, arith, ap, refl, subst, sym}
+use Rattle.std.proofs.Common.{◌≡◌, ◌∙◌, ℕ, zero, suc, ◌+◌, ◌<◌, ◌≤◌, List, [], ◌∷◌, ◌++◌, length, take, drop, Bool, true, false, arith, ap, refl, subst, sym}
 use Rattle.std.specs.Prelude.{◌==◌}
 use Rattle.std.proofs.lemmas.Bool.{eqb-true}
 use Rattle.std.specs.List.{range_with_len}
 use Rattle.std.proofs.lemmas.List.{length-drop, length-take, take-append-drop}
-use Rattle.fill_records.specs.Records.{records_of}
-use Rattle.fill_sheet.specs.Sheet.{headers}
 use Rattle.fill_tree.specs.declared.user.Example.{Example}
 use Rattle.fill_session.specs.Edits.{rows_of as example_rows}
 use Rattle.fill_space.specs.declared.ground.Ground.{Ground}
@@ -15,10 +13,10 @@ use Rattle.fill_report.specs.Records.{Fields}
 use Rattle.fill_blocks.specs.Accepted.{AreAccepted}
 use Rattle.fill_blocks.specs.Merged.{numbers_of}
 use Rattle.fill_blocks.specs.declared.numbered.Numbered.{Numbered}
-use Rattle.fill_long.specs.Long.{AreRows, IsLong, rows_of}
+use Rattle.fill_long.specs.Long.{AreRows, rows_of}
 use Rattle.fill_long.specs.Taught.{IsKept}
 use Rattle.fill_long.specs.Reading.{AreOf, most_rows, numbered}
-use Rattle.fill_long.specs.declared.sheet.LongSheet.{LongSheet}
+use Rattle.fill_long.specs.Long.{LongData}
 use Rattle.fill_long.proofs.Choosing.{of_both, of_more, of_those}
 use Rattle.fill_long.proofs.Counting.{most_rows_is}
 use Rattle.fill_long.proofs.Filling.{take_range}
@@ -34,7 +32,7 @@ range_both first (suc n) k =
     let same : first + 1 + n ≡ first + suc n = omega arith in
     ap (range_with_len first) more ∙ ap (λ (l : List ℕ). first ∷ l) (range_both (first + 1) n k ∙ ap (λ m. range_with_len (first + 1) n ++ range_with_len m k) same)
 
-module _ (s : LongSheet) (n : ℕ) (reading left : List Fields) (rows : List Numbered) (rest : reading ≡ drop n (rows_of s)) (within : n ≤ length (rows_of s))
+module _ (s : LongData) (n : ℕ) (reading left : List Fields) (rows : List Numbered) (rest : reading ≡ drop n (rows_of s)) (within : n ≤ length (rows_of s))
     (is : rows ≡ numbered (n + 1) (take most_rows reading)) (next : left ≡ drop most_rows reading) where
   rows_are : rows ≡ numbered (n + 1) (take most_rows (drop n (rows_of s)))
   rows_are = is ∙ ap (λ (l : List Fields). numbered (n + 1) (take most_rows l)) rest
@@ -51,15 +49,9 @@ module _ (s : LongSheet) (n : ℕ) (reading left : List Fields) (rows : List Num
   pub next_left : left ≡ drop (n + length rows) (rows_of s)
   next_left = next ∙ ap (drop most_rows) rest ∙ drop_both n most_rows (rows_of s) ∙ sym (ap (λ k. drop (n + k) (rows_of s)) count_is)
 
-  -- the rows end where a block is empty, and else there are fewer left
+  -- the rows end where a block is empty
   pub next_ends : length rows ≡ 0 → n ≡ length (rows_of s)
   next_ends none = omega (arith, none, most_rows_is, within, count_is, length-take most_rows (drop n (rows_of s)), length-drop n (rows_of s))
-
-  pub next_smaller : 0 < length rows → length left < length reading
-  next_smaller some =
-      let before : length reading ≡ length (rows_of s) - n = ap length rest ∙ length-drop n (rows_of s) in
-      let after : length left ≡ length (rows_of s) - (n + length rows) = ap length next_left ∙ length-drop (n + length rows) (rows_of s) in
-      omega (arith, some, before, after, next_within)
 
   next_numbers : numbers_of rows ≡ range_with_len (1 + n) (length rows)
   next_numbers =
@@ -108,7 +100,7 @@ module _ (s : LongSheet) (n : ℕ) (reading left : List Fields) (rows : List Num
       (subst (λ (l : List ℕ). Learns typed g [] l b (before ++ more.0)) numbers_so_far (learns_both typed g [] mid b (range_with_len 1 n) (numbers_of rows) before more.0 first more.1))
 
 -- before the first row
-pub none_kept : (s : LongSheet) (kept : List Numbered) (examples : List Example) → kept ≡ [] → examples ≡ [] → IsKept s kept examples
+pub none_kept : (s : LongData) (kept : List Numbered) (examples : List Example) → kept ≡ [] → examples ≡ [] → IsKept s kept examples
 none_kept s kept examples none nothing =
     let empty : List Numbered = [] in
     record {
@@ -123,10 +115,6 @@ none_kept s kept examples none nothing =
 pub none_accepted : (g : Ground) (examples : List Example) → examples ≡ [] → AreAccepted g examples
 none_accepted g examples none = subst (λ (l : List Example). AreAccepted g l) (sym none) refl
 
--- the rows of a sheet are not too many to count
-pub rows_few : (s : LongSheet) → IsLong s → length (rows_of s) ≤ 16777216
-rows_few s long = omega (arith, long.few, length-drop (headers s.header) (records_of s.bytes.now))
-
 -- what a test for no rows tells
 pub is_none : (n : ℕ) (empty : Bool) → empty ≡ (n == 0) → empty ≡ true → n ≡ 0
 is_none n empty is none = eqb-true n 0 (sym is ∙ none)
@@ -136,7 +124,7 @@ is_some zero empty is none = cc
 is_some (suc n) empty is none = omega arith
 
 -- rows that are shown of those so far
-pub shown_rows : (s : LongSheet) (n : ℕ) (shown : List Numbered) → AreOf shown (numbered 1 (take n (rows_of s))) → length shown ≤ 1000 → AreRows s shown
+pub shown_rows : (s : LongData) (n : ℕ) (shown : List Numbered) → AreOf shown (numbered 1 (take n (rows_of s))) → length shown ≤ 1000 → AreRows s shown
 shown_rows s n shown of few =
     let first = take n (rows_of s) in
     let later = drop n (rows_of s) in

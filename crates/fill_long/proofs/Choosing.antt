@@ -12,16 +12,16 @@ of_all P (x ∷ xs) [] is all = absurd is
 of_all P (x ∷ xs) (y ∷ ys) (inl h) all = All-cons P x xs (subst P (sym h.0) (All-head P y ys all)) (of_all P xs ys h.1 (All-tail P y ys all))
 of_all P (x ∷ xs) (y ∷ ys) (inr h) all = of_all P (x ∷ xs) ys h (All-tail P y ys all)
 
-abbrev Less : Numbered → Numbered → Type 0
+abbrev pub Less : Numbered → Numbered → Type 0
 Less a b = a.number < b.number
 
-rises_head : (x : Numbered) (xs : List Numbered) → RowsRise (x ∷ xs) → All (Less x) xs
+pub rises_head : (x : Numbered) (xs : List Numbered) → RowsRise (x ∷ xs) → All (Less x) xs
 rises_head x xs h k d lt = h 0 (suc k) d (omega arith) (omega arith)
 
-rises_tail : (x : Numbered) (xs : List Numbered) → RowsRise (x ∷ xs) → RowsRise xs
+pub rises_tail : (x : Numbered) (xs : List Numbered) → RowsRise (x ∷ xs) → RowsRise xs
 rises_tail x xs h i j d less lt = h (suc i) (suc j) d (omega arith) (omega arith)
 
-rises_none : RowsRise []
+pub rises_none : RowsRise []
 rises_none i j d less lt = absurd (omega arith)
 
 pub of_rises : (xs ys : List Numbered) → AreOf xs ys → RowsRise ys → RowsRise xs

@@ -12,7 +12,7 @@ use Rattle.fill_blocks.specs.Blocks.{BlockData, StandsFor}
 use Rattle.fill_long.specs.Long.{ground_of, rows_of}
 use Rattle.fill_long.specs.Rows.{TellsOf, WritesOf, WritesPartOf}
 use Rattle.fill_long.specs.Taught.{examples_of, ground_with}
-use Rattle.fill_long.specs.declared.sheet.LongSheet.{LongSheet}
+use Rattle.fill_long.specs.Long.{LongData}
 use Rattle.fill_long.proofs.Rowwise.{or_assoc}
 
 zip_both : {B : Type 0} (R : ℕ → B → Type 0) (xs xs' : List ℕ) (ys ys' : List B) → AllZip R xs ys → AllZip R xs' ys' → AllZip R (xs ++ xs') (ys ++ ys')
@@ -31,37 +31,37 @@ take_range first zero (suc k) le = absurd (omega arith)
 take_range first (suc n) (suc k) le = ap (λ (l : List ℕ). first ∷ l) (take_range (first + 1) n k (omega arith))
 
 -- by a block what is told of rows is told over the whole sheet
-module _ (s : LongSheet) (tables : List TableData) (block : BlockData) (examples : List Example) (stands : StandsFor (ground_of s tables) block examples) where
+module _ (s : LongData) (tables : List TableData) (block : BlockData) (examples : List Example) (stands : StandsFor (ground_of s tables) block examples) where
   over_sheet : (P : Ground → List Example → Type 0) → P (ground_with s block) (examples_of block) → P (ground_of s tables) examples
   over_sheet P p =
       subst (λ (l : List Example). P (ground_of s tables) l) (sym stands.same) (subst (λ (t : List TableData). P (ground_of s t) (examples_of block)) stands.part.same.tables p)
 
   module _ (n m : ℕ) (rows : List ℕ) (numbers : range_with_len 1 n ++ rows ≡ range_with_len 1 m) (old mid new : Option (List ℕ)) where
-    pub rows_then : WritesRows s.form s.typed.now (ground_of s tables) examples (rows_of s) [] n old mid → WritesOf s block rows mid new
-        → WritesRows s.form s.typed.now (ground_of s tables) examples (rows_of s) [] m old new
+    pub rows_then : WritesRows s.form s.typed (ground_of s tables) examples (rows_of s) [] n old mid → WritesOf s block rows mid new
+        → WritesRows s.form s.typed (ground_of s tables) examples (rows_of s) [] m old new
     rows_then before next =
-        let made = over_sheet (λ (g : Ground) (l : List Example). AllZip (IsFilledRow s.form s.typed.now g l (rows_of s)) rows next.0) next.1 in
-        let Row = IsFilledRow s.form s.typed.now (ground_of s tables) examples (rows_of s) in (
+        let made = over_sheet (λ (g : Ground) (l : List Example). AllZip (IsFilledRow s.form s.typed g l (rows_of s)) rows next.0) next.1 in
+        let Row = IsFilledRow s.form s.typed (ground_of s tables) examples (rows_of s) in (
           before.0 ++ next.0,
           subst (λ (l : List ℕ). AllZip Row l (before.0 ++ next.0)) numbers (zip_both Row (range_with_len 1 n) rows before.0 next.0 before.1 made),
           appends_then old mid new before.0 next.0 before.2 next.2,
         )
 
-    pub part_then : WritesRows s.form s.typed.now (ground_of s tables) examples (rows_of s) [] n old mid → WritesPartOf s block rows mid new
-        → WritesPart s.form s.typed.now (ground_of s tables) examples (rows_of s) [] m old new
+    pub part_then : WritesRows s.form s.typed (ground_of s tables) examples (rows_of s) [] n old mid → WritesPartOf s block rows mid new
+        → WritesPart s.form s.typed (ground_of s tables) examples (rows_of s) [] m old new
     part_then before next =
-        let made = over_sheet (λ (g : Ground) (l : List Example). AllZip (IsFilledRow s.form s.typed.now g l (rows_of s)) rows next.0) next.1 in
-        let Row = IsFilledRow s.form s.typed.now (ground_of s tables) examples (rows_of s) in (
+        let made = over_sheet (λ (g : Ground) (l : List Example). AllZip (IsFilledRow s.form s.typed g l (rows_of s)) rows next.0) next.1 in
+        let Row = IsFilledRow s.form s.typed (ground_of s tables) examples (rows_of s) in (
           before.0 ++ next.0,
           subst (λ (l : List ℕ). AllZip Row l (before.0 ++ next.0)) numbers (zip_both Row (range_with_len 1 n) rows before.0 next.0 before.1 made),
           part_both old mid new before.0 next.0 before.2 next.2,
         )
 
   pub tells_then : (n m : ℕ) (rows : List ℕ) → range_with_len 1 n ++ rows ≡ range_with_len 1 m → (first mid now : Bool)
-      → TellsUnsure s.typed.now (ground_of s tables) examples n first mid → TellsOf s block rows mid now → TellsUnsure s.typed.now (ground_of s tables) examples m first now
+      → TellsUnsure s.typed (ground_of s tables) examples n first mid → TellsOf s block rows mid now → TellsUnsure s.typed (ground_of s tables) examples m first now
   tells_then n m rows numbers first mid now before next =
-      let states = over_sheet (λ (g : Ground) (l : List Example). AllZip (IsCellState s.typed.now g l) rows next.0) next.1 in
-      let State = IsCellState s.typed.now (ground_of s tables) examples in (
+      let states = over_sheet (λ (g : Ground) (l : List Example). AllZip (IsCellState s.typed g l) rows next.0) next.1 in
+      let State = IsCellState s.typed (ground_of s tables) examples in (
         before.0 ++ next.0,
         subst (λ (l : List ℕ). AllZip State l (before.0 ++ next.0)) numbers (zip_both State (range_with_len 1 n) rows before.0 next.0 before.1 states),
         next.2 ∙ ap (λ b. b || list_any is_unsure next.0) before.2 ∙ or_assoc first (list_any is_unsure before.0) (list_any is_unsure next.0)

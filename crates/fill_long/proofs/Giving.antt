@@ -11,15 +11,15 @@ use Rattle.fill_report.specs.Records.{Fields}
 use Rattle.fill_blocks.specs.declared.numbered.Numbered.{Numbered}
 use Rattle.fill_long.specs.Long.{rows_of, sheet_over}
 use Rattle.fill_long.specs.Rows.{GivesNone, IsRow}
-use Rattle.fill_long.specs.declared.sheet.LongSheet.{LongSheet}
+use Rattle.fill_long.specs.Long.{LongData}
 use Rattle.fill_long.proofs.Numbering.{nth_map}
 use Rattle.std.specs.Str.{chars}
 
 -- nothing is typed, and the cell gives none
-pub gives_none : (s : LongSheet) (it : Numbered) → IsRow s it → typed_at s.typed.now it.number ≡ None → given_in s.output it.fields ≡ None → GivesNone s it
+pub gives_none : (s : LongData) (it : Numbered) → IsRow s it → typed_at s.typed it.number ≡ None → given_in s.output it.fields ≡ None → GivesNone s it
 gives_none s it is typed cell =
-    let here = nth_map (row_of (rising s.inputs.now) s.output) (rows_of s) it.number it.fields is in
-    ap (λ (o : Option (List ℕ)). given_by o (option_and_then (λ r. r.given) (nth (sheet_over s.inputs.now s.output (rows_of s)).rows it.number))) typed ∙ ap (option_and_then (λ r. r.given)) here ∙ cell
+    let here = nth_map (row_of (rising s.inputs) s.output) (rows_of s) it.number it.fields is in
+    ap (λ (o : Option (List ℕ)). given_by o (option_and_then (λ r. r.given) (nth (sheet_over s.inputs s.output (rows_of s)).rows it.number))) typed ∙ ap (option_and_then (λ r. r.given)) here ∙ cell
 
 -- an empty cell gives none
 no_text : (field : List ℕ) → (length field == 0) ≡ true → unless_empty (chars field) ≡ None

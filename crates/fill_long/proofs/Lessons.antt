@@ -8,7 +8,12 @@ use Rattle.fill_filled.specs.Learned.{Gives, Learns, given_for}
 use Rattle.fill_filled.specs.declared.learning.Refused.{Refused}
 use Rattle.fill_blocks.specs.Merged.{RowsRise, numbers_of}
 use Rattle.fill_blocks.specs.declared.numbered.Numbered.{Numbered}
+use Rattle.fill_text.specs.Data.{TableData}
+use Rattle.fill_blocks.specs.Blocks.{BlockData}
+use Rattle.fill_long.specs.Long.{LongData, ground_of}
 use Rattle.fill_long.specs.Reading.{AreOf}
+use Rattle.fill_long.specs.Taught.{LearnsEach, LearnsRow, examples_of, ground_with}
+use Rattle.fill_long.specs.declared.learning.Learned.{Learned}
 use Rattle.fill_long.proofs.Choosing.{of_all}
 
 module _ (typed : List Example) (g : Ground) where
@@ -71,3 +76,14 @@ kept_before kept old before after row are rises =
 pub all_yielded : (all yielded rest : List Numbered) → all ≡ yielded ++ rest → length rest ≡ 0 → all ≡ yielded
 all_yielded all yielded [] whole none = whole ∙ append-nil yielded
 all_yielded all yielded (x ∷ rest) whole none = absurd (omega arith)
+
+-- what rows of a block taught, and then one row more
+pub each_next : (s : LongData) (first mid last : BlockData) (old so_far new : Learned) (rows : List Numbered) (row : Numbered) → LearnsEach s first old so_far rows mid
+    → LearnsRow s mid so_far new row.number (given_for s.typed (ground_with s mid).sheet row.number) last → LearnsEach s first old new (rows ++ row ∷ []) last
+each_next s first mid last old so_far new rows row each next =
+    let over = λ (t : List TableData). Gives (ground_of s t) (examples_of mid) row.number (given_for s.typed (ground_of s t).sheet row.number) (examples_of last) next.gives.0 in
+    record {
+      step = next.step;
+      tables = next.tables ∙ each.tables;
+      learns = learns_next s.typed (ground_with s first) (examples_of first) (examples_of mid) (examples_of last) rows row old.refused so_far.refused new.refused each.learns (next.gives.0, subst over each.tables next.gives.1, next.gives.2);
+    }

@@ -1,6 +1,9 @@
 pub mod Counting
 pub mod Scanned
 pub mod Choosing
+pub mod Fitting
+pub mod Passed
+pub mod Readable
 pub mod Numbering
 pub mod Standing
 pub mod Sheets
@@ -8,5 +11,7 @@ pub mod Teaching
 pub mod Giving
 pub mod Lessons
 pub mod Blockwise
+pub mod LearnedSoFar
 pub mod Rowwise
 pub mod Filling
+pub mod WrittenSoFar

@@ -4,7 +4,7 @@ use Rattle.std.specs.Prelude.{option_map, slice_get}
 use Rattle.std.specs.List.{range_with_len}
 use Rattle.std.proofs.lemmas.List.{drop-drop, drop_min, length-append, length-take, take-append-drop, take_min}
 use Rattle.std.proofs.Math.Seq.{take-append-add}
-use Rattle.std.proofs.lemmas.List.Elements.{All-cons, All-head, All-nil, All-tail}
+use Rattle.std.proofs.lemmas.List.Elements.{All-cons, All-nil}
 use Rattle.std.proofs.lemmas.List.Kept.{AllPairs-cons}
 use Rattle.std.proofs.lemmas.Option.{slice_get-map}
 use Rattle.fill_text.specs.Data.{nth}
@@ -39,12 +39,6 @@ pub rises_numbered : (first : ℕ) (rows : List Fields) → RowsRise (numbered f
 rises_numbered first [] = λ i j d less lt. absurd (omega arith)
 rises_numbered first (fields ∷ rows) =
     AllPairs-cons (λ (a b : Numbered). a.number < b.number) (row_at first fields) (numbered (first + 1) rows) (from_numbered first (first + 1) rows (omega arith)) (rises_numbered (first + 1) rows)
-
--- what holds of each record holds of each row
-pub all_numbered : (P : Fields → Type 0) (first : ℕ) (rows : List Fields) → All P rows → All (λ it. P it.fields) (numbered first rows)
-all_numbered P first [] all = All-nil (λ (it : Numbered). P it.fields)
-all_numbered P first (fields ∷ rows) all =
-    All-cons (λ (it : Numbered). P it.fields) (row_at first fields) (numbered (first + 1) rows) (All-head P fields rows all) (all_numbered P (first + 1) rows (All-tail P fields rows all))
 
 -- each row is that of its number
 get_past : (before : List Fields) (fields : Fields) (after : List Fields) → slice_get (before ++ fields ∷ after) (length before) ≡ Some fields

@@ -1,19 +1,12 @@
 -- What is seen of records one after another.
-use Rattle.std.proofs.Common.{◌≡◌, ◌∙◌, ℕ, zero, suc, ◌+◌, ◌<◌, ◌≤◌, List, [], ◌∷◌, ◌++◌, length, max, nat_lt, Bool, true, take, drop, Option, Some, None, refl, sym, ap, arith, add-one}
+use Rattle.std.proofs.Common.{◌≡◌, ◌∙◌, ℕ, zero, suc, ◌+◌, ◌<◌, ◌≤◌, List, [], ◌∷◌, ◌++◌, length, max, nat_lt, Bool, take, drop, Option, Some, None, refl, sym, ap, arith, add-one}
 use Rattle.std.specs.Prelude.{slice_get}
 use Rattle.std.specs.Option.{is_some}
 use Rattle.std.proofs.lemmas.List.{drop_all, length-append, length-take}
 use Rattle.fill_records.specs.Texts.{bad_column, first_bad, or_later}
 use Rattle.fill_report.specs.Records.{Fields}
 use Rattle.fill_columns.specs.Columns.{width}
-use Rattle.fill_long.specs.Long.{header_in}
 use Rattle.fill_long.proofs.Counting.{is_past, take_next}
-
--- the first record of all is the first one of some
-pub header_first : (most : ℕ) (records : List Fields) → 0 < most → slice_get records 0 ≡ header_in true (take most records)
-header_first zero records some = absurd (omega arith)
-header_first (suc most) [] some = refl
-header_first (suc most) (x ∷ records) some = refl
 
 width_push : (records : List Fields) (fields : Fields) → width (records ++ fields ∷ []) ≡ max (width records) (length fields)
 width_push [] fields = grind arith
@@ -30,10 +23,6 @@ count_more n all fields found =
     let more = take_next n all fields found in
     let here : take (n + 1) all ≡ take n all ++ fields ∷ [] = rw add-one more in
     ap length here ∙ length-append (take n all) (fields ∷ [])
-
--- the same of one that was read
-pub header_read : (header : Bool) (most : ℕ) (records : List Fields) → header ≡ true → 0 < most → slice_get records 0 ≡ header_in header (take most records)
-header_read header most records is some = header_first most records some ∙ ap (λ b. header_in b (take most records)) (sym is)
 
 next_cons : {A : Type 0} (n : ℕ) (all : List A) (x : A) → Some x ≡ slice_get (drop n all) 0 → drop n all ≡ x ∷ drop (suc n) all
 next_cons zero [] x found = cc
@@ -63,21 +52,21 @@ bad_past columns n most number all past =
 
 -- one record more, which is good, or a bad one
 pub good_more : (columns : List ℕ) (n most : ℕ) (all left : List Fields) (found : Option Fields) (fields : Fields) (bad : Option (ℕ × ℕ)) → n < most → left ≡ drop n all → found ≡ slice_get left 0 → found ≡ Some fields
-    → bad ≡ first_bad columns (n + 1) (drop n (take most all)) → bad_column columns fields ≡ None → bad ≡ first_bad columns (n + 1 + 1) (drop (n + 1) (take most all))
+    → bad ≡ first_bad columns (n + 1) (drop n (take most all)) → None ≡ bad_column columns fields → bad ≡ first_bad columns (n + 1 + 1) (drop (n + 1) (take most all))
 good_more columns n most all left found fields bad few rest next some before good =
     let here : Some fields ≡ slice_get (drop n all) 0 = sym some ∙ next ∙ ap (λ l. slice_get l 0) rest in
-    before ∙ bad_next columns n most (n + 1) all fields few here ∙ ap (λ b. or_later (n + 1) b (first_bad columns (n + 1 + 1) (drop (n + 1) (take most all)))) good
+    before ∙ bad_next columns n most (n + 1) all fields few here ∙ ap (λ b. or_later (n + 1) b (first_bad columns (n + 1 + 1) (drop (n + 1) (take most all)))) (sym good)
 
 pub bad_here : (columns : List ℕ) (n most column : ℕ) (all left : List Fields) (found : Option Fields) (fields : Fields) (bad : Option (ℕ × ℕ)) → n < most → left ≡ drop n all → found ≡ slice_get left 0 → found ≡ Some fields
-    → bad ≡ first_bad columns (n + 1) (drop n (take most all)) → bad_column columns fields ≡ Some column → bad ≡ Some (n + 1, column)
+    → bad ≡ first_bad columns (n + 1) (drop n (take most all)) → Some column ≡ bad_column columns fields → Some (n + 1, column) ≡ bad
 bad_here columns n most column all left found fields bad few rest next some before is =
     let here : Some fields ≡ slice_get (drop n all) 0 = sym some ∙ next ∙ ap (λ l. slice_get l 0) rest in
-    before ∙ bad_next columns n most (n + 1) all fields few here ∙ ap (λ b. or_later (n + 1) b (first_bad columns (n + 1 + 1) (drop (n + 1) (take most all)))) is
+    sym (before ∙ bad_next columns n most (n + 1) all fields few here ∙ ap (λ b. or_later (n + 1) b (first_bad columns (n + 1 + 1) (drop (n + 1) (take most all)))) (sym is))
 
 pub none_bad : (columns : List ℕ) (n most : ℕ) (all left : List Fields) (found : Option Fields) (bad : Option (ℕ × ℕ)) → left ≡ drop n all → found ≡ slice_get left 0 → found ≡ None
-    → bad ≡ first_bad columns (n + 1) (drop n (take most all)) → bad ≡ None
+    → bad ≡ first_bad columns (n + 1) (drop n (take most all)) → None ≡ bad
 none_bad columns n most all left found bad rest next none before =
-    before ∙ bad_past columns n most (n + 1) all (is_past n all (sym none ∙ next ∙ ap (λ l. slice_get l 0) rest))
+    sym (before ∙ bad_past columns n most (n + 1) all (is_past n all (sym none ∙ next ∙ ap (λ l. slice_get l 0) rest)))
 
 -- another record is there exactly where there are more
 some_past : {A : Type 0} (most : ℕ) (all : List A) → is_some (slice_get (drop most all) 0) ≡ nat_lt most (length all)
@@ -89,10 +78,3 @@ some_past (suc most) (x ∷ all) = let more = some_past most all in grind (arith
 pub more_are : {A : Type 0} (n most : ℕ) (all left : List A) (found : Option A) (more : Bool) → n ≡ most → left ≡ drop n all → found ≡ slice_get left 0 → more ≡ is_some found → more ≡ nat_lt most (length all)
 more_are n most all left found more full rest next is =
     is ∙ ap is_some (next ∙ ap (λ l. slice_get l 0) rest) ∙ ap (λ k. is_some (slice_get (drop k all) 0)) full ∙ some_past most all
-
--- one record more
-pub seen_more : (n width_now : ℕ) (all left : List Fields) (found : Option Fields) (fields : Fields) → left ≡ drop n all → found ≡ slice_get left 0 → found ≡ Some fields
-    → width_now ≡ width (take n all) → (max width_now (length fields) ≡ width (take (n + 1) all)) × (length (take (n + 1) all) ≡ length (take n all) + 1)
-seen_more n width_now all left found fields rest next some before =
-    let here : Some fields ≡ slice_get (drop n all) 0 = sym some ∙ next ∙ ap (λ l. slice_get l 0) rest in
-    (ap (λ w. max w (length fields)) before ∙ sym (width_more n all fields here), count_more n all fields here)

@@ -19,7 +19,7 @@ use Rattle.fill_blocks.specs.Merged.{numbers_of}
 use Rattle.fill_blocks.specs.declared.numbered.Numbered.{Numbered}
 use Rattle.fill_long.specs.Long.{ground_of}
 use Rattle.fill_long.specs.Taught.{Adds, IsInStep, Told, examples_of, ground_with}
-use Rattle.fill_long.specs.declared.sheet.LongSheet.{LongSheet}
+use Rattle.fill_long.specs.Long.{LongData}
 
 -- an example of a later row comes last
 pub comes_last : (e : Example) (es : List Example) → All (λ x. x.row < e.row) es → with_example e es ≡ es ++ e ∷ []
@@ -52,7 +52,7 @@ kept_few sheet kept row examples text same free =
     let long : length (numbers_of kept) ≡ length (example_rows examples) = ap length same in
     omega (arith, may.few, long, length-map kept (λ (it : Numbered). it.number), length-map examples (λ (x : Example). x.row), length-append kept (row ∷ []))
 
-module _ (s : LongSheet) (old new : BlockData) where
+module _ (s : LongData) (old new : BlockData) where
   -- a block that stands for examples over the sheet with the tables of another has these tables, and stands for its own
   pub tables_same : (after : List Example) → StandsFor (ground_with s old) new after → new.session.spaces.ground.tables ≡ old.session.spaces.ground.tables
   tables_same after stands = stands.part.same.tables

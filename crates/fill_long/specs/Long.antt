@@ -1,5 +1,5 @@
 -- Long sheets: what the bytes of a file are as a sheet.
-use Rattle.std.specs.Prelude.{◌≡◌, ℕ, ◌≤◌, List, [], ◌∷◌, ◌++◌, All, Bool, true, false, IfSome, Option, None, Some, drop, length, map, nat_lt, option_to_list, take}
+use Rattle.std.specs.Prelude.{◌≡◌, ◌==◌, ◌&&◌, if◌then◌else◌, ℕ, ◌≤◌, List, [], ◌∷◌, ◌++◌, All, Bool, true, false, IfSome, Option, None, Some, drop, length, map, nat_lt, option_to_list, take}
 use Rattle.std.specs.Option.{ForSome}
 use Rattle.fill_text.specs.Data.{SheetData, TableData}
 use Rattle.fill_records.specs.Records.{records_of}
@@ -7,6 +7,10 @@ use Rattle.fill_records.specs.Texts.{IsText}
 use Rattle.fill_sheet.specs.Columns.{AreInputs, IsColumn, rising}
 use Rattle.fill_sheet.specs.Sheet.{headers, row_of}
 use Rattle.fill_tree.specs.Grammar.{AreSettings}
+use Rattle.fill_tree.specs.declared.user.Example.{Example}
+use Rattle.fill_tree.specs.declared.user.Settings.{Settings}
+use Rattle.fill_filled.specs.declared.form.Form.{Form}
+use Rattle.fill_blocks.specs.Merged.{IsReadable, RowsRise}
 use Rattle.fill_space.specs.declared.ground.Ground.{Ground}
 use Rattle.fill_report.specs.Records.{Fields}
 use Rattle.fill_columns.specs.Columns.{width}
@@ -23,25 +27,63 @@ rows_in header bytes = drop (headers header) (records_of bytes)
 abbrev pub sheet_over : List ℕ → Option ℕ → List Fields → SheetData
 sheet_over inputs output rows = record { inputs = rising inputs; rows = map (row_of (rising inputs) output) rows }
 
-abbrev pub rows_of : LongSheet → List Fields
-rows_of s = rows_in s.header s.bytes.now
+-- a long sheet and the bytes of its file
+pub record LongData : Type 0 where
+  pub bytes : List ℕ
+  pub header : Bool
+  pub inputs : List ℕ
+  pub output : Option ℕ
+  pub typed : List Example
+  pub settings : Settings
+  pub form : Form
+  pub head : List ℕ
+
+abbrev pub long_of : List ℕ → LongSheet → LongData
+long_of bytes s = record {
+  bytes = bytes;
+  header = s.header;
+  inputs = s.inputs.now;
+  output = s.output;
+  typed = s.typed.now;
+  settings = s.settings;
+  form = s.form;
+  head = s.head.now;
+}
+
+abbrev pub rows_of : LongData → List Fields
+rows_of s = rows_in s.header s.bytes
 
 -- what programs are learned over: all rows of the sheet, and these tables
-abbrev pub ground_of : LongSheet → List TableData → Ground
-ground_of s tables = record { settings = s.settings; sheet = sheet_over s.inputs.now s.output (rows_of s); tables = tables }
+abbrev pub ground_of : LongData → List TableData → Ground
+ground_of s tables = record { settings = s.settings; sheet = sheet_over s.inputs s.output (rows_of s); tables = tables }
 
--- a sheet that can be filled: its columns can be, all fields that are read are UTF-8, and its records can be counted
-pub record IsLong (s : LongSheet) : Type 0 where
+-- the columns of a sheet can be filled
+pub record IsSet (s : LongSheet) : Type 0 where
   pub settings : AreSettings s.settings
   pub inputs : AreInputs s.inputs.now
   pub output : ForSome s.output IsColumn
-  pub text : All (IsText (rising s.inputs.now ++ option_to_list s.output)) (rows_of s)
-  pub few : length (records_of s.bytes.now) ≤ 16777216
+  pub column : 1 ≤ s.form.column
+  pub states : IfSome s.form.states (λ column. 1 ≤ column)
+
+-- rows that a block can have, whatever the file holds now: their fields are UTF-8 where they are read, their numbers rise, and
+-- they are no more than this many
+pub record AreFit (s : LongSheet) (most : ℕ) (these : List Numbered) : Type 0 where
+  pub text : All (IsReadable (rising s.inputs.now) s.output) these
+  pub rise : RowsRise these
+  pub few : length these ≤ most
+
+-- a sheet that can be filled: its columns can be, all fields that are read are UTF-8, and its records can be counted
+pub record IsLong (s : LongData) : Type 0 where
+  pub settings : AreSettings s.settings
+  pub inputs : AreInputs s.inputs
+  pub output : ForSome s.output IsColumn
+  pub text : All (IsText (rising s.inputs ++ option_to_list s.output)) (rows_of s)
+  pub few : length (records_of s.bytes) ≤ 16777216
   pub column : 1 ≤ s.form.column
   pub states : IfSome s.form.states (λ column. 1 ≤ column)
 
 -- some rows of the sheet, in their order, no more than a block has
-pub record AreRows (s : LongSheet) (these : List Numbered) : Type 0 where
+pub record AreRows (s : LongData) (these : List Numbered) : Type 0 where
   pub rows : AreOf these (numbered 1 (rows_of s))
   pub few : length these ≤ most_rows
 
@@ -50,6 +92,10 @@ abbrev pub header_in : Bool → List Fields → Option Fields
 header_in false records = None
 header_in true [] = None
 header_in true (header ∷ rows) = Some header
+
+-- the header with the record after `n` of them: the first record is the header, where there is one
+abbrev pub header_with : Bool → ℕ → Fields → Option Fields → Option Fields
+header_with header n fields before = if header && (n == 0) then Some fields else before
 
 -- what is seen of records, of which the first ones are looked at, `most` at most
 pub record IsSeen (header : Bool) (most : ℕ) (records : List Fields) (seen : Seen) : Type 0 where

@@ -1,16 +1,11 @@
 -- Rows of a long sheet, read in their order.
-use Rattle.std.specs.Prelude.{◌≡◌, ◌⊎◌, ℕ, ◌+◌, List, [], ◌∷◌, Bool, true, false, ⊤, Option, unwrap_or}
+use Rattle.std.specs.Prelude.{◌≡◌, ◌⊎◌, ℕ, ◌+◌, List, [], ◌∷◌, ⊤}
 use Rattle.fill_report.specs.Records.{Fields}
 use Rattle.fill_blocks.specs.declared.numbered.Numbered.{Numbered}
 
 -- the most rows of a block
 unfoldable pub most_rows : ℕ
 most_rows = 16384
-
--- what is left to read: nothing once the end was seen
-abbrev pub left : Bool → Option (List Fields) → List Fields
-left true rest = []
-left false rest = unwrap_or rest []
 
 -- these records as rows, the first of which has this number
 abbrev pub numbered : ℕ → List Fields → List Numbered
@@ -22,3 +17,8 @@ abbrev pub AreOf : List Numbered → List Numbered → Type 0
 AreOf [] rows = ⊤
 AreOf (x ∷ xs) [] = ⊥
 AreOf (x ∷ xs) (row ∷ more) = ((x ≡ row) × AreOf xs more) ⊎ AreOf (x ∷ xs) more
+
+-- the numbers of these rows go on from the first one
+abbrev pub AreFrom : ℕ → List Numbered → Type 0
+AreFrom first [] = ⊤
+AreFrom first (x ∷ xs) = (x.number ≡ first) × AreFrom (first + 1) xs

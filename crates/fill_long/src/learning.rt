@@ -1,23 +1,25 @@
 //! What the rows of a long sheet teach.
-ghost use Rattle.std.specs.Prelude.{◌≡◌, ◌++◌, ◌⊎◌, ◌<◌, ◌∷◌, [], List as Listed, All, Contains, IfOk, None, OnOk, Some, false};
+ghost use Rattle.std.specs.Prelude.{◌≡◌, ◌++◌, ◌⊎◌, ◌<◌, ◌≤◌, ◌∷◌, ℕ, [], List as Listed, All, Contains, IfOk, None, OnOk, Some, false, length};
+ghost use Rattle.fill_records.specs.Records.{records_of};
+ghost use Rattle.fill_tree.specs.declared.user.TheConstants.{MOST_EXAMPLES};
 ghost use Rattle.fill_sheet.specs.Sheet.{given_in};
-ghost use Rattle.fill_filled.specs.Learned.{AreLearned, Gives, Learns, given_for};
-ghost use Rattle.fill_filled.specs.declared.learning.Refused.{Refused as RefusedData};
-ghost use Rattle.fill_blocks.specs.Merged.{RowsRise, numbers_of};
-ghost use Rattle.fill_long.specs.Long.{AreRows, IsLong, ground_of, rows_of};
-ghost use Rattle.fill_long.specs.Reading.{AreOf, numbered};
+ghost use Rattle.fill_filled.specs.Learned.{given_for};
+ghost use Rattle.fill_blocks.specs.Merged.{RowsRise};
+ghost use Rattle.fill_long.specs.Long.{AreFit, IsLong, IsSet, LongData, long_of, rows_of};
+ghost use Rattle.fill_long.specs.Reading.{AreOf, most_rows, numbered};
 ghost use Rattle.fill_long.specs.Rows.{GivesNone, IsRow};
-ghost use Rattle.fill_long.specs.Taught.{Adds, HasLearned, IsInStep, IsKept, IsTaught, examples_of, ground_with, tables_of};
+ghost use Rattle.fill_long.specs.Taught.{Adds, IsInStep, IsTaught, LearnsEach, LearnsRow, LearnsRows, Teaches, ground_with};
 
-use crate::reading::Reading;
+use crate::reading::{next_rows, skip_header};
 use crate::sheet::{Basis, LongSheet};
 use fill_blocks::{Block, Numbered};
-use fill_edge::{Ledger, Steps};
+use fill_edge::{Cabinet, Ledger, Steps};
 use fill_filled::{Refused, clash_of, typed_at};
+use fill_passes::{Origin, Pass};
 use fill_session::EditError;
 use fill_tables::Tables;
 use fill_text::{List, NoMemory, Text};
-use fill_tree::Example;
+use fill_tree::{Example, MOST_EXAMPLES};
 use std::alloc::Global;
 
 /// What rows teach.
@@ -36,18 +38,20 @@ pub struct Learned {
 /// For how many refused texts such an example is sought.
 const MOST_CLASHES: usize = 10;
 
-/// Learns from all rows that give a text, in their order. A text that is typed for a row wins over its cell. Answers too what
-/// the next block is made of: the last block, where there is one.
-pub fn learn<L: Ledger>(
+/// Learns from all rows that give a text, in their order, in a pass over the file. A text that is typed for a row wins over its
+/// cell. Answers too what the next block is made of: the last block, where there is one.
+///
+/// A read that fails is answered as memory that ran out is. What was learned is of the file's bytes, where they are told.
+pub fn learn<C: Cabinet + Drop, B: Origin, L: Ledger>(
     alloc: Global,
+    pass: &mut Pass<C, B>,
     sheet: &LongSheet<'_>,
     tables: Tables,
     steps: &mut Steps<L>,
 ) -> Result<(Learned, Basis), NoMemory>
-    requires { IsLong sheet.now }
-    ensures learned { IfOk result (λ made. AreLearned sheet.now.typed.now (ground_of sheet.now tables) made.0.examples made.0.refused) }
-    ensures taught { IfOk result (λ made. IsTaught sheet.now made.0 made.1) }
-    ensures tables { IfOk result (λ made. tables_of made.1 ≡ tables) }
+    requires { IsSet sheet.now }
+    ensures kept { IfOk result (λ made. AreFit sheet.now MOST_EXAMPLES made.0.kept.items) }
+    ensures teaches { IfOk result (λ made. (bytes : Listed ℕ) → pass.old ≡ Some (records_of bytes) → let s = long_of bytes sheet.now in IsLong s → Teaches s tables made.0 made.1) }
 {
     let mut learned = Learned {
         examples: List::new(alloc),
@@ -56,15 +60,24 @@ pub fn learn<L: Ledger>(
         clashes: Vec::new(alloc),
     };
     let mut basis = Basis::Tables(tables);
-    let mut reading = Reading::of_rows(alloc, sheet.bytes, sheet.header)?;
+    match skip_header(alloc, pass, sheet.header) {
+        Ok(()) => {}
+        Err(NoMemory) => return Err(NoMemory),
+    }
     let mut done = 0;
     loop {
-        let rows = reading.next_rows(alloc, done + 1)?;
+        let rows = match next_rows(alloc, pass, sheet, done) {
+            Ok(rows) => rows,
+            Err(NoMemory) => return Err(NoMemory),
+        };
         if rows.is_empty() {
             return Ok((learned, basis));
         }
         done += rows.len() as u32;
-        basis = learn_rows(alloc, sheet, &mut learned, basis, rows, steps)?;
+        basis = match learn_rows(alloc, sheet, &mut learned, basis, rows, steps) {
+            Ok(basis) => basis,
+            Err(NoMemory) => return Err(NoMemory),
+        };
     }
 }
 
@@ -77,17 +90,13 @@ fn learn_rows<L: Ledger>(
     rows: Vec<Numbered>,
     steps: &mut Steps<L>,
 ) -> Result<Basis, NoMemory>
-    requires long { IsLong sheet.now }
-    requires taught { IsTaught sheet.now learned.old basis }
-    requires rows { AreRows sheet.now rows.items }
-    requires after { AreOf (learned.old.kept.items ++ rows.items) (numbered 1 (rows_of sheet.now)) }
-    ensures stands { IfOk result (HasLearned sheet.now learned.new.examples) }
-    ensures tables { IfOk result (λ after. tables_of after ≡ tables_of basis) }
+    requires set { IsSet sheet.now }
+    requires kept { AreFit sheet.now MOST_EXAMPLES learned.old.kept.items }
+    requires rows { AreFit sheet.now most_rows rows.items }
     ensures kept { OnOk result (AreOf learned.new.kept.items (learned.old.kept.items ++ rows.items)) }
-    ensures numbers { OnOk result (IsKept sheet.now learned.new.kept.items learned.new.examples) }
-    ensures learns { OnOk result ((here : Listed RefusedData)
-        × Learns sheet.now.typed.now (ground_of sheet.now (tables_of basis)) learned.old.examples (numbers_of rows.items) learned.new.examples here
-        × (learned.new.refused ≡ learned.old.refused ++ here)) }
+    ensures few { OnOk result (length learned.new.kept.items ≤ MOST_EXAMPLES) }
+    ensures learns { IfOk result (λ after. (bytes : Listed ℕ) → let s = long_of bytes sheet.now in IsLong s → IsTaught s learned.old basis →
+        AreOf (learned.old.kept.items ++ rows.items) (numbered 1 (rows_of s)) → LearnsRows s learned.old basis rows.items learned.new after) }
 {
     if !gives_any(sheet, &rows) {
         return Ok(basis);
@@ -100,9 +109,8 @@ fn learn_rows<L: Ledger>(
 
 /// Whether one of the rows gives a text.
 fn gives_any(sheet: &LongSheet<'_>, rows: &[Numbered]) -> bool
-    requires long { IsLong sheet.now }
-    requires rows { All (IsRow sheet.now) rows.now }
-    ensures { result ≡ false → All (GivesNone sheet.now) rows.now }
+    requires { IsSet sheet.now }
+    ensures { (bytes : Listed ℕ) → let s = long_of bytes sheet.now in IsLong s → All (IsRow s) rows.now → result ≡ false → All (GivesNone s) rows.now }
 {
     for row in rows {
         if gives(sheet, row) {
@@ -114,9 +122,8 @@ fn gives_any(sheet: &LongSheet<'_>, rows: &[Numbered]) -> bool
 
 /// Whether a row gives a text: one is typed for it, or its cell has one.
 fn gives(sheet: &LongSheet<'_>, row: &Numbered) -> bool
-    requires long { IsLong sheet.now }
-    requires row { IsRow sheet.now row.now }
-    ensures { result ≡ false → GivesNone sheet.now row.now }
+    requires { IsSet sheet.now }
+    ensures { (bytes : Listed ℕ) → let s = long_of bytes sheet.now in IsLong s → IsRow s row.now → result ≡ false → GivesNone s row.now }
 {
     match typed_at(sheet.typed, row.number) {
         Some(_) => true,
@@ -126,7 +133,7 @@ fn gives(sheet: &LongSheet<'_>, row: &Numbered) -> bool
 
 /// Whether the cell of a row has a text.
 fn has_cell(sheet: &LongSheet<'_>, row: &Numbered) -> bool
-    requires { IsLong sheet.now }
+    requires { IsSet sheet.now }
     ensures { result ≡ false → given_in sheet.now.output row.now.fields ≡ None }
 {
     match sheet.output {
@@ -144,14 +151,11 @@ fn learn_each<L: Ledger>(
     steps: &mut Steps<L>,
 ) -> Result<(), NoMemory>
     requires here { All (λ it. Contains block.old.numbers it.number) rows.items }
-    requires step { IsInStep sheet.now learned.old.kept.items block.old }
-    requires after { RowsRise (learned.old.kept.items ++ rows.items) }
-    ensures step { OnOk result (IsInStep sheet.now learned.new.kept.items block.new) }
-    ensures tables { OnOk result (block.new.session.spaces.ground.tables ≡ block.old.session.spaces.ground.tables) }
+    requires few { length learned.old.kept.items ≤ MOST_EXAMPLES }
+    ensures few { OnOk result (length learned.new.kept.items ≤ MOST_EXAMPLES) }
     ensures kept { OnOk result (AreOf learned.new.kept.items (learned.old.kept.items ++ rows.items)) }
-    ensures learns { OnOk result ((here : Listed RefusedData)
-        × Learns sheet.now.typed.now (ground_with sheet.now block.old) (examples_of block.old) (numbers_of rows.items) (examples_of block.new) here
-        × (learned.new.refused ≡ learned.old.refused ++ here)) }
+    ensures learns { OnOk result ((bytes : Listed ℕ) → let s = long_of bytes sheet.now in IsInStep s learned.old.kept.items block.old → RowsRise (learned.old.kept.items ++ rows.items) →
+        LearnsEach s block.old learned.old learned.new rows.items block.new) }
 {
     for row in rows {
         learn_row(sheet, block, learned, row, steps)?;
@@ -168,29 +172,25 @@ fn learn_row<L: Ledger>(
     steps: &mut Steps<L>,
 ) -> Result<(), NoMemory>
     requires here { Contains block.old.numbers row.number }
-    requires step { IsInStep sheet.now learned.old.kept.items block.old }
-    requires after { All (λ it. it.number < row.number) learned.old.kept.items }
+    requires few { length learned.old.kept.items ≤ MOST_EXAMPLES }
+    ensures few { OnOk result (length learned.new.kept.items ≤ MOST_EXAMPLES) }
     ensures numbers { block.new.numbers ≡ block.old.numbers }
-    ensures step { OnOk result (IsInStep sheet.now learned.new.kept.items block.new) }
-    ensures tables { OnOk result (block.new.session.spaces.ground.tables ≡ block.old.session.spaces.ground.tables) }
     ensures kept { OnOk result ((learned.new.kept.items ≡ learned.old.kept.items) ⊎ (learned.new.kept.items ≡ learned.old.kept.items ++ row ∷ [])) }
-    ensures gives { OnOk result ((here : Listed RefusedData)
-        × Gives (ground_with sheet.now block.old) (examples_of block.old) row.number (given_for sheet.now.typed.now (ground_with sheet.now block.old).sheet row.number) (examples_of block.new) here
-        × (learned.new.refused ≡ learned.old.refused ++ here)) }
+    ensures learns { OnOk result ((bytes : Listed ℕ) → let s = long_of bytes sheet.now in IsInStep s learned.old.kept.items block.old → All (λ it. it.number < row.number) learned.old.kept.items →
+        LearnsRow s block.old learned.old learned.new row.number (given_for s.typed (ground_with s block.old).sheet row.number) block.new) }
 {
     let text = match block.given_for(row.number, sheet.typed) {
         None => return Ok(()),
         Some(text) => text.copy(),
     };
     match text {
-        Ok(text) => learn_text(sheet, block, learned, row, text, steps),
+        Ok(text) => learn_text(block, learned, row, text, steps),
         Err(NoMemory) => Err(NoMemory),
     }
 }
 
 /// Learns a text of a row of the block.
 fn learn_text<L: Ledger>(
-    sheet: &LongSheet<'_>,
     block: &mut Block,
     learned: &mut Learned,
     row: Numbered,
@@ -198,21 +198,22 @@ fn learn_text<L: Ledger>(
     steps: &mut Steps<L>,
 ) -> Result<(), NoMemory>
     requires here { Contains block.old.numbers row.number }
-    requires step { IsInStep sheet.now learned.old.kept.items block.old }
-    requires after { All (λ it. it.number < row.number) learned.old.kept.items }
+    requires few { length learned.old.kept.items ≤ MOST_EXAMPLES }
+    ensures few { OnOk result (length learned.new.kept.items ≤ MOST_EXAMPLES) }
     ensures numbers { block.new.numbers ≡ block.old.numbers }
-    ensures step { OnOk result (IsInStep sheet.now learned.new.kept.items block.new) }
-    ensures tables { OnOk result (block.new.session.spaces.ground.tables ≡ block.old.session.spaces.ground.tables) }
     ensures kept { OnOk result ((learned.new.kept.items ≡ learned.old.kept.items) ⊎ (learned.new.kept.items ≡ learned.old.kept.items ++ row ∷ [])) }
-    ensures gives { OnOk result ((here : Listed RefusedData)
-        × Gives (ground_with sheet.now block.old) (examples_of block.old) row.number (Some text) (examples_of block.new) here
-        × (learned.new.refused ≡ learned.old.refused ++ here)) }
+    ensures learns { OnOk result ((s : LongData) → IsInStep s learned.old.kept.items block.old → All (λ it. it.number < row.number) learned.old.kept.items →
+        LearnsRow s block.old learned.old learned.new row.number (Some text) block.new) }
 {
     let accepted = learned.add(block, row.number, text, steps)?;
-    if accepted {
-        return Ok(learned.kept.push(row)?);
+    if !accepted {
+        return Ok(());
     }
-    Ok(())
+    // no session accepts more examples
+    if learned.kept.len() >= MOST_EXAMPLES {
+        return Err(NoMemory);
+    }
+    Ok(learned.kept.push(row)?)
 }
 
 impl Learned {

@@ -1,4 +1,4 @@
-//! Filling a sheet of any length: its bytes are gone over block by block, and of its rows only those of the examples and of
+//! Filling a sheet of any length: its file is gone over block by block, and of its rows only those of the examples and of
 //! one block stand in memory.
 #![tactic(auto)]
 

@@ -1,101 +1,86 @@
-//! Reading the records of a sheet, a block of rows at a time.
-ghost use Rattle.std.specs.Prelude.{◌≡◌, ◌+◌, ◌<◌, ◌^◌, IfOk, OnOk, drop, length, slice_get, take};
-ghost use Rattle.fill_records.specs.Records.{records_of};
-ghost use Rattle.fill_long.specs.Long.{rows_in};
-ghost use Rattle.fill_long.specs.Reading.{most_rows, numbered};
+//! Reading the rows of a sheet in a pass over its file, a block of rows at a time.
+ghost use Rattle.std.specs.Prelude.{◌≡◌, ◌+◌, ◌≤◌, IfOk, IfSome, IsTrue, OnOk, Some, drop, length, option_to_list, take, ◌++◌};
+ghost use Rattle.fill_records.specs.Texts.{IsText};
+ghost use Rattle.fill_sheet.specs.Columns.{rising};
+ghost use Rattle.fill_sheet.specs.Sheet.{headers};
+ghost use Rattle.fill_long.specs.Long.{AreFit, IsSet};
+ghost use Rattle.fill_long.specs.Reading.{AreFrom, most_rows, numbered};
 
+use crate::sheet::LongSheet;
 use fill_blocks::Numbered;
+use fill_edge::Cabinet;
+use fill_passes::{Origin, Pass};
 use fill_records::Record;
-use fill_stream::{Broken, RecordStream};
 use fill_text::NoMemory;
 use std::alloc::Global;
-use std::marker::Model;
 
 /// The most rows of a block.
 const MOST_ROWS: u32 = 16_384;
 
-/// The records of bytes, one after another. Contracts see those that are left.
-#[derive(Drop)]
-pub(crate) struct Reading<'a> {
-    stream: RecordStream<&'a [u8]>,
-    ended: bool,
+/// The most records that a pass reads, the header among them.
+pub(crate) const MOST_RECORDS: u32 = 16_777_216;
+
+/// Passes the header over, where there is one.
+pub(crate) fn skip_header<C: Cabinet + Drop, B: Origin>(
+    alloc: Global,
+    pass: &mut Pass<C, B>,
+    header: bool,
+) -> Result<(), NoMemory>
+    ensures { OnOk result (IfSome pass.old (λ records. pass.new ≡ Some (drop (headers header) records))) }
+{
+    if !header {
+        return Ok(());
+    }
+    match pass.next(alloc) {
+        Ok(_) => Ok(()),
+        Err(NoMemory) => Err(NoMemory),
+    }
 }
 
-impl<'a> Model for Reading<'a> {
-    ghost use Rattle.std.specs.Prelude.{◌≡◌, List, Some, false};
-    ghost use Rattle.fill_report.specs.Records.{Fields};
-    ghost use Rattle.fill_long.specs.Reading.{left};
-
-    ghost Value = { List Fields };
-
-    ghost view = { λ reading. left reading.ended reading.stream.rest };
-
-    ghost invariant = { λ reading. reading.ended ≡ false → (rest : List Fields) × (reading.stream.rest ≡ Some rest) };
+/// The next rows after the first ones of a sheet, as many as a block has at most; no rows after the last one.
+///
+/// A file that has changed since it was opened may have rows that cannot be read, or too many. Both are answered as memory that
+/// ran out is.
+pub(crate) fn next_rows<C: Cabinet + Drop, B: Origin>(
+    alloc: Global,
+    pass: &mut Pass<C, B>,
+    sheet: &LongSheet<'_>,
+    done: u32,
+) -> Result<Vec<Numbered>, NoMemory>
+    requires set { IsSet sheet.now }
+    requires done { done ≤ 16777216 }
+    ensures rows { IfOk result (λ rows. IfSome pass.old (λ left. rows.items ≡ numbered (done + 1) (take most_rows left))) }
+    ensures left { OnOk result (IfSome pass.old (λ left. pass.new ≡ Some (drop most_rows left))) }
+    ensures fit { IfOk result (λ rows. AreFit sheet.now most_rows rows.items) }
+    ensures from { IfOk result (λ rows. AreFrom (done + 1) rows.items) }
+    ensures few { IfOk result (λ rows. done + length rows.items ≤ 16777216) }
+{
+    let mut rows = Vec::new(alloc);
+    for n in 0..MOST_ROWS {
+        let fields = match pass.next(alloc) {
+            Ok(Some(fields)) => fields,
+            Ok(None) => return Ok(rows),
+            Err(NoMemory) => return Err(NoMemory),
+        };
+        if done + n >= MOST_RECORDS || !is_readable(sheet, &fields) {
+            return Err(NoMemory);
+        }
+        let number = done + n + 1;
+        rows.push(Numbered { number, fields })?;
+    }
+    Ok(rows)
 }
 
-impl<'a> Reading<'a> {
-    /// All records of these bytes.
-    pub(crate) fn of(alloc: Global, bytes: &'a [u8]) -> Reading<'a>
-        ensures { result ≡ records_of bytes.now }
-    {
-        Reading {
-            stream: RecordStream::new(alloc, bytes),
-            ended: false,
-        }
+/// Whether the fields of a record are UTF-8 in the columns that are read.
+fn is_readable(sheet: &LongSheet<'_>, fields: &Record) -> bool
+    requires { IsSet sheet.now }
+    ensures { IsTrue result → IsText (rising sheet.now.inputs.now ++ option_to_list sheet.now.output) fields.now }
+{
+    if fields.bad_column(sheet.inputs).is_some() {
+        return false;
     }
-
-    /// The records after the header, where there is one.
-    pub(crate) fn of_rows(
-        alloc: Global,
-        bytes: &'a [u8],
-        header: bool,
-    ) -> Result<Reading<'a>, NoMemory>
-        ensures { IfOk result (λ reading. reading ≡ rows_in header bytes.now) }
-    {
-        let mut reading = Reading::of(alloc, bytes);
-        if header {
-            let _header = reading.next(alloc)?;
-        }
-        Ok(reading)
-    }
-
-    /// The next record; none after the last one.
-    pub(crate) fn next(&mut self, alloc: Global) -> Result<Option<Record>, NoMemory>
-        ensures found { IfOk result (λ found. found ≡ slice_get self.old 0) }
-        ensures left { OnOk result (self.new ≡ drop 1 self.old) }
-    {
-        if self.ended {
-            return Ok(None);
-        }
-        match self.stream.next() {
-            Ok(true) => Ok(Some(self.stream.take(alloc))),
-            Ok(false) => {
-                self.ended = true;
-                Ok(None)
-            }
-            Err(Broken) => {
-                self.ended = true;
-                Err(NoMemory)
-            }
-        }
-    }
-
-    /// The next rows, as many as a block has at most, where the first of them has this number; no rows after the last one.
-    pub(crate) fn next_rows(&mut self, alloc: Global, first: u32) -> Result<Vec<Numbered>, NoMemory>
-        requires { first + length self.old < 2 ^ 32 }
-        ensures rows { IfOk result (λ rows. rows.items ≡ numbered first (take most_rows self.old)) }
-        ensures left { OnOk result (self.new ≡ drop most_rows self.old) }
-    {
-        let mut rows = Vec::new(alloc);
-        for n in 0..MOST_ROWS {
-            match self.next(alloc)? {
-                Some(fields) => rows.push(Numbered {
-                    number: first + n,
-                    fields,
-                })?,
-                None => return Ok(rows),
-            }
-        }
-        Ok(rows)
+    match sheet.output {
+        Some(column) => fields.bad_column(&[column]).is_none(),
+        None => true,
     }
 }

@@ -1,11 +1,12 @@
 //! What is seen of all records of a sheet at once.
-ghost use Rattle.std.specs.Prelude.{◌≡◌, ◌+◌, ◌<◌, All, IfOk, take};
-ghost use Rattle.fill_records.specs.Records.{records_of};
+ghost use Rattle.std.specs.Prelude.{◌≡◌, ◌+◌, ◌<◌, ◌^◌, All, IfOk, IfSome, length, max};
 ghost use Rattle.fill_records.specs.Texts.{first_bad};
 ghost use Rattle.fill_sheet.specs.Sheet.{headers, row_records};
-ghost use Rattle.fill_long.specs.Long.{IsSeen, header_in};
+ghost use Rattle.fill_long.specs.Long.{IsSeen, header_with};
 
-use crate::reading::Reading;
+use crate::reading::skip_header;
+use fill_edge::Cabinet;
+use fill_passes::{Origin, Pass};
 use fill_records::Record;
 use fill_text::NoMemory;
 use std::alloc::Global;
@@ -24,66 +25,79 @@ pub struct Seen {
 }
 
 impl Seen {
-    /// What is seen of the records of these bytes, of which `most` are looked at.
-    pub fn of(alloc: Global, bytes: &[u8], header: bool, most: u32) -> Result<Seen, NoMemory>
-        ensures { IfOk result (IsSeen header most (records_of bytes.now)) }
+    /// What is seen of the records that a pass has left, of which `most` are looked at.
+    pub fn of<C: Cabinet + Drop, B: Origin>(
+        alloc: Global,
+        pass: &mut Pass<C, B>,
+        header: bool,
+        most: u32,
+    ) -> Result<Seen, NoMemory>
+        ensures { IfOk result (λ seen. IfSome pass.old (λ records. IsSeen header most records seen)) }
     {
         let mut seen = Seen {
-            header: header_of(alloc, bytes, header, most)?,
+            header: None,
             width: 0,
             records: 0,
             more: false,
         };
-        let mut reading = Reading::of(alloc, bytes);
         for _ in 0..most {
-            let Some(fields) = reading.next(alloc)? else {
-                return Ok(seen);
-            };
-            seen.width = seen.width.max(fields.len());
-            seen.records += 1;
+            match pass.next(alloc) {
+                Ok(Some(fields)) => seen.add(header, fields),
+                Ok(None) => return Ok(seen),
+                Err(NoMemory) => return Err(NoMemory),
+            }
         }
-        seen.more = reading.next(alloc)?.is_some();
-        Ok(seen)
+        match pass.next(alloc) {
+            Ok(next) => {
+                seen.more = next.is_some();
+                Ok(seen)
+            }
+            Err(NoMemory) => Err(NoMemory),
+        }
     }
-}
 
-/// The first of the records of these bytes, of which `most` are looked at, where it names the columns.
-fn header_of(
-    alloc: Global,
-    bytes: &[u8],
-    header: bool,
-    most: u32,
-) -> Result<Option<Record>, NoMemory>
-    ensures { IfOk result (λ found. found ≡ header_in header (take most (records_of bytes.now))) }
-{
-    if !header || most == 0 {
-        return Ok(None);
+    /// One more record is seen.
+    fn add(&mut self, header: bool, fields: Record)
+        requires { self.old.records + 1 < 2 ^ 32 }
+        ensures header { self.new.header ≡ header_with header self.old.records fields self.old.header }
+        ensures width { self.new.width ≡ max self.old.width (length fields) }
+        ensures records { self.new.records ≡ self.old.records + 1 }
+        ensures more { self.new.more ≡ self.old.more }
+    {
+        self.width = self.width.max(fields.len());
+        if header && self.records == 0 {
+            self.header = Some(fields);
+        }
+        self.records += 1;
     }
-    let mut reading = Reading::of(alloc, bytes);
-    let first = reading.next(alloc)?;
-    Ok(first)
 }
 
 /// The number of the first record after the header, where there is one, that has a field in these columns that is not UTF-8,
 /// and the first such column of it. Records after the first `most` are not looked at.
-pub fn first_bad(
+pub fn first_bad<C: Cabinet + Drop, B: Origin>(
     alloc: Global,
-    bytes: &[u8],
+    pass: &mut Pass<C, B>,
     header: bool,
     columns: &[u32],
     most: u32,
 ) -> Result<Option<(u32, u32)>, NoMemory>
     requires { All (λ column. 0 < column) columns.now }
-    ensures { IfOk result (λ found. found ≡ first_bad columns.now (headers header + 1) (row_records most header (records_of bytes.now))) }
+    ensures { IfOk result (λ found. IfSome pass.old (λ records. found ≡ first_bad columns.now (headers header + 1) (row_records most header records))) }
 {
     let above = if header { 1 } else { 0 };
-    let mut reading = Reading::of_rows(alloc, bytes, header)?;
+    match skip_header(alloc, pass, header) {
+        Ok(()) => {}
+        Err(NoMemory) => return Err(NoMemory),
+    }
     for n in above..most {
-        let Some(fields) = reading.next(alloc)? else {
-            return Ok(None);
-        };
-        if let Some(column) = fields.bad_column(columns) {
-            return Ok(Some((n + 1, column)));
+        match pass.next(alloc) {
+            Ok(Some(fields)) => {
+                if let Some(column) = fields.bad_column(columns) {
+                    return Ok(Some((n + 1, column)));
+                }
+            }
+            Ok(None) => return Ok(None),
+            Err(NoMemory) => return Err(NoMemory),
         }
     }
     Ok(None)

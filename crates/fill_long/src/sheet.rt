@@ -1,7 +1,9 @@
 //! Long sheets, and what their blocks are made of.
-ghost use Rattle.std.specs.Prelude.{◌≡◌, All, Contains, IfOk, true};
+ghost use Rattle.std.specs.Prelude.{◌≡◌, ℕ, List as Listed, All, Contains, IfOk, true};
+ghost use Rattle.fill_tree.specs.declared.user.TheConstants.{MOST_EXAMPLES};
 ghost use Rattle.fill_blocks.specs.Blocks.{StandsFor};
-ghost use Rattle.fill_long.specs.Long.{AreRows, IsLong, ground_of};
+ghost use Rattle.fill_long.specs.Long.{AreFit, AreRows, IsLong, IsSet, ground_of, long_of};
+ghost use Rattle.fill_long.specs.Reading.{most_rows};
 ghost use Rattle.fill_long.specs.Taught.{IsTaught, tables_of};
 
 use crate::learning::Learned;
@@ -13,10 +15,9 @@ use fill_text::NoMemory;
 use fill_tree::{Example, Settings};
 use std::alloc::Global;
 
-/// A sheet that is filled, as the bytes of its file.
+/// What is known of a sheet that is filled, beside the bytes of its file.
 #[derive(Clone, Copy)]
 pub struct LongSheet<'a> {
-    pub bytes: &'a [u8],
     /// Whether the first record names the columns.
     pub header: bool,
     /// The columns that rules may read, in any order.
@@ -44,6 +45,9 @@ pub enum Basis {
 
 impl LongSheet<'_> {
     /// A block that has these rows and what was learned.
+    ///
+    /// Whatever the file holds now, the rows are some that a block can have; where they are those of the sheet, the block stands
+    /// for it.
     pub fn block<L: Ledger>(
         &self,
         alloc: Global,
@@ -52,10 +56,11 @@ impl LongSheet<'_> {
         rows: &[Numbered],
         steps: &mut Steps<L>,
     ) -> Result<Block, NoMemory>
-        requires long { IsLong self.now }
-        requires taught { IsTaught self.now learned.now basis }
-        requires rows { AreRows self.now rows.now }
-        ensures stands { IfOk result (λ block. StandsFor (ground_of self.now (tables_of basis)) block learned.now.examples) }
+        requires set { IsSet self.now }
+        requires kept { AreFit self.now MOST_EXAMPLES learned.now.kept.items }
+        requires rows { AreFit self.now most_rows rows.now }
+        ensures stands { (bytes : Listed ℕ) → let s = long_of bytes self.now in IsLong s → IsTaught s learned.now basis → AreRows s rows.now →
+            IfOk result (λ block. StandsFor (ground_of s (tables_of basis)) block learned.now.examples) }
         ensures here { IfOk result (λ block. All (λ it. Contains block.numbers it.number) rows.now) }
     {
         let tables = match basis {
@@ -79,10 +84,11 @@ impl LongSheet<'_> {
         rows: &[Numbered],
         steps: &mut Steps<L>,
     ) -> Result<Block, NoMemory>
-        requires long { IsLong self.now }
-        requires taught { IsTaught self.now learned.now (Basis.Tables tables) }
-        requires rows { AreRows self.now rows.now }
-        ensures stands { IfOk result (λ block. StandsFor (ground_of self.now tables) block learned.now.examples) }
+        requires set { IsSet self.now }
+        requires kept { AreFit self.now MOST_EXAMPLES learned.now.kept.items }
+        requires rows { AreFit self.now most_rows rows.now }
+        ensures stands { (bytes : Listed ℕ) → let s = long_of bytes self.now in IsLong s → IsTaught s learned.now (Basis.Tables tables) → AreRows s rows.now →
+            IfOk result (λ block. StandsFor (ground_of s tables) block learned.now.examples) }
         ensures here { IfOk result (λ block. All (λ it. Contains block.numbers it.number) rows.now) }
     {
         let rows = Rows {

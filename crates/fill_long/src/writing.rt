@@ -1,24 +1,23 @@
 //! Writing a long sheet with its column filled.
-ghost use Rattle.std.specs.Prelude.{◌≡◌, ◌≤◌, ◌++◌, ◌||◌, ◌⊎◌, ◌∷◌, [], ℕ, All, Contains, IfOk, IsErrOf, OnOk, false, length, take};
-ghost use Rattle.std.specs.Io.KnownBytes.{Appends};
-ghost use Rattle.fill_edge.specs.Outside.{AppendsPart, Rose};
+ghost use Rattle.std.specs.Prelude.{◌≡◌, ◌≤◌, ◌++◌, ◌||◌, ◌⊎◌, ◌∷◌, [], ℕ, List as Listed, All, Contains, IfOk, IsErrOf, OnOk, Some, length};
+ghost use Rattle.fill_edge.specs.Outside.{Rose};
+ghost use Rattle.fill_records.specs.Records.{records_of};
+ghost use Rattle.fill_tree.specs.declared.user.TheConstants.{MOST_EXAMPLES};
 ghost use Rattle.fill_doubt.specs.Shapes.{ShapesStand};
-ghost use Rattle.fill_sheet.specs.Report.{record_text};
-ghost use Rattle.fill_report.specs.Records.{Fields};
-ghost use Rattle.fill_filled.specs.Filled.{TellsUnsure, WritesPart, WritesRows, is_unsure};
-ghost use Rattle.fill_blocks.specs.Blocks.{StandsFor};
+ghost use Rattle.fill_filled.specs.Filled.{is_unsure};
 ghost use Rattle.fill_blocks.specs.Merged.{numbers_of};
-ghost use Rattle.fill_long.specs.Long.{AreRows, IsLong, ground_of, rows_of};
-ghost use Rattle.fill_long.specs.Reading.{AreOf};
-ghost use Rattle.fill_long.specs.Rows.{IsMadeIn, IsRow, IsStateIn, TellsOf, WritesOf, WritesPartOf};
-ghost use Rattle.fill_long.specs.Taught.{IsTaught, examples_of, ground_with, tables_of};
+ghost use Rattle.fill_long.specs.Long.{AreFit, IsLong, IsSet, long_of};
+ghost use Rattle.fill_long.specs.Reading.{AreOf, most_rows};
+ghost use Rattle.fill_long.specs.Rows.{Stands, WritesBlock, WritesRow, WritesSheet};
+ghost use Rattle.fill_long.specs.Taught.{IsTaught};
 
 use crate::learning::Learned;
-use crate::reading::Reading;
+use crate::reading::{next_rows, skip_header};
 use crate::sheet::{Basis, LongSheet};
 use fill_blocks::{Block, Numbered};
-use fill_edge::{Ledger, Sink, Steps, write_all};
+use fill_edge::{Cabinet, Ledger, Sink, Steps, write_all};
 use fill_filled::Summary;
+use fill_passes::{Origin, Pass};
 use fill_report::{Halt, RowState};
 use fill_session::Shapes;
 use fill_sheet::put_record;
@@ -36,75 +35,72 @@ pub struct Written {
     pub shown: Vec<Numbered>,
 }
 
-/// Writes the head, and then the record of each row when it is made. Tells of all rows, and what the next block is made of:
-/// the last block, where there is one.
-pub fn write<L: Ledger, O: Sink>(
+/// Writes the head, and then the record of each row when it is made, in a pass over the file. Tells of all rows, and what the next
+/// block is made of: the last block, where there is one.
+///
+/// A read that fails is answered as memory that ran out is: the rows before it are written.
+pub fn write<C: Cabinet + Drop, B: Origin, L: Ledger, O: Sink>(
     alloc: Global,
+    pass: &mut Pass<C, B>,
     sheet: &LongSheet<'_>,
     learned: &Learned,
     basis: Basis,
     steps: &mut Steps<L>,
     out: &mut O,
 ) -> Result<(Written, Basis), Halt>
-    requires long { IsLong sheet.now }
-    requires taught { IsTaught sheet.now learned.now basis }
-    ensures states { IfOk result (λ made. let s = sheet.now in
-        TellsUnsure s.typed.now (ground_of s (tables_of basis)) learned.now.examples (length (rows_of s)) false made.0.summary.unsure) }
-    ensures shown { IfOk result (λ made. AreRows sheet.now made.0.shown.items) }
-    ensures taught { IfOk result (λ made. IsTaught sheet.now learned.now made.1) }
-    ensures tables { IfOk result (λ made. tables_of made.1 ≡ tables_of basis) }
-    ensures whole { OnOk result (let s = sheet.now in
-        WritesRows s.form s.typed.now (ground_of s (tables_of basis)) learned.now.examples (rows_of s) s.head.now (length (rows_of s)) (O.written out.old) (O.written out.new)) }
-    ensures part { IsErrOf result Halt.Fault → (let s = sheet.now in (n : ℕ) × (n ≤ length (rows_of s))
-        × WritesPart s.form s.typed.now (ground_of s (tables_of basis)) learned.now.examples (rows_of s) s.head.now n (O.written out.old) (O.written out.new)) }
+    requires set { IsSet sheet.now }
+    requires kept { AreFit sheet.now MOST_EXAMPLES learned.now.kept.items }
+    ensures shown { IfOk result (λ made. AreFit sheet.now most_rows made.0.shown.items) }
     ensures fault { IsErrOf result Halt.Fault → Rose (O.faults out.old) (O.faults out.new) }
-    ensures memory { IsErrOf result Halt.NoMemory → (let s = sheet.now in (n : ℕ) × (n ≤ length (rows_of s))
-        × WritesRows s.form s.typed.now (ground_of s (tables_of basis)) learned.now.examples (rows_of s) s.head.now n (O.written out.old) (O.written out.new)) }
+    ensures writes { (bytes : Listed ℕ) → pass.old ≡ Some (records_of bytes) → let s = long_of bytes sheet.now in IsLong s → IsTaught s learned.now basis →
+        WritesSheet s learned.now basis s.head (O.written out.old) (O.written out.new) result }
 {
     match write_all(out, sheet.head) {
-        Ok(()) => write_blocks(alloc, sheet, learned, basis, steps, out),
+        Ok(()) => write_blocks(alloc, pass, sheet, learned, basis, steps, out),
         Err(_) => Err(Halt::Fault),
     }
 }
 
 /// Writes the records of the rows, block by block.
-fn write_blocks<L: Ledger, O: Sink>(
+fn write_blocks<C: Cabinet + Drop, B: Origin, L: Ledger, O: Sink>(
     alloc: Global,
+    pass: &mut Pass<C, B>,
     sheet: &LongSheet<'_>,
     learned: &Learned,
     basis: Basis,
     steps: &mut Steps<L>,
     out: &mut O,
 ) -> Result<(Written, Basis), Halt>
-    requires long { IsLong sheet.now }
-    requires taught { IsTaught sheet.now learned.now basis }
-    ensures states { IfOk result (λ made. let s = sheet.now in
-        TellsUnsure s.typed.now (ground_of s (tables_of basis)) learned.now.examples (length (rows_of s)) false made.0.summary.unsure) }
-    ensures shown { IfOk result (λ made. AreRows sheet.now made.0.shown.items) }
-    ensures taught { IfOk result (λ made. IsTaught sheet.now learned.now made.1) }
-    ensures tables { IfOk result (λ made. tables_of made.1 ≡ tables_of basis) }
-    ensures whole { OnOk result (let s = sheet.now in
-        WritesRows s.form s.typed.now (ground_of s (tables_of basis)) learned.now.examples (rows_of s) [] (length (rows_of s)) (O.written out.old) (O.written out.new)) }
-    ensures part { IsErrOf result Halt.Fault → (let s = sheet.now in (n : ℕ) × (n ≤ length (rows_of s))
-        × WritesPart s.form s.typed.now (ground_of s (tables_of basis)) learned.now.examples (rows_of s) [] n (O.written out.old) (O.written out.new)) }
+    requires set { IsSet sheet.now }
+    requires kept { AreFit sheet.now MOST_EXAMPLES learned.now.kept.items }
+    ensures shown { IfOk result (λ made. AreFit sheet.now most_rows made.0.shown.items) }
     ensures fault { IsErrOf result Halt.Fault → Rose (O.faults out.old) (O.faults out.new) }
-    ensures memory { IsErrOf result Halt.NoMemory → (let s = sheet.now in (n : ℕ) × (n ≤ length (rows_of s))
-        × WritesRows s.form s.typed.now (ground_of s (tables_of basis)) learned.now.examples (rows_of s) [] n (O.written out.old) (O.written out.new)) }
+    ensures writes { (bytes : Listed ℕ) → pass.old ≡ Some (records_of bytes) → let s = long_of bytes sheet.now in IsLong s → IsTaught s learned.now basis →
+        WritesSheet s learned.now basis [] (O.written out.old) (O.written out.new) result }
 {
     let mut written = Written {
         summary: Summary::NONE,
         shown: Vec::new(alloc),
     };
     let mut basis = basis;
-    let mut reading = Reading::of_rows(alloc, sheet.bytes, sheet.header)?;
+    match skip_header(alloc, pass, sheet.header) {
+        Ok(()) => {}
+        Err(NoMemory) => return Err(Halt::NoMemory),
+    }
     let mut done = 0;
     loop {
-        let rows = reading.next_rows(alloc, done + 1)?;
+        let rows = match next_rows(alloc, pass, sheet, done) {
+            Ok(rows) => rows,
+            Err(NoMemory) => return Err(Halt::NoMemory),
+        };
         if rows.is_empty() {
             return Ok((written, basis));
         }
         done += rows.len() as u32;
-        let block = sheet.block(alloc, learned, basis, &rows, steps)?;
+        let block = match sheet.block(alloc, learned, basis, &rows, steps) {
+            Ok(block) => block,
+            Err(NoMemory) => return Err(Halt::NoMemory),
+        };
         match write_rows(alloc, sheet, &block, rows, &mut written, out) {
             Ok(()) => basis = Basis::Block(block),
             Err(halt) => return Err(halt),
@@ -121,19 +117,15 @@ fn write_rows<O: Sink>(
     written: &mut Written,
     out: &mut O,
 ) -> Result<(), Halt>
-    requires long { IsLong sheet.now }
-    requires stands { StandsFor (ground_with sheet.now block.now) block.now (examples_of block.now) }
+    requires set { IsSet sheet.now }
     requires here { All (λ it. Contains block.now.numbers it.number) rows.items }
-    requires rows { All (IsRow sheet.now) rows.items }
     requires few { length written.old.shown.items ≤ MOST_SHOWN }
-    ensures states { OnOk result (TellsOf sheet.now block.now (numbers_of rows.items) written.old.summary.unsure written.new.summary.unsure) }
     ensures shown { OnOk result (AreOf written.new.shown.items (written.old.shown.items ++ rows.items)) }
     ensures few { OnOk result (length written.new.shown.items ≤ MOST_SHOWN) }
-    ensures whole { OnOk result (WritesOf sheet.now block.now (numbers_of rows.items) (O.written out.old) (O.written out.new)) }
-    ensures part { IsErrOf result Halt.Fault → ((n : ℕ) × (n ≤ length rows.items) × WritesPartOf sheet.now block.now (take n (numbers_of rows.items)) (O.written out.old) (O.written out.new)) }
     ensures fault { IsErrOf result Halt.Fault → Rose (O.faults out.old) (O.faults out.new) }
-    ensures memory { IsErrOf result Halt.NoMemory → ((n : ℕ) × (n ≤ length rows.items) × WritesOf sheet.now block.now (take n (numbers_of rows.items)) (O.written out.old) (O.written out.new)) }
     ensures later { O.faults out.old ≤ O.faults out.new }
+    ensures writes { (bytes : Listed ℕ) → let s = long_of bytes sheet.now in Stands s block.now rows.items →
+        WritesBlock s block.now (numbers_of rows.items) written.old.summary.unsure written.new.summary.unsure (O.written out.old) (O.written out.new) result }
 {
     let mut shapes = Shapes::new(alloc);
     for row in rows {
@@ -154,18 +146,14 @@ fn write_row<O: Sink>(
     shapes: &mut Shapes,
     out: &mut O,
 ) -> Result<RowState, Halt>
-    requires long { IsLong sheet.now }
-    requires stands { StandsFor (ground_with sheet.now block.now) block.now (examples_of block.now) }
+    requires set { IsSet sheet.now }
     requires here { Contains block.now.numbers row.now.number }
-    requires row { IsRow sheet.now row.now }
     requires shapes { ShapesStand block.now.session.spaces.arena shapes.old }
     ensures shapes { ShapesStand block.now.session.spaces.arena shapes.new }
-    ensures state { IfOk result (IsStateIn sheet.now block.now row.now.number) }
-    ensures whole { OnOk result ((made : Fields) × IsMadeIn sheet.now block.now row.now.number made × Appends (O.written out.old) (O.written out.new) (record_text made)) }
-    ensures part { IsErrOf result Halt.Fault → ((made : Fields) × IsMadeIn sheet.now block.now row.now.number made × AppendsPart (O.written out.old) (O.written out.new) (record_text made)) }
     ensures fault { IsErrOf result Halt.Fault → Rose (O.faults out.old) (O.faults out.new) }
-    ensures memory { IsErrOf result Halt.NoMemory → out.new ≡ out.old }
     ensures later { O.faults out.old ≤ O.faults out.new }
+    ensures writes { (bytes : Listed ℕ) → let s = long_of bytes sheet.now in Stands s block.now (row.now ∷ []) →
+        WritesRow s block.now row.now.number (O.written out.old) (O.written out.new) result }
 {
     let answer = block.answer(shapes, row.number)?;
     let fields = block.row_fields(alloc, &sheet.form, sheet.typed, row, &answer)?;

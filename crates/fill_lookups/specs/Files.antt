@@ -7,10 +7,6 @@ use Rattle.fill_lookups.specs.Lines.{long_line}
 abbrev pub most_of_table : ℕ
 most_of_table = 16777216
 
--- how many bytes a sheet may have: 1 GiB
-abbrev pub most_of_sheet : ℕ
-most_of_sheet = 1073741824
-
 -- the bytes of a file that is there and has at most these bytes
 abbrev pub bytes_of : ℕ → List ℕ → Option (List ℕ) → Opened (List ℕ) (List ℕ)
 bytes_of most name None = Unread name

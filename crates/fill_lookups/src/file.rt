@@ -13,9 +13,6 @@ use fill_open::Stop;
 use fill_text::List;
 use std::alloc::Global;
 
-/// The most bytes of a sheet that is filled, 1 GiB.
-pub const LARGEST_SHEET: usize = 1_073_741_824;
-
 /// The bytes of a file, which may have at most `most`.
 pub fn open_file<C: Cabinet>(
     alloc: Global,

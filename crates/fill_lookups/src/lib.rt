@@ -6,6 +6,6 @@ mod line;
 mod lines;
 mod tables;
 
-pub use file::{LARGEST_SHEET, open_file};
+pub use file::open_file;
 pub use line::{Line, refused};
 pub use tables::open_tables;

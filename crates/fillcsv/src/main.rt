@@ -30,14 +30,14 @@ fn words(rt: &HostRuntime) -> Result<Vec<String>, AllocError> {
 
 /// Runs the program over the current folder and the standard streams.
 fn start(rt: &HostRuntime, words: &[String]) -> u8 {
-    let mut folder = Folder {
-        cabinet: InputCabinet::new(FolderCabinet::new(rt), rt.stdin()),
+    let folder = Folder {
+        cabinet: InputCabinet::new(rt.alloc(), FolderCabinet::new(rt), rt.stdin()),
         store: FolderStore::new(rt),
     };
     let input = StdSource::new(rt.stdin());
     let mut out = StdSink::new(rt.stdout());
     let mut err = StdSink::new(rt.stderr());
-    run(rt.alloc(), words, &mut folder, input, &mut out, &mut err)
+    run(rt.alloc(), words, folder, input, &mut out, &mut err).status
 }
 
 fn main(rt: HostRuntime) -> ExitCode {

@@ -90,6 +90,37 @@ fn sheets_are_filled(rt: HostRuntime) -> Result<(), Fail> {
     Ok(())
 }
 
+/// Whether a run whose read of this number fails ends so: with 3 and no output, with 4 and a part of it, or with all of it where
+/// fewer reads are made.
+fn ends_within(alloc: Global, row: &Row, call: u64) -> Result<bool, Fail> {
+    let mut scene = empty_scene(alloc)?;
+    scene.folder.cabinet.fail_at(call)?;
+    set(alloc, &mut scene, row)?;
+    let status = status(alloc, &mut scene, b"");
+    let written = scene.out.written();
+    Ok(match status {
+        0 => written == row.output,
+        3 => written.is_empty(),
+        4 => row.output.starts_with(written),
+        _ => false,
+    })
+}
+
+#[test]
+fn a_read_may_fail_in_each_pass(rt: HostRuntime) -> Result<(), Fail> {
+    let row = Row {
+        sheet: NAMES,
+        words: &["s.csv", "--to", "Last", "--state", "--profile", "1"],
+        failing: 0,
+        status: 0,
+        output: b"Name,Last,Last state\nAda Byron,Byron,given\nMax Planck,Planck,doubt\nX,X,doubt\n",
+    };
+    for call in 1..60 {
+        assert!(rt; ends_within(rt.alloc(), &row, call)?, "{call}");
+    }
+    Ok(())
+}
+
 #[test]
 fn examples_are_typed(rt: HostRuntime) -> Result<(), Fail> {
     let rows = [

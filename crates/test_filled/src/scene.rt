@@ -4,6 +4,7 @@ use fill_edge::{MemoryCabinet, MemorySink};
 use fill_files::MemoryStore;
 use fill_stream::MemorySource;
 use std::alloc::Global;
+use std::mem;
 use std::test::Fail;
 
 /// All that a run reads and writes.
@@ -21,23 +22,31 @@ pub(crate) fn empty_scene(alloc: Global) -> Result<Scene, Fail> {
     let err = MemorySink::new(alloc, 10_000, 10_000)?;
     Ok(Scene {
         words: Vec::new(alloc),
-        folder: Folder {
-            cabinet: MemoryCabinet::new(alloc, 7),
-            store: MemoryStore::new(alloc),
-        },
+        folder: empty_folder(alloc),
         out,
         err,
     })
 }
 
+/// No files. A read gives at most seven bytes.
+fn empty_folder(alloc: Global) -> Folder<MemoryCabinet, MemoryStore> {
+    Folder {
+        cabinet: MemoryCabinet::new(alloc, 7),
+        store: MemoryStore::new(alloc),
+    }
+}
+
 /// The status of a run over this input.
 pub(crate) fn status(alloc: Global, scene: &mut Scene, input: &[u8]) -> u8 {
-    run(
+    let folder = mem::replace(&mut scene.folder, empty_folder(alloc));
+    let ran = run(
         alloc,
         &scene.words,
-        &mut scene.folder,
+        folder,
         MemorySource::new(input, 7, 0),
         &mut scene.out,
         &mut scene.err,
-    )
+    );
+    scene.folder = ran.folder;
+    ran.status
 }

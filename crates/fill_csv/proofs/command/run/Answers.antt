@@ -3,7 +3,7 @@ use Rattle.std.proofs.KnownBytes.{Keeps-refl}
 use Rattle.fill_words.specs.Words.{AskedData, Asks, Meaning, Runs, SavedData, Shows, Wrong, data_of, order_meaning, saved_data}
 use Rattle.fill_words.proofs.Loud.{asks_loud}
 use Rattle.fill_csv.specs.Asking.{heard}
-use Rattle.fill_csv.proofs.Endings.{memory_ends}
+use Rattle.fill_csv.proofs.Endings.{memory_ends, none_written}
 use Rattle.fill_csv.proofs.Pages.{ends_same, says_at_once}
 use Rattle.fill_csv.proofs.command.run.Goals as goal
 
@@ -29,7 +29,7 @@ fill_sheet-requires-clause-loud g c =
 pub returns-in-Ok-Fill-clause-filled : goal.returns-in-Ok-Fill-clause-filled
 returns-in-Ok-Fill-clause-filled g c = λ asked is.
     let same : data_of c.in-Ok-Fill.asked ≡ asked = asked_same _ _ (sym (c.in-Ok-Fill.ensures.answer ∙ ap order_meaning c.in-Ok-Fill.field-0-is) ∙ is) in
-    (c.fill_sheet.new.input, ends_same (data_of c.in-Ok-Fill.asked) asked _ _ _ _ _ _ _ _ _ _ _ _ _ same c.fill_sheet.ensures.ends)
+    (c.fill_sheet.new.input, ends_same (data_of c.in-Ok-Fill.asked) asked _ _ _ _ _ _ _ _ _ _ _ _ _ _ same c.fill_sheet.ensures.ends)
 
 pub returns-in-Ok-Run-clause-filled : goal.returns-in-Ok-Run-clause-filled
 returns-in-Ok-Run-clause-filled g c = λ asked is.
@@ -44,14 +44,20 @@ returns-in-Err-Shown-clause-filled g c = λ asked is. absurd (shows_asks _ asked
 pub returns-clause-filled : goal.returns-clause-filled
 returns-clause-filled g c = λ asked is. (
   c.args.input,
-  memory_ends asked (g.C.Cabinet.files c.args.folder.now.cabinet) (heard (g.S.Source.left c.args.input) (g.S.Source.faults c.args.input) (g.S.Source.faults c.args.input)) _ _ _ _ _ _ _ 6
-      refl refl (inl (Keeps-refl (g.O.Sink.written c.args.out.now))) (says_at_once asked.ask _ _ _ _ _ c.say.ensures),
+  memory_ends asked (g.C.Cabinet.files c.args.folder.cabinet) (heard (g.S.Source.left c.args.input) (g.S.Source.faults c.args.input) (g.S.Source.faults c.args.input)) _ _ _ _ _ _ _ _ 6
+      refl refl (none_written asked (g.C.Cabinet.files c.args.folder.cabinet) (heard (g.S.Source.left c.args.input) (g.S.Source.faults c.args.input) (g.S.Source.faults c.args.input)) _ _ (Keeps-refl (g.O.Sink.written c.args.out.now))) (says_at_once asked.ask _ _ _ _ _ c.say.ensures),
 )
 
 pub returns-in-Ok-Run-clause-ran : goal.returns-in-Ok-Run-clause-ran
 returns-in-Ok-Run-clause-ran g c = λ saved is.
     let rule : c.as_str.result.now ≡ saved.rule = c.as_str.ensures.value ∙ rule_same (saved_data c.in-Ok-Run.saved) saved (sym (c.in-Ok-Run.ensures.answer ∙ ap order_meaning c.in-Ok-Run.field-0-is) ∙ is) in
-    inr (c.run_rule_file.result.source, rw rule at c.run_rule_file.ensures.ran)
+    inr (c.run_rule_file-status.result.source, rw rule at c.run_rule_file-status.ensures.ran)
 
 pub returns-clause-ran : goal.returns-clause-ran
 returns-clause-ran g c = λ saved is. inl (refl, refl, c.say.ensures)
+
+pub returns-in-Ok-Fill-clause-fault : goal.returns-in-Ok-Fill-clause-fault
+returns-in-Ok-Fill-clause-fault g c = λ four. elim (c.fill_sheet.ensures.fault four) [
+  | inl wrote ↦ inl wrote
+  | inr more ↦ elim more [ inl saved ↦ inr (inl saved) | inr read ↦ inr (inr (data_of c.in-Ok-Fill.asked, c.in-Ok-Fill.ensures.answer ∙ ap order_meaning c.in-Ok-Fill.field-0-is, read)) ]
+]

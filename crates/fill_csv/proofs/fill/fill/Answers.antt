@@ -1,19 +1,28 @@
-use Rattle.std.proofs.Common.{◌∙◌, Err, ap, inl, inr, refl}
-use Rattle.fill_csv.proofs.Pages.{says_after}
+use Rattle.std.proofs.Common.{◌≡◌, ◌∙◌, Result, Err, ap, string_bytes, subst}
+use Rattle.fill_edge.specs.Outside.{Rose}
+use Rattle.fill_csv.specs.Asking.{SaysAfter, heard}
+use Rattle.fill_csv.specs.Filling.{EndsDesk, OfPage}
+use Rattle.fill_csv.specs.Said.{Says}
+use Rattle.fill_csv.specs.declared.fill.Unfilled.{Unfilled}
+use Rattle.fill_csv.specs.declared.told.Told.{Told}
+use Rattle.fill_csv.proofs.Pages.{desk_fails, says_after}
 use Rattle.fill_csv.proofs.fill.fill.Goals as goal
 
-pub returns-in-Err-Fault-clause-fails : goal.returns-in-Err-Fault-clause-fails
-returns-in-Err-Fault-clause-fails g c =
-    inl (
-      refl,
-      c.fill_desk.ensures.part (c.in-Err-Fault.is ∙ ap Err c.in-Err-Fault.field-0-is),
-      says_after (g.E.Sink.written) (g.E.Sink.faults) c.args.desk.ask c.args.err.now c.fill_desk.new.err c.say.new.err _ c.fill_desk.ensures.silent c.fill_desk.ensures.grew c.say.ensures,
-    )
+pub returns-in-Ok-clause-filled : goal.returns-in-Ok-clause-filled
+returns-in-Ok-clause-filled g c =
+    subst (λ (r : Result Told Unfilled). OfPage (g.C.Cabinet.files c.args.cabinet) c.args.desk (λ p. EndsDesk c.args.desk.ask p
+    (heard (g.S.Source.left c.args.input.now) (g.S.Source.faults c.args.input.now) (g.S.Source.faults c.fill_desk-cabinet.new.input))
+    (g.O.Sink.written c.args.out.now) (g.O.Sink.written c.fill_desk-cabinet.new.out) r)) c.in-Ok.is c.fill_desk-cabinet.ensures.ends
 
 pub returns-clause-fails : goal.returns-clause-fails
 returns-clause-fails g c =
-    inr (
-      refl,
-      c.fill_desk.ensures.memory (c.in-Err-NoMemory.is ∙ ap Err c.in-Err-NoMemory.field-0-is),
-      says_after (g.E.Sink.written) (g.E.Sink.faults) c.args.desk.ask c.args.err.now c.fill_desk.new.err c.say-in-Err-NoMemory.new.err _ c.fill_desk.ensures.silent c.fill_desk.ensures.grew c.say-in-Err-NoMemory.ensures,
-    )
+    let file = string_bytes c.args.desk.file in
+    let named : c.as_str.result.now ≡ file = c.as_str.ensures.value ∙ ap string_bytes c.fill_desk-cabinet.ensures.file in
+    let ends = subst (λ (r : Result Told Unfilled). OfPage (g.C.Cabinet.files c.args.cabinet) c.args.desk (λ p. EndsDesk c.args.desk.ask p
+    (heard (g.S.Source.left c.args.input.now) (g.S.Source.faults c.args.input.now) (g.S.Source.faults c.fill_desk-cabinet.new.input))
+    (g.O.Sink.written c.args.out.now) (g.O.Sink.written c.fill_desk-cabinet.new.out) r)) c.in-Err.is c.fill_desk-cabinet.ensures.ends in
+    desk_fails (g.C.Cabinet.files c.args.cabinet) c.args.desk (Rose (g.O.Sink.faults c.args.out.now) (g.O.Sink.faults c.fill_desk-cabinet.new.out)) (Rose (g.C.Cabinet.faults c.args.cabinet file) (g.C.Cabinet.faults c.fill_desk-cabinet.result.0 file)) _ _ _ c.tell_unfilled.result
+    (Says (g.E.Sink.written c.fill_desk-cabinet.new.err) (g.E.Sink.written c.tell_unfilled.new.err) (g.E.Sink.faults c.fill_desk-cabinet.new.err) (g.E.Sink.faults c.tell_unfilled.new.err))
+    (SaysAfter c.args.desk.ask (g.E.Sink.written c.args.err.now) (g.E.Sink.written c.tell_unfilled.new.err) (g.E.Sink.faults c.args.err.now) (g.E.Sink.faults c.tell_unfilled.new.err))
+    (λ line. says_after g.E.Sink.written g.E.Sink.faults c.args.desk.ask c.args.err.now c.fill_desk-cabinet.new.err c.tell_unfilled.new.err line c.fill_desk-cabinet.ensures.silent c.fill_desk-cabinet.ensures.grew)
+    c.in-Err.why (λ same. c.fill_desk-cabinet.ensures.fault (c.in-Err.is ∙ ap Err same)) (λ same. c.fill_desk-cabinet.ensures.unread (c.in-Err.is ∙ ap Err same)) ends (rw named at c.tell_unfilled.ensures)

@@ -1,46 +1,24 @@
-use Rattle.std.proofs.Common.{◌∙◌, Err, ap, refl}
-use Rattle.std.specs.Prelude.{option_map}
-use Rattle.fill_report.specs.declared.Halt.TheVariants as halt
+use Rattle.std.proofs.Common.{inl, refl}
+use Rattle.std.proofs.KnownBytes.{Keeps-refl}
+use Rattle.fill_long.specs.Long.{long_of}
 use Rattle.fill_long.specs.declared.sheet.LongSheet.{LongSheet}
-use Rattle.fill_csv.specs.Read.{frame_data, page_data, page_over}
-use Rattle.fill_csv.proofs.Desks.{IsOn, begun_of, done_of, is_long, same_halt, same_page}
-use Rattle.fill_csv.proofs.Pages.{begun_same, done_same, part_same}
+use Rattle.fill_csv.proofs.Desks.{IsOn, is_long, is_set, page_ends}
 use Rattle.fill_csv.proofs.fill.write_desk.Goals as goal
 
-pub write_sheet-requires : goal.write_sheet-requires
-write_sheet-requires g c =
-    let sheet : LongSheet = record { bytes = c.as_slice.result; header = c.args.desk.header; inputs = c.deref.result; output = c.args.desk.output; typed = c.as_slice-2.result; settings = c.args.desk.settings; form = c.args.desk.form; head = c.as_slice-3.result } in
-    let on : IsOn c.args.desk sheet = record { bytes = c.as_slice.ensures; header = refl; inputs = c.deref.ensures.value; output = refl; typed = c.as_slice-2.ensures; settings = refl; form = refl; head = c.as_slice-3.ensures } in
-    is_long c.args.desk sheet on c.requires
+pub write_sheet-pass-requires-clause-set : goal.write_sheet-pass-requires-clause-set
+write_sheet-pass-requires-clause-set g c =
+    let d = c.args.desk.now in
+    let sheet : LongSheet = record { header = d.header; inputs = c.deref.result; output = d.output; typed = c.as_slice.result; settings = d.settings; form = d.form; head = c.as_slice-2.result } in
+    let on : IsOn d sheet = record { header = refl; inputs = c.deref.ensures.value; output = refl; typed = c.as_slice.ensures; settings = refl; form = refl; head = c.as_slice-2.ensures } in
+    is_set d sheet on c.requires.laid
 
-pub returns-in-Ok-told_of-clause-done : goal.returns-in-Ok-told_of-clause-done
-returns-in-Ok-told_of-clause-done g c =
-    let sheet : LongSheet = record { bytes = c.as_slice.result; header = c.args.desk.header; inputs = c.deref.result; output = c.args.desk.output; typed = c.as_slice-2.result; settings = c.args.desk.settings; form = c.args.desk.form; head = c.as_slice-3.result } in
-    let on : IsOn c.args.desk sheet = record { bytes = c.as_slice.ensures; header = refl; inputs = c.deref.ensures.value; output = refl; typed = c.as_slice-2.ensures; settings = refl; form = refl; head = c.as_slice-3.ensures } in
-    let saving = option_map frame_data c.args.desk.saving in
-    done_same (g.O.Sink.written c.args.out.now) (g.O.Sink.written c.write_sheet.new.out) (page_over sheet c.args.desk.tables saving) (page_data c.args.desk) _ _ _ (same_page c.args.desk sheet on)
-    (done_of _ _ sheet c.args.desk.tables saving c.in-Ok.filled c.in-Ok.ensures.done _ _ _ c.in-Ok-told_of.ensures.refused c.in-Ok-told_of.ensures.unsure c.in-Ok-told_of.ensures.text)
+pub returns-in-Err-clause-ends : goal.returns-in-Err-clause-ends
+returns-in-Err-clause-ends g c = λ bytes told ready. inl (Keeps-refl (g.O.Sink.written c.args.out.now))
 
-pub returns-in-Ok-clause-memory : goal.returns-in-Ok-clause-memory
-returns-in-Ok-clause-memory g c = λ e.
-    let sheet : LongSheet = record { bytes = c.as_slice.result; header = c.args.desk.header; inputs = c.deref.result; output = c.args.desk.output; typed = c.as_slice-2.result; settings = c.args.desk.settings; form = c.args.desk.form; head = c.as_slice-3.result } in
-    let on : IsOn c.args.desk sheet = record { bytes = c.as_slice.ensures; header = refl; inputs = c.deref.ensures.value; output = refl; typed = c.as_slice-2.ensures; settings = refl; form = refl; head = c.as_slice-3.ensures } in
-    let saving = option_map frame_data c.args.desk.saving in
-    begun_same (g.O.Sink.written c.args.out.now) (g.O.Sink.written c.write_sheet.new.out) (page_over sheet c.args.desk.tables saving) (page_data c.args.desk) (same_page c.args.desk sheet on)
-    (begun_of _ _ sheet c.args.desk.tables saving c.in-Ok.filled c.in-Ok.ensures.done)
-
-pub returns-clause-part : goal.returns-clause-part
-returns-clause-part g c = λ e.
-    let sheet : LongSheet = record { bytes = c.as_slice.result; header = c.args.desk.header; inputs = c.deref.result; output = c.args.desk.output; typed = c.as_slice-2.result; settings = c.args.desk.settings; form = c.args.desk.form; head = c.as_slice-3.result } in
-    let on : IsOn c.args.desk sheet = record { bytes = c.as_slice.ensures; header = refl; inputs = c.deref.ensures.value; output = refl; typed = c.as_slice-2.ensures; settings = refl; form = refl; head = c.as_slice-3.ensures } in
-    let saving = option_map frame_data c.args.desk.saving in
-    part_same (g.O.Sink.written c.args.out.now) (g.O.Sink.written c.write_sheet.new.out) (page_over sheet c.args.desk.tables saving) (page_data c.args.desk) (same_page c.args.desk sheet on)
-    (c.write_sheet.ensures.part (c.in-Err.is ∙ ap Err (same_halt c.in-Err.halt halt.Fault e)))
-
-pub returns-clause-memory : goal.returns-clause-memory
-returns-clause-memory g c = λ e.
-    let sheet : LongSheet = record { bytes = c.as_slice.result; header = c.args.desk.header; inputs = c.deref.result; output = c.args.desk.output; typed = c.as_slice-2.result; settings = c.args.desk.settings; form = c.args.desk.form; head = c.as_slice-3.result } in
-    let on : IsOn c.args.desk sheet = record { bytes = c.as_slice.ensures; header = refl; inputs = c.deref.ensures.value; output = refl; typed = c.as_slice-2.ensures; settings = refl; form = refl; head = c.as_slice-3.ensures } in
-    let saving = option_map frame_data c.args.desk.saving in
-    begun_same (g.O.Sink.written c.args.out.now) (g.O.Sink.written c.write_sheet.new.out) (page_over sheet c.args.desk.tables saving) (page_data c.args.desk) (same_page c.args.desk sheet on)
-    (c.write_sheet.ensures.memory (c.in-Err.is ∙ ap Err (same_halt c.in-Err.halt halt.NoMemory e)))
+pub returns-clause-ends : goal.returns-clause-ends
+returns-clause-ends g c = λ bytes told ready.
+    let d = c.args.desk.now in
+    let sheet : LongSheet = record { header = d.header; inputs = c.deref.result; output = d.output; typed = c.as_slice.result; settings = d.settings; form = d.form; head = c.as_slice-2.result } in
+    let on : IsOn d sheet = record { header = refl; inputs = c.deref.ensures.value; output = refl; typed = c.as_slice.ensures; settings = refl; form = refl; head = c.as_slice-2.ensures } in
+    page_ends d sheet on _ _ bytes c.replace-tables.result c.take-saving.result c.told_after-told.result c.replace-tables.ensures.value c.take-saving.ensures.value
+    (c.told_after-told.ensures.ends _ _ (long_of bytes sheet) c.replace-tables.result (c.write_sheet-pass.ensures.ends bytes told (is_long d sheet on bytes ready)))

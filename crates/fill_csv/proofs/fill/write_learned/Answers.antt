@@ -1,26 +1,22 @@
-use Rattle.std.proofs.Common.{◌∙◌, Err, List, ap, arith, inr, length, subst}
-use Rattle.fill_text.specs.Data.{TableData}
-use Rattle.fill_report.specs.declared.Halt.TheVariants as halt
-use Rattle.fill_blocks.specs.Blocks.{StandsFor}
-use Rattle.fill_long.specs.Long.{ground_of, rows_of}
-use Rattle.fill_csv.proofs.Desks.{same_halt}
+use Rattle.std.proofs.Common.{List, subst, sym}
+use Rattle.fill_blocks.specs.declared.numbered.Numbered.{Numbered}
+use Rattle.fill_long.specs.Long.{AreRows, long_of}
+use Rattle.fill_long.specs.Rows.{IsWritten}
+use Rattle.fill_csv.proofs.Desks.{filled_sheet, halted_sheet, written_sheet}
 use Rattle.fill_csv.proofs.fill.write_learned.Goals as goal
 
-pub returns-in-Ok-block-clause-done : goal.returns-in-Ok-block-clause-done
-returns-in-Ok-block-clause-done g c =
-    let states = c.in-Ok.ensures.states in
-    let stands = subst (λ (tables : List TableData). StandsFor (ground_of c.args.sheet.now tables) c.in-Ok-block.block c.args.learned.examples) c.in-Ok.ensures.tables c.in-Ok-block.ensures.stands in
-    (states.0, c.requires.learned, states.1, states.2, c.in-Ok.ensures.whole, stands)
+pub returns-in-Ok-block-clause-ends : goal.returns-in-Ok-block-clause-ends
+returns-in-Ok-block-clause-ends g c = λ bytes read long teaches.
+    let s = long_of bytes c.args.sheet.now in
+    let w : IsWritten s c.args.learned c.args.basis s.head (g.O.Sink.written c.args.out.now) (g.O.Sink.written c.write.new.out) c.in-Ok.written c.in-Ok.basis = c.in-Ok.ensures.writes bytes read long teaches.taught in
+    filled_sheet _ _ s c.args.learned c.args.basis teaches c.in-Ok.written c.in-Ok.basis w c.in-Ok-block.block (c.in-Ok-block.ensures.stands bytes long w.taught (subst (λ (these : List Numbered). AreRows s these) (sym c.deref.ensures.value) w.shown))
 
-pub returns-in-Err-block-clause-memory : goal.returns-in-Err-block-clause-memory
-returns-in-Err-block-clause-memory g c = λ e. inr (c.args.learned.examples, c.args.learned.refused, length (rows_of c.args.sheet.now), c.requires.learned, (omega arith, c.in-Ok.ensures.whole))
+pub returns-in-Err-block-clause-ends : goal.returns-in-Err-block-clause-ends
+returns-in-Err-block-clause-ends g c = λ bytes read long teaches.
+    let s = long_of bytes c.args.sheet.now in
+    let w : IsWritten s c.args.learned c.args.basis s.head (g.O.Sink.written c.args.out.now) (g.O.Sink.written c.write.new.out) c.in-Ok.written c.in-Ok.basis = c.in-Ok.ensures.writes bytes read long teaches.taught in
+    written_sheet _ _ s c.args.learned c.args.basis teaches c.in-Ok.written c.in-Ok.basis w
 
-pub returns-in-Err-clause-part : goal.returns-in-Err-clause-part
-returns-in-Err-clause-part g c = λ e.
-    let part = c.write.ensures.part (c.in-Err.is ∙ ap Err (same_halt c.in-Err.halt halt.Fault e)) in
-    (c.args.learned.examples, c.args.learned.refused, part.0, c.requires.learned, (part.1, part.2))
-
-pub returns-in-Err-clause-memory : goal.returns-in-Err-clause-memory
-returns-in-Err-clause-memory g c = λ e.
-    let rows = c.write.ensures.memory (c.in-Err.is ∙ ap Err (same_halt c.in-Err.halt halt.NoMemory e)) in
-    inr (c.args.learned.examples, c.args.learned.refused, rows.0, c.requires.learned, (rows.1, rows.2))
+pub returns-in-Err-clause-ends : goal.returns-in-Err-clause-ends
+returns-in-Err-clause-ends g c = λ bytes read long teaches.
+    halted_sheet _ _ (long_of bytes c.args.sheet.now) c.args.learned c.args.basis teaches c.in-Err.halt (c.in-Err.ensures.writes bytes read long teaches.taught)

@@ -1,32 +1,16 @@
-use Rattle.std.proofs.Common.{List, None, inl, subst, sym}
-use Rattle.std.specs.Prelude.{IfOk}
+use Rattle.std.proofs.Common.{inl}
 use Rattle.std.proofs.KnownBytes.{Keeps-refl}
-use Rattle.fill_text.specs.Data.{TableData}
-use Rattle.fill_filled.specs.Learned.{AreLearned}
-use Rattle.fill_long.specs.Long.{ground_of}
-use Rattle.fill_csv.specs.Pages.{IsBegun, IsPart}
-use Rattle.fill_csv.specs.Read.{IsFilled, page_over}
+use Rattle.fill_long.specs.Long.{long_of}
+use Rattle.fill_csv.proofs.Desks.{ends_over, read_whole, teaches_basis}
 use Rattle.fill_csv.proofs.fill.write_sheet.Goals as goal
 
-pub write_learned-requires-clause-learned : goal.write_learned-requires-clause-learned
-write_learned-requires-clause-learned g c =
-    subst (λ (tables : List TableData). AreLearned c.args.sheet.now.typed.now (ground_of c.args.sheet.now tables) c.in-Ok.learned.examples c.in-Ok.learned.refused)
-    (sym c.in-Ok.ensures.tables) c.in-Ok.ensures.learned
+pub returns-in-Ok-clause-ends : goal.returns-in-Ok-clause-ends
+returns-in-Ok-clause-ends g c = λ bytes told long.
+    let s = long_of bytes c.args.sheet.now in
+    let teaches = c.in-Ok.ensures.teaches bytes (read_whole g.B.Origin.files g.B.Origin.name bytes c.args.pass c.requires.fresh told) long in
+    ends_over s c.args.tables c.in-Ok.learned c.in-Ok.basis teaches (g.O.Sink.written c.args.out.now) (g.O.Sink.written c.write_learned-filled.new.out) c.write_learned-filled.result
+    (c.write_learned-filled.ensures.ends bytes (read_whole g.B.Origin.files g.B.Origin.name bytes c.again-pass.result c.again-pass.ensures told) long
+    (teaches_basis s c.args.tables c.in-Ok.learned c.in-Ok.basis teaches))
 
-pub returns-in-Ok-clause-done : goal.returns-in-Ok-clause-done
-returns-in-Ok-clause-done g c =
-    subst (λ (tables : List TableData). IfOk c.write_learned.result (IsFilled (g.O.Sink.written c.args.out.now) (g.O.Sink.written c.write_learned.new.out) (page_over c.args.sheet.now tables None)))
-    c.in-Ok.ensures.tables c.write_learned.ensures.done
-
-pub returns-in-Ok-clause-part : goal.returns-in-Ok-clause-part
-returns-in-Ok-clause-part g c = λ e.
-    subst (λ (tables : List TableData). IsPart (g.O.Sink.written c.args.out.now) (g.O.Sink.written c.write_learned.new.out) (page_over c.args.sheet.now tables None))
-    c.in-Ok.ensures.tables (c.write_learned.ensures.part e)
-
-pub returns-in-Ok-clause-memory : goal.returns-in-Ok-clause-memory
-returns-in-Ok-clause-memory g c = λ e.
-    subst (λ (tables : List TableData). IsBegun (g.O.Sink.written c.args.out.now) (g.O.Sink.written c.write_learned.new.out) (page_over c.args.sheet.now tables None))
-    c.in-Ok.ensures.tables (c.write_learned.ensures.memory e)
-
-pub returns-in-Err-clause-memory : goal.returns-in-Err-clause-memory
-returns-in-Err-clause-memory g c = λ e. inl (Keeps-refl (g.O.Sink.written c.args.out.now))
+pub returns-in-Err-clause-ends : goal.returns-in-Err-clause-ends
+returns-in-Err-clause-ends g c = λ bytes told long. inl (Keeps-refl (g.O.Sink.written c.args.out.now))

@@ -1,19 +1,43 @@
+use Rattle.std.proofs.Common.{arith, subst, sym}
+use Rattle.std.specs.Prelude.{string_bytes}
+use Rattle.fill_edge.specs.Outside.{Files}
+use Rattle.fill_passes.specs.Files.{IsTold}
 use Rattle.fill_words.specs.Words.{data_of}
-use Rattle.fill_csv.proofs.Steps.{check_stops, tables_stop}
+use Rattle.fill_csv.specs.Read.{IsScanned}
+use Rattle.fill_csv.proofs.Scans.{file_opened, tables_stop_opening}
 use Rattle.fill_csv.proofs.opening.open_sheet.Goals as goal
 
-pub returns-in-Err-sheet_in-clause-stopped : goal.returns-in-Err-sheet_in-clause-stopped
-returns-in-Err-sheet_in-clause-stopped g c =
-    let ready = rw c.as_str.ensures.value at c.in-Ok.ensures.ready in
-    check_stops (data_of c.args.asked.now) (g.C.Cabinet.files c.args.cabinet.now) c.in-Ok.bytes ready _ _ _ c.open_file.ensures.later c.in-Err-sheet_in.stop c.in-Err-sheet_in.ensures.stopped
+pub returns-in-Ok-open_tables-clause-opened : goal.returns-in-Ok-open_tables-clause-opened
+returns-in-Ok-open_tables-clause-opened g c =
+    let d = data_of c.args.asked.now in
+    let files = g.C.Cabinet.files c.args.cabinet in
+    let name = string_bytes c.args.asked.now.file in
+    let there = rw c.as_str.ensures.value at c.in-Ok.ensures.there in
+    let marked = rw c.as_str.ensures.value at c.in-Ok.ensures.marked in
+    let passed = rw (c.scan_file-cabinet.ensures.files, c.in-Ok.ensures.files, c.as_slice.ensures.value) at c.in-Ok-open_tables.ensures.ready in
+    file_opened d c.in-Ok.marked c.in-Ok-scanned.read files c.in-Ok-open_tables.tables (
+      there,
+      marked,
+      λ bytes told mark.
+          subst (λ s. IsScanned d bytes s) c.in-Ok-scanned.is
+          (c.scan_file-cabinet.ensures.scanned bytes (subst (λ (f : Files). IsTold f name bytes) (sym c.in-Ok.ensures.files) told) mark),
+    ) passed
 
 pub returns-in-Err-open_tables-clause-stopped : goal.returns-in-Err-open_tables-clause-stopped
 returns-in-Err-open_tables-clause-stopped g c =
-    let ready = rw c.as_str.ensures.value at c.in-Ok.ensures.ready in
-    let stopped = rw (c.open_file.ensures.files, c.as_slice.ensures.value) at c.in-Err-open_tables.ensures.stopped in
-    tables_stop (data_of c.args.asked.now) (g.C.Cabinet.files c.args.cabinet.now) c.in-Ok.bytes ready _ c.in-Ok-sheet_in.ensures.ready _ _ _ c.open_file.ensures.later c.in-Err-open_tables.stop stopped
-
-pub returns-in-Ok-open_tables-clause-parts : goal.returns-in-Ok-open_tables-clause-parts
-returns-in-Ok-open_tables-clause-parts g c =
-    let parts = c.in-Ok-sheet_in.ensures.parts in
-    record { header = parts.header; width = parts.width; inputs = parts.inputs; output = parts.output; readable = parts.readable }
+    let d = data_of c.args.asked.now in
+    let files = g.C.Cabinet.files c.args.cabinet in
+    let name = string_bytes c.args.asked.now.file in
+    let there = rw c.as_str.ensures.value at c.in-Ok.ensures.there in
+    let marked = rw c.as_str.ensures.value at c.in-Ok.ensures.marked in
+    let stopped = rw (c.scan_file-cabinet.ensures.files, c.in-Ok.ensures.files, c.as_slice.ensures.value) at c.in-Err-open_tables.ensures.stopped in
+    tables_stop_opening d c.in-Ok.marked c.in-Ok-scanned.read files
+    (g.C.Cabinet.faults c.args.cabinet) (g.C.Cabinet.faults c.scan_file-cabinet.result.0) (g.C.Cabinet.faults c.open_tables.new.cabinet)
+    (λ n. let first = c.in-Ok.ensures.later n in let second = c.scan_file-cabinet.ensures.later n in omega (arith, first, second))
+    c.in-Err-open_tables.stop (
+      there,
+      marked,
+      λ bytes told mark.
+          subst (λ s. IsScanned d bytes s) c.in-Ok-scanned.is
+          (c.scan_file-cabinet.ensures.scanned bytes (subst (λ (f : Files). IsTold f name bytes) (sym c.in-Ok.ensures.files) told) mark),
+    ) stopped

@@ -22,14 +22,14 @@ returns c =
     (if_ok_map c.whole.result (λ a w.
     fillcsv_ends (map string_bytes c.args.words.now) c.folder_of-folder.result.cabinet.files (answer_data a) _ _ _ _ _ _ _ _ _ _ _ _
     w.status_is w.out_is w.err_is c.new-out.ensures.bytes c.new-err.ensures.bytes c.new-out.ensures.faults w.out_faults c.new-err.ensures.faults w.err_faults
-    first (ap store_at c.folder_of-folder.ensures.store) (subst (λ s. Stores s (store_at c.run-status.new.folder.store)) (sym w.saved_is) c.in_ok-saved.ensures)
+    first (ap store_at c.folder_of-folder.ensures.store) (subst (λ s. Stores s (store_at c.run-ran.result.folder.store)) (sym w.saved_is) c.in_ok-saved.ensures)
     (record {
-      filled = λ asked is. (c.run-status.ensures.filled asked is).1;
-      ran = λ saved is. elim (c.run-status.ensures.ran saved is) [ inl out ↦ inl out | inr r ↦ inr (_, r.1) ];
-      wrong = λ is. ((c.run-status.ensures.wrong is).0, ap (λ page. page.bytes.items) (c.run-status.ensures.wrong is).2);
-      shown = λ is. (c.run-status.ensures.shown is).0;
-      silent = λ asked is quiet done. ap (λ page. page.bytes.items) (c.run-status.ensures.silent asked is quiet done);
-      fault = c.run-status.ensures.fault;
-      statuses = c.run-status.ensures.statuses;
+      filled = λ asked is. (c.run-ran.ensures.filled asked is).1;
+      ran = λ saved is. elim (c.run-ran.ensures.ran saved is) [ inl out ↦ inl out | inr r ↦ inr (_, r.1) ];
+      wrong = λ is. ((c.run-ran.ensures.wrong is).0, ap (λ page. page.bytes.items) (c.run-ran.ensures.wrong is).2);
+      shown = λ is. (c.run-ran.ensures.shown is).0;
+      silent = λ asked is quiet done. ap (λ page. page.bytes.items) (c.run-ran.ensures.silent asked is quiet done);
+      fault = c.run-ran.ensures.fault;
+      statuses = c.run-ran.ensures.statuses;
     }))
     c.whole.ensures)

@@ -1,17 +1,23 @@
-use Rattle.std.proofs.Common.{◌≤◌, All, arith, length, subst}
+use Rattle.std.proofs.Common.{◌≤◌, All, arith, length, subst, sym}
 use Rattle.std.proofs.lemmas.List.{take_all}
-use Rattle.std.proofs.lemmas.List.Elements.{All-more}
-use Rattle.fill_long.specs.Rows.{GivesNone}
+use Rattle.std.proofs.lemmas.List.Elements.{All-more, All-nil}
+use Rattle.fill_long.specs.Long.{long_of}
+use Rattle.fill_long.specs.Rows.{GivesNone, IsRow}
 use Rattle.fill_long.proofs.learning.gives_any.Goals as goal
 
+pub loop-row-init : goal.loop-row-init
+loop-row-init c = λ bytes long there. All-nil (GivesNone (long_of bytes c.args.sheet.now))
+
 pub loop-row-preserved : goal.loop-row-preserved
-loop-row-preserved c =
-    let None = GivesNone c.args.sheet.now in
+loop-row-preserved c = λ bytes long there.
+    let s = long_of bytes c.args.sheet.now in
     let row = c.row-item.result in
-    All-more None c.args.rows.now c.loop-row.row-index row c.loop-row-test.true c.loop-row.invariant (subst None c.row-item.is (c.gives.ensures c.if-gives.false))
+    let is = there c.loop-row.row-index row c.loop-row-test.true in
+    All-more (GivesNone s) c.args.rows.now c.loop-row.row-index row c.loop-row-test.true (c.loop-row.invariant bytes long there)
+    (subst (GivesNone s) c.row-item.is (c.gives.ensures bytes long (subst (IsRow s) (sym c.row-item.is) is) c.if-gives.false))
 
 pub returns : goal.returns
-returns c = λ none.
-    let None = GivesNone c.args.sheet.now in
+returns c = λ bytes long there none.
+    let None = GivesNone (long_of bytes c.args.sheet.now) in
     let past : length c.args.rows.now ≤ c.loop-row.row-index = omega arith in
-    subst (All None) (take_all c.loop-row.row-index c.args.rows.now past) c.loop-row.invariant
+    subst (All None) (take_all c.loop-row.row-index c.args.rows.now past) (c.loop-row.invariant bytes long there)

@@ -1,110 +1,66 @@
-use Rattle.std.proofs.Common.{◌≡◌, ◌∙◌, ◌+◌, ◌++◌, ◌<◌, ℕ, List, drop, take, length, ap, arith, refl, subst, sym}
-use Rattle.std.proofs.lemmas.List.{length-drop, length-map}
-use Rattle.fill_text.specs.Data.{TableData}
-use Rattle.fill_sheet.specs.Columns.{rising}
-use Rattle.fill_sheet.specs.Sheet.{row_of}
-use Rattle.fill_filled.specs.Learned.{Learns, LearnsFirst}
-use Rattle.fill_filled.specs.declared.learning.Refused.{Refused}
-use Rattle.fill_blocks.specs.Accepted.{AreAccepted}
-use Rattle.fill_blocks.specs.Merged.{numbers_of}
+use Rattle.std.proofs.Common.{◌≡◌, ◌<◌, ◌+◌, ◌++◌, ◌≤◌, ℕ, List, All, Option, Some, length, ap, arith, refl, subst, sym}
+use Rattle.std.specs.Prelude.{IfSome, drop}
+use Rattle.std.proofs.lemmas.List.Elements.{All-nil}
+use Rattle.fill_tree.specs.declared.user.TheConstants.{MOST_EXAMPLES}
+use Rattle.fill_report.specs.Records.{Fields}
+use Rattle.fill_sheet.specs.Sheet.{headers}
 use Rattle.fill_blocks.specs.declared.numbered.Numbered.{Numbered}
-use Rattle.fill_blocks.proofs.Accepting.{are_accepted}
-use Rattle.fill_long.specs.Long.{ground_of, rows_of}
-use Rattle.fill_long.specs.Reading.{AreOf, numbered}
-use Rattle.fill_long.proofs.Blockwise.{is_none, is_some, kept_in, kept_next, learns_then, next_ends, next_left, next_rows, next_smaller, next_within, none_accepted, none_kept, rows_few}
+use Rattle.fill_long.specs.Long.{AreFit, long_of, rows_of}
+use Rattle.fill_long.proofs.Blockwise.{is_none, is_some}
+use Rattle.fill_long.proofs.Fitting.{fit_none, kept_below, kept_fit}
+use Rattle.fill_long.proofs.LearnedSoFar.{LearnedSoFar, learned_all, learned_next, learned_none, those_in}
 use Rattle.fill_long.proofs.learning.learn.Goals as goal
 
-pub loop-reading-init : goal.loop-reading-init
-loop-reading-init g c =
-    let s = c.args.sheet.now in
+pub loop-rows-init : goal.loop-rows-init
+loop-rows-init g c =
+    let nothing = c.new-2.ensures.items in
     record {
-      left = c.in_ok-reading.ensures;
-      within = omega arith;
-      learned = (c.new.ensures, c.new-3.ensures);
-      kept = subst (λ (l : List Numbered). AreOf l (numbered 1 (take 0 (rows_of s)))) (sym c.new-2.ensures.items) tt;
-      taught = record { kept = none_kept s c.new-2.result.items c.new.result c.new-2.ensures.items c.new.ensures; accepted = none_accepted (ground_of s c.args.tables) c.new.result c.new.ensures; stands = tt };
-      tables = refl;
+      fit = fit_none c.args.sheet.now MOST_EXAMPLES c.new-2.result.items nothing;
+      below = subst (λ (l : List Numbered). All (λ it. it.number ≤ 0) l) (sym nothing) (All-nil (λ (it : Numbered). it.number ≤ 0));
+      count = omega arith;
+      told = λ bytes is long.
+          let s = long_of bytes c.args.sheet.now in
+          let all = subst (λ (o : Option (List Fields)). IfSome o (λ records. c.skip_header.new.pass ≡ Some (drop (headers s.header) records))) is c.in-Ok.ensures in
+          learned_none s c.args.tables c.skip_header.new.pass _ all c.new.ensures c.new-3.ensures nothing;
     }
 
-pub loop-reading-preserved : goal.loop-reading-preserved
-loop-reading-preserved g c =
-    let here = c.loop-reading.invariant in
-    let s = c.args.sheet.now in
-    let n = c.loop-reading.done in
-    let rows = c.in_ok-rows.rows.items in
-    let old = c.loop-reading.learned in
+pub loop-rows-preserved : goal.loop-rows-preserved
+loop-rows-preserved g c =
+    let here = c.loop-rows.invariant in
+    let rows = c.in-Ok-next_rows.rows.items in
+    let old = c.loop-rows.learned in
     let new = c.learn_rows.new.learned in
-    let size : length rows ≡ c.len.result = omega (arith, c.len.ensures, c.in_ok-rows.rows.ok) in
-    let over = λ (t : List TableData). (told : List Refused) × Learns s.typed.now (ground_of s t) old.examples (numbers_of rows) new.examples told × (new.refused ≡ old.refused ++ told) in
-    let learned : LearnsFirst s.typed.now (ground_of s c.args.tables) (n + length rows) new.examples new.refused =
-    learns_then s n c.loop-reading.reading c.next_rows.new.self rows here.left here.within c.in_ok-rows.ensures.rows c.in_ok-rows.ensures.left s.typed.now (ground_of s c.args.tables) old.examples new.examples
-    old.refused new.refused here.learned (subst over here.tables c.in_ok-basis.ensures.learns)
-    in
-    let tables = c.in_ok-basis.ensures.tables ∙ here.tables in
-    let bound = next_within s n c.loop-reading.reading c.next_rows.new.self rows here.left here.within c.in_ok-rows.ensures.rows c.in_ok-rows.ensures.left in
+    let size : length rows ≡ c.len.result = omega (arith, c.len.ensures, c.in-Ok-next_rows.rows.ok) in
+    let chosen = c.in-Ok-learn_rows.ensures.kept in
     record {
-      left = next_left s n c.loop-reading.reading c.next_rows.new.self rows here.left here.within c.in_ok-rows.ensures.rows c.in_ok-rows.ensures.left ∙ ap (λ (k : ℕ). drop (n + k) (rows_of s)) size;
-      within = omega (arith, bound, size);
-      learned = subst (λ (k : ℕ). LearnsFirst s.typed.now (ground_of s c.args.tables) (n + k) new.examples new.refused) size learned;
-      kept = subst (λ (k : ℕ). AreOf new.kept.items (numbered 1 (take (n + k) (rows_of s)))) size
-          (kept_next s n c.loop-reading.reading c.next_rows.new.self rows here.left here.within c.in_ok-rows.ensures.rows c.in_ok-rows.ensures.left old.kept.items new.kept.items here.kept
-          c.in_ok-basis.ensures.kept);
-      taught = record {
-        kept = c.in_ok-basis.ensures.numbers;
-        accepted = subst (λ (t : List TableData). AreAccepted (ground_of s t) new.examples) (sym tables)
-            (are_accepted s.typed.now (ground_of s c.args.tables) (n + length rows) new.examples new.refused learned);
-        stands = c.in_ok-basis.ensures.stands;
-      };
-      tables = tables;
+      fit = kept_fit c.loop-rows.done old.kept.items rows new.kept.items here.below c.in-Ok-next_rows.ensures.from chosen c.args.sheet.now MOST_EXAMPLES here.fit c.in-Ok-next_rows.ensures.fit c.in-Ok-learn_rows.ensures.few;
+      below = subst (λ (n : ℕ). All (λ it. it.number ≤ c.loop-rows.done + n) new.kept.items) size
+          (kept_below c.loop-rows.done old.kept.items rows new.kept.items here.below c.in-Ok-next_rows.ensures.from chosen);
+      count = omega (arith, c.in-Ok-next_rows.ensures.few, size);
+      told = λ bytes is long.
+          let s = long_of bytes c.args.sheet.now in
+          let so_far = here.told bytes is long in
+          let those = those_in s c.args.tables c.loop-rows.done c.loop-rows.pass c.next_rows.new.pass rows old c.loop-rows.basis so_far c.in-Ok-next_rows.ensures.rows c.in-Ok-next_rows.ensures.left in
+          subst (λ (n : ℕ). LearnedSoFar s c.args.tables (c.loop-rows.done + n) c.next_rows.new.pass new c.in-Ok-learn_rows.basis) size
+          (learned_next s c.args.tables c.loop-rows.done c.loop-rows.pass c.next_rows.new.pass rows old c.loop-rows.basis so_far c.in-Ok-next_rows.ensures.rows c.in-Ok-next_rows.ensures.left new c.in-Ok-learn_rows.basis chosen
+          (c.in-Ok-learn_rows.ensures.learns bytes long so_far.taught those));
     }
 
-pub loop-reading-smaller : goal.loop-reading-smaller
-loop-reading-smaller g c =
-    let here = c.loop-reading.invariant in
+pub loop-rows-smaller : goal.loop-rows-smaller
+loop-rows-smaller g c =
     let many = is_some _ c.is_empty.result c.is_empty.ensures c.if-is_empty.false in
-    let some : 0 < length c.in_ok-rows.rows.items = omega (arith, many, c.in_ok-rows.rows.ok) in
-    next_smaller c.args.sheet.now c.loop-reading.done c.loop-reading.reading c.next_rows.new.self c.in_ok-rows.rows.items here.left here.within c.in_ok-rows.ensures.rows c.in_ok-rows.ensures.left some
-
-pub next_rows-requires : goal.next_rows-requires
-next_rows-requires g c =
-    let here = c.loop-reading.invariant in
-    omega (arith, here.within, ap length here.left, length-drop c.loop-reading.done (rows_of c.args.sheet.now), rows_few c.args.sheet.now c.requires)
-
-pub overflow_add-done : goal.overflow_add-done
-overflow_add-done g c = omega (arith, c.loop-reading.invariant.within, rows_few c.args.sheet.now c.requires)
+    omega (arith, many, c.in-Ok-next_rows.rows.ok, c.in-Ok-next_rows.ensures.few, c.len.ensures)
 
 pub overflow_cast-done : goal.overflow_cast-done
-overflow_cast-done g c =
-    let here = c.loop-reading.invariant in
-    let bound = next_within c.args.sheet.now c.loop-reading.done c.loop-reading.reading c.next_rows.new.self c.in_ok-rows.rows.items here.left here.within c.in_ok-rows.ensures.rows c.in_ok-rows.ensures.left in
-    omega (arith, bound, rows_few c.args.sheet.now c.requires, c.len.ensures, c.in_ok-rows.rows.ok)
+overflow_cast-done g c = omega (arith, c.in-Ok-next_rows.ensures.few, c.len.ensures, c.in-Ok-next_rows.rows.ok)
 
-pub overflow_add-done-in-loop-reading : goal.overflow_add-done-in-loop-reading
-overflow_add-done-in-loop-reading g c =
-    let here = c.loop-reading.invariant in
-    let bound = next_within c.args.sheet.now c.loop-reading.done c.loop-reading.reading c.next_rows.new.self c.in_ok-rows.rows.items here.left here.within c.in_ok-rows.ensures.rows c.in_ok-rows.ensures.left in
-    omega (arith, bound, rows_few c.args.sheet.now c.requires, c.len.ensures, c.in_ok-rows.rows.ok)
+pub overflow_add-done : goal.overflow_add-done
+overflow_add-done g c = omega (arith, c.in-Ok-next_rows.ensures.few, c.len.ensures, c.in-Ok-next_rows.rows.ok)
 
-pub learn_rows-requires-clause-taught : goal.learn_rows-requires-clause-taught
-learn_rows-requires-clause-taught g c = c.loop-reading.invariant.taught
-
-pub learn_rows-requires-clause-rows : goal.learn_rows-requires-clause-rows
-learn_rows-requires-clause-rows g c =
-    let here = c.loop-reading.invariant in
-    next_rows c.args.sheet.now c.loop-reading.done c.loop-reading.reading c.next_rows.new.self c.in_ok-rows.rows.items here.left here.within c.in_ok-rows.ensures.rows c.in_ok-rows.ensures.left
-
-pub learn_rows-requires-clause-after : goal.learn_rows-requires-clause-after
-learn_rows-requires-clause-after g c =
-    let here = c.loop-reading.invariant in
-    kept_in c.args.sheet.now c.loop-reading.done c.loop-reading.reading c.next_rows.new.self c.in_ok-rows.rows.items here.left here.within c.in_ok-rows.ensures.rows c.in_ok-rows.ensures.left
-    c.loop-reading.learned.kept.items here.kept
-
-pub returns-then-is_empty-clause-learned : goal.returns-then-is_empty-clause-learned
-returns-then-is_empty-clause-learned g c =
-    let here = c.loop-reading.invariant in
-    let s = c.args.sheet.now in
+pub returns-then-is_empty-clause-teaches : goal.returns-then-is_empty-clause-teaches
+returns-then-is_empty-clause-teaches g c = λ bytes is long.
+    let s = long_of bytes c.args.sheet.now in
     let empty = is_none _ c.is_empty.result c.is_empty.ensures c.if-is_empty.true in
-    let none : length c.in_ok-rows.rows.items ≡ 0 = omega (arith, empty, c.in_ok-rows.rows.ok) in
-    let all = next_ends s c.loop-reading.done c.loop-reading.reading c.next_rows.new.self c.in_ok-rows.rows.items here.left here.within c.in_ok-rows.ensures.rows c.in_ok-rows.ensures.left none in
-    let count = all ∙ sym (length-map (rows_of s) (row_of (rising s.inputs.now) s.output)) in
-    subst (λ (k : ℕ). LearnsFirst s.typed.now (ground_of s c.args.tables) k c.loop-reading.learned.examples c.loop-reading.learned.refused) count here.learned
+    let none : length c.in-Ok-next_rows.rows.items ≡ 0 = omega (arith, empty, c.in-Ok-next_rows.rows.ok) in
+    learned_all s c.args.tables c.loop-rows.done c.loop-rows.pass c.next_rows.new.pass c.in-Ok-next_rows.rows.items c.loop-rows.learned c.loop-rows.basis (c.loop-rows.invariant.told bytes is long)
+    c.in-Ok-next_rows.ensures.rows c.in-Ok-next_rows.ensures.left none

@@ -1,20 +1,18 @@
-use Rattle.std.proofs.Common.{◌≡◌, ◌≤◌, drop, length, take}
-use Rattle.fill_filled.specs.Learned.{LearnsFirst}
-use Rattle.fill_long.specs.Long.{ground_of, rows_of}
-use Rattle.fill_long.specs.Reading.{AreOf, numbered}
-use Rattle.fill_long.specs.Taught.{IsTaught, tables_of}
+use Rattle.std.proofs.Common.{◌≡◌, ◌-◌, ◌≤◌, ℕ, List, All, Some}
+use Rattle.fill_records.specs.Records.{records_of}
+use Rattle.fill_tree.specs.declared.user.TheConstants.{MOST_EXAMPLES}
+use Rattle.fill_long.specs.Long.{AreFit, IsLong, long_of}
+use Rattle.fill_long.proofs.LearnedSoFar.{LearnedSoFar}
 use Rattle.fill_long.proofs.learning.learn.Given as goal
 
--- the rows so far
-abbrev pub invariant-loop-reading : goal.invariant-loop-reading
-invariant-loop-reading g l = record {
-  left : l.reading ≡ drop l.done (rows_of l.sheet);
-  within : l.done ≤ length (rows_of l.sheet);
-  learned : LearnsFirst l.sheet.typed.now (ground_of l.sheet l.fn.tables) l.done l.learned.examples l.learned.refused;
-  kept : AreOf l.learned.kept.items (numbered 1 (take l.done (rows_of l.sheet)));
-  taught : IsTaught l.sheet l.learned l.basis;
-  tables : tables_of l.basis ≡ l.fn.tables;
+-- what is kept is of the rows so far, and what they taught is known where the pass is of these bytes
+abbrev pub invariant-loop-rows : goal.invariant-loop-rows
+invariant-loop-rows g l = record {
+  fit : AreFit l.sheet MOST_EXAMPLES l.learned.kept.items;
+  below : All (λ it. it.number ≤ l.done) l.learned.kept.items;
+  count : l.done ≤ 16777216;
+  told : (bytes : List ℕ) → l.fn.pass ≡ Some (records_of bytes) → IsLong (long_of bytes l.sheet) → LearnedSoFar (long_of bytes l.sheet) l.fn.tables l.done l.pass l.learned l.basis;
 }
 
-abbrev pub decreases-loop-reading : goal.decreases-loop-reading
-decreases-loop-reading g l = length l.reading
+abbrev pub decreases-loop-rows : goal.decreases-loop-rows
+decreases-loop-rows g l = 16777216 - l.done

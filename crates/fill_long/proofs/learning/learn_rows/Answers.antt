@@ -1,19 +1,16 @@
-use Rattle.std.proofs.Common.{List, [], ◌++◌, All, Contains, append-nil, subst, sym}
+use Rattle.std.proofs.Common.{◌∙◌, List, [], ◌++◌, All, Contains, append-nil, ap, refl, subst, sym}
 use Rattle.fill_filled.specs.declared.learning.Refused.{Refused}
+use Rattle.fill_blocks.specs.Merged.{numbers_of}
 use Rattle.fill_blocks.specs.declared.numbered.Numbered.{Numbered}
-use Rattle.fill_long.specs.Long.{ground_of, rows_of}
+use Rattle.fill_long.specs.Long.{AreRows, ground_of, long_of, rows_of}
 use Rattle.fill_long.specs.Reading.{numbered}
 use Rattle.fill_long.specs.Rows.{GivesNone, IsRow}
 use Rattle.fill_long.specs.Taught.{tables_of}
 use Rattle.fill_long.proofs.Choosing.{of_more, of_same, of_those}
 use Rattle.fill_long.proofs.Lessons.{learns_nothing}
 use Rattle.fill_long.proofs.Sheets.{rows_rise, rows_there}
-use Rattle.fill_long.proofs.Standing.{kept_after}
+use Rattle.fill_long.proofs.Standing.{in_step, kept_after, learns_over, made_stands, rows_among, tables_are}
 use Rattle.fill_long.proofs.learning.learn_rows.Goals as goal
-
-pub gives_any-requires-clause-rows : goal.gives_any-requires-clause-rows
-gives_any-requires-clause-rows g c =
-    subst (λ (l : List Numbered). All (IsRow c.args.sheet.now) l) (sym c.deref.ensures.value) (rows_there c.args.sheet.now c.args.rows.items c.requires.rows.rows)
 
 pub returns-then-not-gives_any-clause-kept : goal.returns-then-not-gives_any-clause-kept
 returns-then-not-gives_any-clause-kept g c =
@@ -21,22 +18,41 @@ returns-then-not-gives_any-clause-kept g c =
     of_more kept kept c.args.rows.items (of_same kept)
 
 pub returns-then-not-gives_any-clause-learns : goal.returns-then-not-gives_any-clause-learns
-returns-then-not-gives_any-clause-learns g c =
-    let s = c.args.sheet.now in
+returns-then-not-gives_any-clause-learns g c = λ bytes long taught after.
+    let s = long_of bytes c.args.sheet.now in
+    let old = c.args.learned.now in
     let nothing : List Refused = [] in
-    let none = subst (λ (l : List Numbered). All (GivesNone s) l) c.deref.ensures.value (c.gives_any.ensures c.if-not-gives_any.true) in
-    (nothing, learns_nothing s.typed.now (ground_of s (tables_of c.args.basis)) c.args.learned.now.examples c.args.rows.items none, sym (append-nil c.args.learned.now.refused))
+    let rows = rows_among s old.kept.items c.args.rows.items after c.requires.rows.few in
+    let there = subst (λ (l : List Numbered). All (IsRow s) l) (sym c.deref.ensures.value) (rows_there s c.args.rows.items rows.rows) in
+    let none = subst (λ (l : List Numbered). All (GivesNone s) l) c.deref.ensures.value (c.gives_any.ensures bytes long there c.if-not-gives_any.true) in
+    record {
+      stands = taught.stands;
+      kept = taught.kept;
+      tables = refl;
+      learns = (nothing, learns_nothing s.typed (ground_of s (tables_of c.args.basis)) old.examples c.args.rows.items none, sym (append-nil old.refused));
+    }
 
 pub learn_each-requires-clause-here : goal.learn_each-requires-clause-here
 learn_each-requires-clause-here g c =
     subst (λ (l : List Numbered). All (λ (it : Numbered). Contains c.in_ok-block.block.numbers it.number) l) c.deref-2.ensures.value c.in_ok-block.ensures.here
 
-pub learn_each-requires-clause-after : goal.learn_each-requires-clause-after
-learn_each-requires-clause-after g c = rows_rise c.args.sheet.now (c.args.learned.now.kept.items ++ c.args.rows.items) c.requires.after
-
-pub returns-clause-numbers : goal.returns-clause-numbers
-returns-clause-numbers g c =
-    let s = c.args.sheet.now in
+pub returns-clause-learns : goal.returns-clause-learns
+returns-clause-learns g c = λ bytes long taught after.
+    let s = long_of bytes c.args.sheet.now in
+    let old = c.args.learned.now in
     let kept = c.learn_each.new.learned.kept.items in
-    kept_after s kept c.learn_each.new.block c.in_ok-learned.field-0 c.in_ok-learn_each.ensures.step c.in_ok-learned.ensures.made
-    (of_those kept (c.args.learned.now.kept.items ++ c.args.rows.items) (numbered 1 (rows_of s)) c.in_ok-learn_each.ensures.kept c.requires.after)
+    let made = c.in_ok-learned.field-0 in
+    let rows = rows_among s old.kept.items c.args.rows.items after c.requires.rows.few in
+    let stands = c.in_ok-block.ensures.stands bytes long taught (subst (λ (l : List Numbered). AreRows s l) (sym c.deref-2.ensures.value) rows) in
+    let tables = tables_of c.args.basis in
+    let block = c.in_ok-block.block in
+    let new = c.learn_each.new.block in
+    let step = in_step s tables block old.examples stands old.kept.items taught.kept in
+    let each = c.in_ok-learn_each.ensures.learns bytes step (rows_rise s (old.kept.items ++ c.args.rows.items) after) in
+    let of_all = of_those kept (old.kept.items ++ c.args.rows.items) (numbered 1 (rows_of s)) c.in_ok-learn_each.ensures.kept after in
+    record {
+      stands = made_stands s kept new made each.step c.in_ok-learned.ensures.made;
+      kept = kept_after s kept new made each.step c.in_ok-learned.ensures.made of_all;
+      tables = each.tables ∙ tables_are s tables block old.examples stands;
+      learns = (each.learns.0, learns_over s tables block old.examples stands (numbers_of c.args.rows.items) new made each.learns.0 c.in_ok-learned.ensures.made each.learns.1, each.learns.2);
+    }

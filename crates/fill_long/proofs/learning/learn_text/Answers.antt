@@ -1,47 +1,40 @@
-use Rattle.std.proofs.Common.{◌≡◌, ◌∙◌, List, [], ◌∷◌, ◌++◌, ap, sym, subst}
+use Rattle.std.proofs.Common.{◌≡◌, ◌∙◌, List, [], ◌∷◌, ◌++◌, ap, length, length-append, arith, inl, inr, sym, subst}
 use Rattle.fill_blocks.specs.declared.numbered.Numbered.{Numbered}
 use Rattle.fill_long.specs.Taught.{IsInStep}
 use Rattle.fill_long.proofs.Teaching.{gives_added, step_added, step_more, tables_added}
 use Rattle.fill_long.proofs.learning.learn_text.Goals as goal
 
-pub returns-then-accepted-clause-step : goal.returns-then-accepted-clause-step
-returns-then-accepted-clause-step g c =
-    let s = c.args.sheet.now in
+pub returns-clause-kept : goal.returns-clause-kept
+returns-clause-kept g c =
+    let kept : c.add.new.self.kept.items ≡ c.args.learned.now.kept.items = λ i. (c.add.ensures.kept i).items in
+    inr (c.in_ok-push.ensures.items ∙ ap (λ (l : List Numbered). l ++ c.args.row ∷ []) kept)
+
+pub returns-clause-few : goal.returns-clause-few
+returns-clause-few g c = omega (arith, c.if-len-ge-MOST_EXAMPLES.false, ap length c.in_ok-push.ensures.items, length-append c.add.new.self.kept.items (c.args.row ∷ []), c.len.ensures)
+
+pub returns-clause-learns : goal.returns-clause-learns
+returns-clause-learns g c = λ s step below.
     let old = c.args.learned.now in
     let kept : c.add.new.self.kept.items ≡ old.kept.items = λ i. (c.add.ensures.kept i).items in
-    subst (λ (l : List Numbered). IsInStep s l c.add.new.block) (sym (c.in_ok-push.ensures.items ∙ ap (λ (l : List Numbered). l ++ c.args.row ∷ []) kept))
-    (step_more s c.args.block.now c.add.new.block old.kept.items c.args.row c.args.text c.requires.step c.in_ok-accepted.accepted old.refused c.add.new.self.refused c.if-accepted.true c.requires.after
-    c.in_ok-accepted.ensures.added)
+    let added = c.in_ok-accepted.ensures.added in
+    record {
+      step = subst (λ (l : List Numbered). IsInStep s l c.add.new.block) (sym (c.in_ok-push.ensures.items ∙ ap (λ (l : List Numbered). l ++ c.args.row ∷ []) kept))
+          (step_more s c.args.block.now c.add.new.block old.kept.items c.args.row c.args.text step c.in_ok-accepted.accepted old.refused c.add.new.self.refused c.if-not-accepted.false below added);
+      tables = tables_added s c.args.block.now c.add.new.block old.kept.items c.args.row c.args.text step c.in_ok-accepted.accepted old.refused c.add.new.self.refused added;
+      gives = gives_added s c.args.block.now c.add.new.block old.kept.items c.args.row c.args.text step c.in_ok-accepted.accepted old.refused c.add.new.self.refused added;
+    }
 
-pub returns-then-accepted-clause-tables : goal.returns-then-accepted-clause-tables
-returns-then-accepted-clause-tables g c =
-    let old = c.args.learned.now in
-    tables_added c.args.sheet.now c.args.block.now c.add.new.block old.kept.items c.args.row c.args.text c.requires.step c.in_ok-accepted.accepted old.refused c.add.new.self.refused
-    c.in_ok-accepted.ensures.added
+pub returns-then-not-accepted-clause-kept : goal.returns-then-not-accepted-clause-kept
+returns-then-not-accepted-clause-kept g c = inl (λ i. (c.add.ensures.kept i).items)
 
-pub returns-then-accepted-clause-gives : goal.returns-then-accepted-clause-gives
-returns-then-accepted-clause-gives g c =
-    let old = c.args.learned.now in
-    gives_added c.args.sheet.now c.args.block.now c.add.new.block old.kept.items c.args.row c.args.text c.requires.step c.in_ok-accepted.accepted old.refused c.add.new.self.refused
-    c.in_ok-accepted.ensures.added
-
-pub returns-clause-step : goal.returns-clause-step
-returns-clause-step g c =
-    let s = c.args.sheet.now in
+pub returns-then-not-accepted-clause-learns : goal.returns-then-not-accepted-clause-learns
+returns-then-not-accepted-clause-learns g c = λ s step below.
     let old = c.args.learned.now in
     let kept : c.add.new.self.kept.items ≡ old.kept.items = λ i. (c.add.ensures.kept i).items in
-    subst (λ (l : List Numbered). IsInStep s l c.add.new.block) (sym kept)
-    (step_added s c.args.block.now c.add.new.block old.kept.items c.args.row c.args.text c.requires.step c.in_ok-accepted.accepted old.refused c.add.new.self.refused c.if-accepted.false
-    c.in_ok-accepted.ensures.added)
-
-pub returns-clause-tables : goal.returns-clause-tables
-returns-clause-tables g c =
-    let old = c.args.learned.now in
-    tables_added c.args.sheet.now c.args.block.now c.add.new.block old.kept.items c.args.row c.args.text c.requires.step c.in_ok-accepted.accepted old.refused c.add.new.self.refused
-    c.in_ok-accepted.ensures.added
-
-pub returns-clause-gives : goal.returns-clause-gives
-returns-clause-gives g c =
-    let old = c.args.learned.now in
-    gives_added c.args.sheet.now c.args.block.now c.add.new.block old.kept.items c.args.row c.args.text c.requires.step c.in_ok-accepted.accepted old.refused c.add.new.self.refused
-    c.in_ok-accepted.ensures.added
+    let added = c.in_ok-accepted.ensures.added in
+    record {
+      step = subst (λ (l : List Numbered). IsInStep s l c.add.new.block) (sym kept)
+          (step_added s c.args.block.now c.add.new.block old.kept.items c.args.row c.args.text step c.in_ok-accepted.accepted old.refused c.add.new.self.refused c.if-not-accepted.true added);
+      tables = tables_added s c.args.block.now c.add.new.block old.kept.items c.args.row c.args.text step c.in_ok-accepted.accepted old.refused c.add.new.self.refused added;
+      gives = gives_added s c.args.block.now c.add.new.block old.kept.items c.args.row c.args.text step c.in_ok-accepted.accepted old.refused c.add.new.self.refused added;
+    }

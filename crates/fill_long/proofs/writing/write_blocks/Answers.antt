@@ -1,192 +1,138 @@
-use Rattle.std.proofs.Common.{◌≡◌, ◌∙◌, ◌+◌, ◌<◌, ℕ, List, [], All, Contains, drop, false, take, length, ap, arith, refl, subst, sym}
-use Rattle.std.proofs.lemmas.List.{length-drop}
-use Rattle.fill_text.specs.Data.{TableData}
-use Rattle.fill_filled.specs.Filled.{TellsUnsure, WritesRows}
-use Rattle.fill_filled.proofs.Written.{rows_none, states_none}
-use Rattle.fill_blocks.specs.Accepted.{AreAccepted}
+use Rattle.std.proofs.Common.{◌≡◌, ◌+◌, ◌≤◌, ℕ, List, All, Contains, Option, Some, drop, length, arith, refl, subst, sym}
+use Rattle.std.specs.Prelude.{IfSome}
+use Rattle.std.proofs.lemmas.List.Elements.{All-nil}
+use Rattle.fill_report.specs.Records.{Fields}
+use Rattle.fill_sheet.specs.Sheet.{headers}
 use Rattle.fill_blocks.specs.Blocks.{StandsFor}
-use Rattle.fill_blocks.specs.Merged.{numbers_of}
 use Rattle.fill_blocks.specs.declared.numbered.Numbered.{Numbered}
-use Rattle.fill_long.specs.Long.{AreRows, ground_of, rows_of}
-use Rattle.fill_long.specs.Reading.{AreOf, numbered}
+use Rattle.fill_filled.proofs.Written.{rows_none}
+use Rattle.fill_long.specs.Long.{AreFit, AreRows, ground_of, long_of, rows_of}
+use Rattle.fill_long.specs.Reading.{most_rows}
 use Rattle.fill_long.specs.Taught.{tables_of}
-use Rattle.fill_long.proofs.Blockwise.{first_so_far, is_none, is_some, kept_next, next_ends, next_left, next_rows, next_smaller, next_within, numbers_so_far, rows_few, shown_rows}
-use Rattle.fill_long.proofs.Filling.{part_then, rows_then, tells_then}
+use Rattle.fill_long.specs.declared.sheet.Basis.TheVariants as basis
+use Rattle.fill_long.proofs.Blockwise.{is_none, is_some}
+use Rattle.fill_long.proofs.Counting.{most_rows_is}
+use Rattle.fill_long.proofs.Fitting.{fit_none, kept_below, kept_fit}
 use Rattle.fill_long.proofs.Rowwise.{errs_as}
-use Rattle.fill_long.proofs.Sheets.{rows_there}
-use Rattle.fill_long.proofs.Standing.{in_step, stands_with}
+use Rattle.fill_long.proofs.WrittenSoFar.{WrittenSoFar, stands_over, those_rows, written_all, written_halts, written_next, written_none, written_short}
 use Rattle.fill_long.proofs.writing.write_blocks.Goals as goal
 
-pub loop-reading-init : goal.loop-reading-init
-loop-reading-init g c =
-    let s = c.args.sheet.now in
-    let over = ground_of s (tables_of c.args.basis) in
-    let examples = c.args.learned.now.examples in
+pub loop-rows-init : goal.loop-rows-init
+loop-rows-init g c =
+    let nothing = c.new.ensures.items in
     record {
-      left = c.in_ok-reading.ensures;
-      within = omega arith;
-      states = states_none s.typed.now over examples false;
-      shown = subst (λ (l : List Numbered). AreOf l (numbered 1 (take 0 (rows_of s)))) (sym c.new.ensures.items) tt;
-      few = omega (arith, ap length c.new.ensures.items);
-      taught = c.requires.taught;
-      tables = refl;
-      written = rows_none s.form s.typed.now over examples (rows_of s) (g.O.Sink.written c.args.out.now);
+      fit = fit_none c.args.sheet.now 1000 c.new.result.items nothing;
+      below = subst (λ (l : List Numbered). All (λ it. it.number ≤ 0) l) (sym nothing) (All-nil (λ (it : Numbered). it.number ≤ 0));
+      count = omega arith;
       later = omega arith;
+      told = λ bytes is long taught.
+          let s = long_of bytes c.args.sheet.now in
+          let all = subst (λ (o : Option (List Fields)). IfSome o (λ records. c.skip_header.new.pass ≡ Some (drop (headers s.header) records))) is c.in-Ok.ensures in
+          written_none s c.args.learned.now c.args.basis c.skip_header.new.pass (g.O.Sink.written c.args.out.now) _ all taught refl nothing;
     }
 
-pub loop-reading-preserved : goal.loop-reading-preserved
-loop-reading-preserved g c =
-    let here = c.loop-reading.invariant in
-    let s = c.args.sheet.now in
-    let n = c.loop-reading.done in
-    let rows = c.in_ok-rows.rows.items in
-    let old = c.loop-reading.written in
-    let examples = c.args.learned.now.examples in
-    let tables = tables_of c.args.basis in
-    let size : length rows ≡ c.len.result = omega (arith, c.len.ensures, c.in_ok-rows.rows.ok) in
-    let stands = subst (λ (t : List TableData). StandsFor (ground_of s t) c.in_ok-block.block examples) here.tables c.in_ok-block.ensures.stands in
-    let bound = next_within c.args.sheet.now c.loop-reading.done c.loop-reading.reading c.next_rows.new.self c.in_ok-rows.rows.items here.left here.within c.in_ok-rows.ensures.rows c.in_ok-rows.ensures.left in
-    let more = numbers_so_far c.args.sheet.now c.loop-reading.done c.loop-reading.reading c.next_rows.new.self c.in_ok-rows.rows.items here.left here.within c.in_ok-rows.ensures.rows c.in_ok-rows.ensures.left in
+pub loop-rows-preserved : goal.loop-rows-preserved
+loop-rows-preserved g c =
+    let here = c.loop-rows.invariant in
+    let n = c.loop-rows.done in
+    let rows = c.in-Ok-next_rows.rows.items in
+    let old = c.loop-rows.written in
+    let new = c.write_rows.new.written in
+    let size : length rows ≡ c.len.result = omega (arith, c.len.ensures, c.in-Ok-next_rows.rows.ok) in
+    let chosen = c.in-Ok-write_rows.ensures.shown in
     record {
-      left = next_left c.args.sheet.now c.loop-reading.done c.loop-reading.reading c.next_rows.new.self c.in_ok-rows.rows.items here.left here.within c.in_ok-rows.ensures.rows c.in_ok-rows.ensures.left ∙ ap (λ (k : ℕ). drop (n + k) (rows_of s)) size;
-      within = omega (arith, bound, size);
-      states = subst (λ (k : ℕ). TellsUnsure s.typed.now (ground_of s tables) examples (n + k) false c.write_rows.new.written.summary.unsure) size
-          (tells_then s tables c.in_ok-block.block examples stands n (n + length rows) (numbers_of rows) more false old.summary.unsure c.write_rows.new.written.summary.unsure here.states c.in-Ok.ensures.states);
-      shown = subst (λ (k : ℕ). AreOf c.write_rows.new.written.shown.items (numbered 1 (take (n + k) (rows_of s)))) size
-          (kept_next c.args.sheet.now c.loop-reading.done c.loop-reading.reading c.next_rows.new.self c.in_ok-rows.rows.items here.left here.within c.in_ok-rows.ensures.rows c.in_ok-rows.ensures.left old.shown.items c.write_rows.new.written.shown.items here.shown c.in-Ok.ensures.shown);
-      few = c.in-Ok.ensures.few;
-      taught = record {
-        kept = here.taught.kept;
-        accepted = subst (λ (t : List TableData). AreAccepted (ground_of s t) examples) (here.tables ∙ sym stands.part.same.tables) here.taught.accepted;
-        stands = stands_with s tables c.in_ok-block.block examples stands;
-      };
-      tables = stands.part.same.tables;
-      written = subst (λ (k : ℕ). WritesRows s.form s.typed.now (ground_of s tables) examples (rows_of s) [] (n + k) (g.O.Sink.written c.args.out.now) (g.O.Sink.written c.write_rows.new.out)) size
-          (rows_then s tables c.in_ok-block.block examples stands n (n + length rows) (numbers_of rows) more (g.O.Sink.written c.args.out.now) (g.O.Sink.written c.loop-reading.out) (g.O.Sink.written c.write_rows.new.out) here.written
-          c.in-Ok.ensures.whole);
+      fit = kept_fit n old.shown.items rows new.shown.items here.below c.in-Ok-next_rows.ensures.from chosen c.args.sheet.now 1000 here.fit c.in-Ok-next_rows.ensures.fit c.in-Ok-write_rows.ensures.few;
+      below = subst (λ (k : ℕ). All (λ it. it.number ≤ n + k) new.shown.items) size (kept_below n old.shown.items rows new.shown.items here.below c.in-Ok-next_rows.ensures.from chosen);
+      count = omega (arith, c.in-Ok-next_rows.ensures.few, size);
       later = omega (arith, here.later, c.write_rows.ensures.later);
+      told = λ bytes is long taught.
+          let s = long_of bytes c.args.sheet.now in
+          let learned = c.args.learned.now in
+          let out = g.O.Sink.written c.args.out.now in
+          let mid = g.O.Sink.written c.loop-rows.out in
+          let so_far = here.told bytes is long taught in
+          let given = c.in-Ok-next_rows.ensures.rows in
+          let left = c.in-Ok-next_rows.ensures.left in
+          let block = c.in-Ok-block.block in
+          let those = those_rows s learned c.args.basis n c.loop-rows.pass c.next_rows.new.pass out mid old c.loop-rows.basis rows so_far given left in
+          let stands = c.in-Ok-block.ensures.stands bytes long so_far.taught (subst (λ (l : List Numbered). AreRows s l) (sym c.deref.ensures.value) those) in
+          let over = stands_over s learned c.args.basis n c.loop-rows.pass c.next_rows.new.pass out mid old c.loop-rows.basis rows so_far given left block stands long in
+          subst (λ (k : ℕ). WrittenSoFar s learned c.args.basis (n + k) c.next_rows.new.pass out (g.O.Sink.written c.write_rows.new.out) new (basis.Block block)) size
+          (written_next s learned c.args.basis n c.loop-rows.pass c.next_rows.new.pass out mid old c.loop-rows.basis rows so_far given left block stands new (g.O.Sink.written c.write_rows.new.out) chosen
+          (c.in-Ok-write_rows.ensures.writes bytes over));
     }
 
-pub loop-reading-smaller : goal.loop-reading-smaller
-loop-reading-smaller g c =
-    let here = c.loop-reading.invariant in
+pub loop-rows-smaller : goal.loop-rows-smaller
+loop-rows-smaller g c =
     let many = is_some _ c.is_empty.result c.is_empty.ensures c.if-is_empty.false in
-    let some : 0 < length c.in_ok-rows.rows.items = omega (arith, many, c.in_ok-rows.rows.ok) in
-    next_smaller c.args.sheet.now c.loop-reading.done c.loop-reading.reading c.next_rows.new.self c.in_ok-rows.rows.items here.left here.within c.in_ok-rows.ensures.rows c.in_ok-rows.ensures.left some
-
-pub next_rows-requires : goal.next_rows-requires
-next_rows-requires g c =
-    let here = c.loop-reading.invariant in
-    omega (arith, here.within, ap length here.left, length-drop c.loop-reading.done (rows_of c.args.sheet.now), rows_few c.args.sheet.now c.requires.long)
-
-pub overflow_add-done : goal.overflow_add-done
-overflow_add-done g c = omega (arith, c.loop-reading.invariant.within, rows_few c.args.sheet.now c.requires.long)
+    omega (arith, many, c.in-Ok-next_rows.rows.ok, c.in-Ok-next_rows.ensures.few, c.len.ensures)
 
 pub overflow_cast-done : goal.overflow_cast-done
-overflow_cast-done g c =
-    let here = c.loop-reading.invariant in
-    let bound = next_within c.args.sheet.now c.loop-reading.done c.loop-reading.reading c.next_rows.new.self c.in_ok-rows.rows.items here.left here.within c.in_ok-rows.ensures.rows c.in_ok-rows.ensures.left in
-    omega (arith, bound, rows_few c.args.sheet.now c.requires.long, c.len.ensures, c.in_ok-rows.rows.ok)
+overflow_cast-done g c = omega (arith, c.in-Ok-next_rows.ensures.few, c.len.ensures, c.in-Ok-next_rows.rows.ok)
 
-pub overflow_add-done-in-loop-reading : goal.overflow_add-done-in-loop-reading
-overflow_add-done-in-loop-reading g c =
-    let here = c.loop-reading.invariant in
-    let bound = next_within c.args.sheet.now c.loop-reading.done c.loop-reading.reading c.next_rows.new.self c.in_ok-rows.rows.items here.left here.within c.in_ok-rows.ensures.rows c.in_ok-rows.ensures.left in
-    omega (arith, bound, rows_few c.args.sheet.now c.requires.long, c.len.ensures, c.in_ok-rows.rows.ok)
-
-pub block-requires-clause-taught : goal.block-requires-clause-taught
-block-requires-clause-taught g c = c.loop-reading.invariant.taught
+pub overflow_add-done : goal.overflow_add-done
+overflow_add-done g c = omega (arith, c.in-Ok-next_rows.ensures.few, c.len.ensures, c.in-Ok-next_rows.rows.ok)
 
 pub block-requires-clause-rows : goal.block-requires-clause-rows
-block-requires-clause-rows g c =
-    let here = c.loop-reading.invariant in
-    subst (λ (l : List Numbered). AreRows c.args.sheet.now l) (sym c.deref.ensures.value) (next_rows c.args.sheet.now c.loop-reading.done c.loop-reading.reading c.next_rows.new.self c.in_ok-rows.rows.items here.left here.within c.in_ok-rows.ensures.rows c.in_ok-rows.ensures.left)
-
-pub write_rows-requires-clause-stands : goal.write_rows-requires-clause-stands
-write_rows-requires-clause-stands g c =
-    let here = c.loop-reading.invariant in
-    let s = c.args.sheet.now in
-    let step = in_step s (tables_of c.loop-reading.basis) c.in_ok-block.block c.args.learned.now.examples c.in_ok-block.ensures.stands c.args.learned.now.kept.items here.taught.kept in
-    step.stands
+block-requires-clause-rows g c = subst (λ (l : List Numbered). AreFit c.args.sheet.now most_rows l) (sym c.deref.ensures.value) c.in-Ok-next_rows.ensures.fit
 
 pub write_rows-requires-clause-here : goal.write_rows-requires-clause-here
 write_rows-requires-clause-here g c =
-    subst (λ (l : List Numbered). All (λ (it : Numbered). Contains c.in_ok-block.block.numbers it.number) l) c.deref.ensures.value c.in_ok-block.ensures.here
+    subst (λ (l : List Numbered). All (λ (it : Numbered). Contains c.in-Ok-block.block.numbers it.number) l) c.deref.ensures.value c.in-Ok-block.ensures.here
 
-pub write_rows-requires-clause-rows : goal.write_rows-requires-clause-rows
-write_rows-requires-clause-rows g c =
-    let here = c.loop-reading.invariant in
-    let are = next_rows c.args.sheet.now c.loop-reading.done c.loop-reading.reading c.next_rows.new.self c.in_ok-rows.rows.items here.left here.within c.in_ok-rows.ensures.rows c.in_ok-rows.ensures.left in
-    rows_there c.args.sheet.now c.in_ok-rows.rows.items are.rows
-
-pub returns-then-is_empty-clause-states : goal.returns-then-is_empty-clause-states
-returns-then-is_empty-clause-states g c =
-    let here = c.loop-reading.invariant in
-    let s = c.args.sheet.now in
-    let empty = is_none _ c.is_empty.result c.is_empty.ensures c.if-is_empty.true in
-    let none : length c.in_ok-rows.rows.items ≡ 0 = omega (arith, empty, c.in_ok-rows.rows.ok) in
-    let all = next_ends c.args.sheet.now c.loop-reading.done c.loop-reading.reading c.next_rows.new.self c.in_ok-rows.rows.items here.left here.within c.in_ok-rows.ensures.rows c.in_ok-rows.ensures.left none in
-    subst (λ (k : ℕ). TellsUnsure s.typed.now (ground_of s (tables_of c.args.basis)) c.args.learned.now.examples k false c.loop-reading.written.summary.unsure) all here.states
+pub write_rows-requires-clause-few : goal.write_rows-requires-clause-few
+write_rows-requires-clause-few g c = c.loop-rows.invariant.fit.few
 
 pub returns-then-is_empty-clause-shown : goal.returns-then-is_empty-clause-shown
 returns-then-is_empty-clause-shown g c =
-    let here = c.loop-reading.invariant in
-    shown_rows c.args.sheet.now c.loop-reading.done c.loop-reading.written.shown.items here.shown here.few
+    let fit = c.loop-rows.invariant.fit in
+    record { text = fit.text; rise = fit.rise; few = omega (arith, fit.few, most_rows_is) }
 
-pub returns-then-is_empty-clause-whole : goal.returns-then-is_empty-clause-whole
-returns-then-is_empty-clause-whole g c =
-    let here = c.loop-reading.invariant in
-    let s = c.args.sheet.now in
+pub returns-then-is_empty-clause-writes : goal.returns-then-is_empty-clause-writes
+returns-then-is_empty-clause-writes g c = λ bytes is long taught.
+    let here = c.loop-rows.invariant in
+    let s = long_of bytes c.args.sheet.now in
     let empty = is_none _ c.is_empty.result c.is_empty.ensures c.if-is_empty.true in
-    let none : length c.in_ok-rows.rows.items ≡ 0 = omega (arith, empty, c.in_ok-rows.rows.ok) in
-    let all = next_ends c.args.sheet.now c.loop-reading.done c.loop-reading.reading c.next_rows.new.self c.in_ok-rows.rows.items here.left here.within c.in_ok-rows.ensures.rows c.in_ok-rows.ensures.left none in
-    subst (λ (k : ℕ). WritesRows s.form s.typed.now (ground_of s (tables_of c.args.basis)) c.args.learned.now.examples (rows_of s) [] k (g.O.Sink.written c.args.out.now) (g.O.Sink.written c.loop-reading.out)) all here.written
+    let none : length c.in-Ok-next_rows.rows.items ≡ 0 = omega (arith, empty, c.in-Ok-next_rows.rows.ok) in
+    written_all s c.args.learned.now c.args.basis c.loop-rows.done c.loop-rows.pass c.next_rows.new.pass (g.O.Sink.written c.args.out.now) (g.O.Sink.written c.loop-rows.out) c.loop-rows.written
+    c.loop-rows.basis c.in-Ok-next_rows.rows.items (here.told bytes is long taught) c.in-Ok-next_rows.ensures.rows c.in-Ok-next_rows.ensures.left none here.fit.few
 
-pub returns-in-Err-clause-part : goal.returns-in-Err-clause-part
-returns-in-Err-clause-part g c = λ e.
-    let here = c.loop-reading.invariant in
-    let s = c.args.sheet.now in
-    let n = c.loop-reading.done in
-    let examples = c.args.learned.now.examples in
-    let stands = subst (λ (t : List TableData). StandsFor (ground_of s t) c.in_ok-block.block examples) here.tables c.in_ok-block.ensures.stands in
-    let part = c.write_rows.ensures.part (errs_as c.write_rows.result c.in-Err.halt _ c.in-Err.is e) in
-    let bound = next_within c.args.sheet.now c.loop-reading.done c.loop-reading.reading c.next_rows.new.self c.in_ok-rows.rows.items here.left here.within c.in_ok-rows.ensures.rows c.in_ok-rows.ensures.left in
-    let first = first_so_far c.args.sheet.now c.loop-reading.done c.loop-reading.reading c.next_rows.new.self c.in_ok-rows.rows.items here.left here.within c.in_ok-rows.ensures.rows c.in_ok-rows.ensures.left part.0 part.1 in (
-      n + part.0,
-      omega (arith, bound, part.1),
-      part_then s (tables_of c.args.basis) c.in_ok-block.block examples stands n (n + part.0) (take part.0 (numbers_of c.in_ok-rows.rows.items)) first (g.O.Sink.written c.args.out.now) (g.O.Sink.written c.loop-reading.out)
-          (g.O.Sink.written c.write_rows.new.out) here.written part.2,
-    )
+pub returns-in-Err-clause-writes : goal.returns-in-Err-clause-writes
+returns-in-Err-clause-writes g c = λ bytes is long taught.
+    let s = long_of bytes c.args.sheet.now in
+    (0, omega arith, rows_none s.form s.typed (ground_of s (tables_of c.args.basis)) c.args.learned.now.examples (rows_of s) (g.O.Sink.written c.args.out.now))
 
-pub returns-in-Err-clause-memory : goal.returns-in-Err-clause-memory
-returns-in-Err-clause-memory g c = λ e.
-    let here = c.loop-reading.invariant in
-    let s = c.args.sheet.now in
-    let n = c.loop-reading.done in
-    let examples = c.args.learned.now.examples in
-    let stands = subst (λ (t : List TableData). StandsFor (ground_of s t) c.in_ok-block.block examples) here.tables c.in_ok-block.ensures.stands in
-    let rows = c.write_rows.ensures.memory (errs_as c.write_rows.result c.in-Err.halt _ c.in-Err.is e) in
-    let bound = next_within c.args.sheet.now c.loop-reading.done c.loop-reading.reading c.next_rows.new.self c.in_ok-rows.rows.items here.left here.within c.in_ok-rows.ensures.rows c.in_ok-rows.ensures.left in
-    let first = first_so_far c.args.sheet.now c.loop-reading.done c.loop-reading.reading c.next_rows.new.self c.in_ok-rows.rows.items here.left here.within c.in_ok-rows.ensures.rows c.in_ok-rows.ensures.left rows.0 rows.1 in (
-      n + rows.0,
-      omega (arith, bound, rows.1),
-      rows_then s (tables_of c.args.basis) c.in_ok-block.block examples stands n (n + rows.0) (take rows.0 (numbers_of c.in_ok-rows.rows.items)) first (g.O.Sink.written c.args.out.now) (g.O.Sink.written c.loop-reading.out)
-          (g.O.Sink.written c.write_rows.new.out) here.written rows.2,
-    )
+pub returns-in-Err-next_rows-clause-writes : goal.returns-in-Err-next_rows-clause-writes
+returns-in-Err-next_rows-clause-writes g c = λ bytes is long taught.
+    written_short (long_of bytes c.args.sheet.now) c.args.learned.now c.args.basis c.loop-rows.done c.loop-rows.pass (g.O.Sink.written c.args.out.now) (g.O.Sink.written c.loop-rows.out) c.loop-rows.written
+    c.loop-rows.basis (c.loop-rows.invariant.told bytes is long taught)
 
-pub returns-in_err-reading-clause-memory : goal.returns-in_err-reading-clause-memory
-returns-in_err-reading-clause-memory g c = λ e.
-    let s = c.args.sheet.now in
-    (0, omega arith, rows_none s.form s.typed.now (ground_of s (tables_of c.args.basis)) c.args.learned.now.examples (rows_of s) (g.O.Sink.written c.args.out.now))
+pub returns-in-Err-block-clause-writes : goal.returns-in-Err-block-clause-writes
+returns-in-Err-block-clause-writes g c = λ bytes is long taught.
+    written_short (long_of bytes c.args.sheet.now) c.args.learned.now c.args.basis c.loop-rows.done c.loop-rows.pass (g.O.Sink.written c.args.out.now) (g.O.Sink.written c.loop-rows.out) c.loop-rows.written
+    c.loop-rows.basis (c.loop-rows.invariant.told bytes is long taught)
 
-pub returns-in_err-rows-clause-memory : goal.returns-in_err-rows-clause-memory
-returns-in_err-rows-clause-memory g c = λ e. (c.loop-reading.done, c.loop-reading.invariant.within, c.loop-reading.invariant.written)
+pub returns-in-Err-write_rows-clause-writes : goal.returns-in-Err-write_rows-clause-writes
+returns-in-Err-write_rows-clause-writes g c = λ bytes is long taught.
+    let here = c.loop-rows.invariant in
+    let s = long_of bytes c.args.sheet.now in
+    let learned = c.args.learned.now in
+    let n = c.loop-rows.done in
+    let rows = c.in-Ok-next_rows.rows.items in
+    let out = g.O.Sink.written c.args.out.now in
+    let mid = g.O.Sink.written c.loop-rows.out in
+    let so_far = here.told bytes is long taught in
+    let given = c.in-Ok-next_rows.ensures.rows in
+    let left = c.in-Ok-next_rows.ensures.left in
+    let block = c.in-Ok-block.block in
+    let those = those_rows s learned c.args.basis n c.loop-rows.pass c.next_rows.new.pass out mid c.loop-rows.written c.loop-rows.basis rows so_far given left in
+    let stands = c.in-Ok-block.ensures.stands bytes long so_far.taught (subst (λ (l : List Numbered). AreRows s l) (sym c.deref.ensures.value) those) in
+    let over = stands_over s learned c.args.basis n c.loop-rows.pass c.next_rows.new.pass out mid c.loop-rows.written c.loop-rows.basis rows so_far given left block stands long in
+    written_halts s learned c.args.basis n c.loop-rows.pass c.next_rows.new.pass out mid c.loop-rows.written c.loop-rows.basis rows so_far given left block stands c.loop-rows.written.summary.unsure c.write_rows.new.written.summary.unsure (g.O.Sink.written c.write_rows.new.out)
+    c.in-Err-write_rows.halt (c.in-Err-write_rows.ensures.writes bytes over)
 
-pub returns-in_err-block-clause-memory : goal.returns-in_err-block-clause-memory
-returns-in_err-block-clause-memory g c = λ e. (c.loop-reading.done, c.loop-reading.invariant.within, c.loop-reading.invariant.written)
-
-pub returns-in-Err-clause-fault : goal.returns-in-Err-clause-fault
-returns-in-Err-clause-fault g c = λ e.
-    let later = c.loop-reading.invariant.later in
-    let rose = c.write_rows.ensures.fault (errs_as c.write_rows.result c.in-Err.halt _ c.in-Err.is e) in
+pub returns-in-Err-write_rows-clause-fault : goal.returns-in-Err-write_rows-clause-fault
+returns-in-Err-write_rows-clause-fault g c = λ e.
+    let later = c.loop-rows.invariant.later in
+    let rose = c.write_rows.ensures.fault (errs_as c.write_rows.result c.in-Err-write_rows.halt _ c.in-Err-write_rows.is e) in
     omega (arith, later, rose)

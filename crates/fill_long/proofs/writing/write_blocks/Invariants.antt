@@ -1,23 +1,21 @@
-use Rattle.std.proofs.Common.{◌≡◌, ◌≤◌, [], drop, false, length, take}
-use Rattle.fill_filled.specs.Filled.{TellsUnsure, WritesRows}
-use Rattle.fill_long.specs.Long.{ground_of, rows_of}
-use Rattle.fill_long.specs.Reading.{AreOf, numbered}
-use Rattle.fill_long.specs.Taught.{IsTaught, tables_of}
+use Rattle.std.proofs.Common.{◌≡◌, ◌-◌, ◌≤◌, ℕ, List, All, Some, length}
+use Rattle.fill_records.specs.Records.{records_of}
+use Rattle.fill_long.specs.Long.{AreFit, IsLong, long_of}
+use Rattle.fill_long.specs.Reading.{most_rows}
+use Rattle.fill_long.specs.Taught.{IsTaught}
+use Rattle.fill_long.proofs.WrittenSoFar.{WrittenSoFar}
 use Rattle.fill_long.proofs.writing.write_blocks.Given as goal
 
--- the rows so far
-abbrev pub invariant-loop-reading : goal.invariant-loop-reading
-invariant-loop-reading g l = record {
-  left : l.reading ≡ drop l.done (rows_of l.sheet);
-  within : l.done ≤ length (rows_of l.sheet);
-  states : TellsUnsure l.sheet.typed.now (ground_of l.sheet (tables_of l.fn.basis)) l.learned.examples l.done false l.written.summary.unsure;
-  shown : AreOf l.written.shown.items (numbered 1 (take l.done (rows_of l.sheet)));
-  few : length l.written.shown.items ≤ 1000;
-  taught : IsTaught l.sheet l.learned l.basis;
-  tables : tables_of l.basis ≡ tables_of l.fn.basis;
-  written : WritesRows l.sheet.form l.sheet.typed.now (ground_of l.sheet (tables_of l.fn.basis)) l.learned.examples (rows_of l.sheet) [] l.done (g.O.Sink.written l.initial.out) (g.O.Sink.written l.out);
+-- what is told of is of the rows so far, and these are written where the pass is of these bytes
+abbrev pub invariant-loop-rows : goal.invariant-loop-rows
+invariant-loop-rows g l = record {
+  fit : AreFit l.sheet 1000 l.written.shown.items;
+  below : All (λ it. it.number ≤ l.done) l.written.shown.items;
+  count : l.done ≤ 16777216;
   later : g.O.Sink.faults l.initial.out ≤ g.O.Sink.faults l.out;
+  told : (bytes : List ℕ) → l.fn.pass ≡ Some (records_of bytes) → IsLong (long_of bytes l.sheet) → IsTaught (long_of bytes l.sheet) l.learned l.fn.basis
+      → WrittenSoFar (long_of bytes l.sheet) l.learned l.fn.basis l.done l.pass (g.O.Sink.written l.initial.out) (g.O.Sink.written l.out) l.written l.basis;
 }
 
-abbrev pub decreases-loop-reading : goal.decreases-loop-reading
-decreases-loop-reading g l = length l.reading
+abbrev pub decreases-loop-rows : goal.decreases-loop-rows
+decreases-loop-rows g l = 16777216 - l.done

@@ -10,31 +10,46 @@ is_output : (inputs : List ℕ) (replace : Bool) (column : ℕ) → IsOutput inp
 is_output inputs false column is = is
 is_output inputs true column is = tt
 
-pub returns-clause-page : goal.returns-clause-page
-returns-clause-page c =
-    let d = data_of c.args.asked.now in
-    let r = read_data d c.args.read in
-    λ i. record {
-      form = c.form_of-form.ensures.form i;
-      typed = r.typed;
-      over = record {
-        settings = c.settings_of.ensures.value i;
-        sheet = sheet_in c.args.asked.now.header c.args.read.choice.from.items (c.output_of.ensures i) c.args.read.bytes;
-        tables = c.args.read.tables;
-      };
-      rows = (sym (all_rows most_records c.args.asked.now.header c.args.read.bytes c.requires.readable.few)) i;
-      head = c.in_ok-head.ensures i;
-      saving = c.in_ok-saving.ensures i;
-    }
-
-pub returns-clause-ready : goal.returns-clause-ready
-returns-clause-ready c =
+pub returns-clause-laid : goal.returns-clause-laid
+returns-clause-laid c =
     let inputs = c.args.read.choice.from.items in
     record {
       settings = c.settings_of.ensures.bounded;
       inputs = c.requires.inputs;
       output = subst (λ (o : Option ℕ). IsOutput inputs o) (sym c.output_of.ensures) (is_output inputs c.args.asked.now.replace c.args.read.choice.to c.requires.output);
-      readable = subst (λ (o : Option ℕ). AreReadable c.args.asked.now.header inputs o c.args.read.bytes) (sym c.output_of.ensures) c.requires.readable;
       column = c.form_of-form.ensures.column;
       states = c.form_of-form.ensures.states;
+    }
+
+pub returns-clause-page : goal.returns-clause-page
+returns-clause-page c = λ bytes parts.
+    let r = read_data (data_of c.args.asked.now) bytes c.args.read in
+    let form = c.form_of-form.ensures.form bytes parts in
+    let head = c.in_ok-head.ensures bytes parts form in
+    let saving = c.in_ok-saving.ensures bytes parts in
+    λ i. record {
+      form = form i;
+      typed = r.typed;
+      over = record {
+        settings = c.settings_of.ensures.value i;
+        sheet = sheet_in c.args.asked.now.header c.args.read.choice.from.items (c.output_of.ensures i) bytes;
+        tables = c.args.read.tables;
+      };
+      rows = (sym (all_rows most_records c.args.asked.now.header bytes parts.readable.few)) i;
+      head = head i;
+      saving = saving i;
+    }
+
+pub returns-clause-ready : goal.returns-clause-ready
+returns-clause-ready c = λ bytes parts.
+    let inputs = c.args.read.choice.from.items in
+    record {
+      laid = record {
+        settings = c.settings_of.ensures.bounded;
+        inputs = c.requires.inputs;
+        output = subst (λ (o : Option ℕ). IsOutput inputs o) (sym c.output_of.ensures) (is_output inputs c.args.asked.now.replace c.args.read.choice.to c.requires.output);
+        column = c.form_of-form.ensures.column;
+        states = c.form_of-form.ensures.states;
+      };
+      readable = subst (λ (o : Option ℕ). AreReadable c.args.asked.now.header inputs o bytes) (sym c.output_of.ensures) parts.readable;
     }
