@@ -129,7 +129,7 @@ fn made(n: u32) -> (Vec<u8>, Vec<u8>) {
     (session, sheet)
 }
 
-fn open_switch(name: &str, bytes: &[u8], inputs: &[u32]) -> Res<Switch> {
+fn open_switch(name: &str, bytes: &[u8], inputs: &[u32], last: tokens::Token) -> Res<Switch> {
     let mut rd = Reader::new(bytes);
     let mut text = Vec::new();
     while let Some(mut r) = rd.next_record() {
@@ -140,7 +140,7 @@ fn open_switch(name: &str, bytes: &[u8], inputs: &[u32]) -> Res<Switch> {
     if text.is_empty() {
         return refused(name, "no switch");
     }
-    let s = reading::read_switch(&text).or_else(|at| refused(name, format!("switch is wrong at byte {at}")))?;
+    let s = reading::read_switch(&text, last).or_else(|at| refused(name, format!("switch is wrong at byte {at}")))?;
     for c in &s.cases {
         for l in [Some(c.guard.first), c.guard.second].into_iter().flatten() {
             if !inputs.contains(&l.column) {
@@ -176,7 +176,7 @@ fn run(words: &[String]) -> Res<Report> {
         }
         ["apply", session, program, sheet] if !session.is_empty() && !program.is_empty() && !sheet.is_empty() => {
             let script = read_script(session, &read_file(session)?)?;
-            let s = open_switch(program, &read_file(program)?, &script.inputs)?;
+            let s = open_switch(program, &read_file(program)?, &script.inputs, script.settings.profile.last_read)?;
             let sheet = read_sheet(sheet, &read_file(sheet)?, script.header, &script.inputs, None)?;
             let tables = read_tables(session, &script.tables)?;
             let mut r = Report::default();

@@ -10,6 +10,8 @@ pub struct Profile {
     pub placing: Placing,
     /// The greatest depth that a session may ask for.
     pub most_depth: u8,
+    /// The last token that a saved program may have: the first two profiles have one notation.
+    pub last_read: Token,
 }
 
 /// Of the branches that an example shares a program with, the one that it joins.
@@ -65,12 +67,14 @@ static FIRST: Profile = Profile {
     prices: FIRST_PRICES,
     placing: Placing::FirstFit,
     most_depth: 2,
+    last_read: 29,
 };
 static SECOND: Profile = Profile {
     tokens: &[1, 2, 3, 4, 5, 6, 7, 8, 9, 10, 11, 12, 13, 14, 15, 16, 17, 18, 19, 20, 21, 22, 23, 24, 25, 26, 27, 28, 29],
     prices: FIRST_PRICES,
     placing: Placing::LeastCost,
     most_depth: 3,
+    last_read: 29,
 };
 static THIRD: Profile = Profile {
     tokens: &[
@@ -80,6 +84,7 @@ static THIRD: Profile = Profile {
     prices: THIRD_PRICES,
     placing: Placing::FirstFit,
     most_depth: 3,
+    last_read: 38,
 };
 
 impl Profile {

@@ -9,6 +9,8 @@ use std::rc::Rc;
 struct Reading<'a> {
     bytes: &'a [u8],
     at: usize,
+    /// The last token that is known.
+    last: Token,
 }
 type Read<T> = Result<T, usize>;
 
@@ -127,7 +129,7 @@ impl<'a> Reading<'a> {
             // a token, or at the start the end of an empty sequence
             let mut words: Vec<&str> = Vec::new();
             let mut toks: Vec<u8> = Vec::new();
-            for t in 1..=LAST_READ {
+            for t in 1..=self.last {
                 let ok = match kind {
                     Kind::Left => t != END && (t != START || v.is_empty()),
                     Kind::Right(_) => t != START,
@@ -240,8 +242,9 @@ impl<'a> Reading<'a> {
     }
 }
 
-pub fn read_switch(bytes: &[u8]) -> Result<Switch, usize> {
-    let mut p = Reading { bytes, at: 0 };
+/// Reads a conditional program with tokens up to this one.
+pub fn read_switch(bytes: &[u8], last: Token) -> Result<Switch, usize> {
+    let mut p = Reading { bytes, at: 0, last };
     p.one_of(&["Switch("])?;
     let mut cases = Vec::new();
     loop {

@@ -8,8 +8,6 @@ pub const START: Token = 1;
 pub const END: Token = 2;
 pub const SPACE_TOKEN: Token = 8;
 pub const NON_SPACE_TOKEN: Token = 27;
-/// The last token that the notation of a saved program knows.
-pub const LAST_READ: Token = 29;
 
 /// What a token spans.
 pub enum Span {
