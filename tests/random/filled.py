@@ -6,7 +6,8 @@ import records
 from order import order_of
 from programs import run
 
-LEARNED, MOST_EXAMPLES, MOST_TOLD = 8, 64, 10
+# how many rows are told one by one
+MOST_TOLD = 10
 # seconds for one report
 PATIENCE = 300
 
@@ -215,7 +216,10 @@ def told_in(text):
     for line in text.decode().replace("> ", "").split("\n"):
         if line.startswith("row "):
             line = line[: line.index(":") + 1]
-        line = line.split("   or the right text")[0].split(" by: ")[0].split(": not learned from:")[0] if ": not learned from:" not in line else line.split(": not learned from:")[0] + ": not learned from"
+        for end in ("   or the right text", " by: "):
+            line = line.split(end)[0]
+        if ": not learned from: " in line:
+            line = line[: line.rindex(": ")]
         if line and not line.startswith(("fillcsv: rule: ", "three right", "this line", "fillcsv: no rule to save")):
             told.append(line)
     return told

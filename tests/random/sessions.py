@@ -200,8 +200,10 @@ class Maker:
 
     def make_world(self):
         """The sheet and its tables; the lines of the tables are told."""
-        columns = self.random.sample(range(1, 6), 5)[: self.pick(2, 2, 2, 3, 3, 4)]
-        output = columns.pop() if self.chance(0.35) else None
+        has_output = self.chance(0.35)
+        inputs = self.pick(1, 1, 1, 2, 2, 3)
+        columns = self.random.sample(range(1, inputs + 3), inputs + has_output)
+        output = columns.pop() if has_output else None
         width = max([*columns, output or 1])
         few, many = {"tiny": (1, 6), "small": (1, 9), "mid": (3, 12), "big": (20, 200)}[self.size]
         rows = []
