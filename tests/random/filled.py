@@ -53,6 +53,7 @@ class Filled:
         self.rows = self.all[1:] if case.header else self.all
         self.width = max([len(it) for it in self.all], default=0)
         self.above = 1 if case.header else 0
+        self.column = self.width + 1 if case.new else case.column
 
     def session(self, typed):
         """The session file whose report has the answers: the examples in the order of their rows."""
@@ -70,7 +71,7 @@ class Filled:
 
     def cell(self, row):
         """What the column holds on a row, where that counts."""
-        fields, at = self.rows[row - 1], self.case.column - 1
+        fields, at = self.rows[row - 1], self.column - 1
         return fields[at] if at < len(fields) and not self.case.replace and not self.case.new else b""
 
     def given(self, row, typed):
@@ -130,7 +131,8 @@ class Filled:
     def expected(self):
         """The status, the output and the lines; the output and the lines are None where the sheet is not filled."""
         case, told = self.case, []
-        if self.report(case.typed) is None:
+        is_there = max([*case.inputs, *([] if case.new else [self.column])]) <= self.width and max([0, *case.typed]) <= len(self.rows)
+        if not is_there or self.report(case.typed) is None:
             return 5, b"", None, ""
         typed = self.ask(told) if case.ask else case.typed
         report = self.report(typed)
@@ -152,7 +154,7 @@ class Filled:
             states.append(state)
             filled.append(self.record(fields, cell, state.encode()))
         if case.header and self.all:
-            name = case.new.encode() if case.new else (self.all[0] + [b""] * case.column)[case.column - 1]
+            name = case.new.encode() if case.new else (self.all[0] + [b""] * self.column)[self.column - 1]
             head = self.record(self.all[0], name, name + b" state")
             filled.insert(0, head if case.new or case.state else self.all[0])
         mark = b"\xef\xbb\xbf" if case.sheet.startswith(b"\xef\xbb\xbf") else b""
@@ -172,10 +174,10 @@ class Filled:
     def record(self, fields, cell, state):
         """A record with another field in its column, and its state where that is asked for."""
         case = self.case
-        made = fields + [b""] * (case.column - len(fields))
-        made[case.column - 1] = cell
+        made = fields + [b""] * (self.column - len(fields))
+        made[self.column - 1] = cell
         if case.state:
-            at = max(self.width, case.column)
+            at = max(self.width, self.column)
             made += [b""] * (at - len(made)) + [state]
         return made
 
@@ -189,11 +191,11 @@ class Filled:
         rows = records.read(case.other)
         filled = []
         for at, fields in enumerate(rows):
-            made = fields + [b""] * (case.column - len(fields))
+            made = fields + [b""] * (self.column - len(fields))
             if case.header and at == 0:
-                made[case.column - 1] = case.new.encode() if case.new else made[case.column - 1]
-            elif not made[case.column - 1]:
-                made[case.column - 1] = values[at - self.above]
+                made[self.column - 1] = case.new.encode() if case.new else made[self.column - 1]
+            elif not made[self.column - 1]:
+                made[self.column - 1] = values[at - self.above]
             filled.append(made)
         mark = b"\xef\xbb\xbf" if case.other.startswith(b"\xef\xbb\xbf") else b""
         return mark + records.write(filled)

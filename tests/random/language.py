@@ -4,6 +4,7 @@ the texts of examples by it, so that many examples have a program in common; no 
 Trees are tuples: ("Col", C), ("Select", C, T, K, conditions); ("Const", text), ("Whole", source), ("Sub", source, place,
 place); ("CPos", N), ("Pos", tokens, tokens, N). A program is a list of atoms, and tokens are their numbers.
 """
+import functools
 import unicodedata
 
 NAMES = (
@@ -15,6 +16,7 @@ ONES = "-.,;:/\\_@#&()\"'%+$"
 WHITE = {*"\t\n\x0b\x0c\r \x85\xa0\u1680\u2028\u2029\u202f\u205f\u3000", *map(chr, range(0x2000, 0x200B))}
 
 
+@functools.lru_cache(maxsize=None)
 def is_in(token, c):
     """Whether a character is in the class of a run token."""
     category = unicodedata.category(c)
@@ -54,6 +56,7 @@ def end_of(tokens, text, at):
     return at
 
 
+@functools.lru_cache(maxsize=1 << 16)
 def position(place, text):
     """The position that a place names in a text, or None."""
     if place[0] == "CPos":

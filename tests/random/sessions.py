@@ -20,6 +20,8 @@ class Maker:
         self.profile = self.pick(1, 1, 2)
         self.depth = self.pick(0, 1, 1, 2) if self.profile == 1 else self.pick(0, 1, 2, 3)
         self.separators = self.chance(0.2)
+        # the tokens of places, once they are asked for
+        self.pool = []
 
     def chance(self, share):
         return self.random.random() < share
@@ -52,10 +54,11 @@ class Maker:
     # programs
 
     def tokens(self, left):
-        ones = [9 + at for at, c in enumerate(ONES) if c in self.alphabet] or [9]
-        more = [NON_SPACE, NON_DIGIT, NON_ALPHA] if self.profile == 2 else []
+        if not self.pool:
+            ones = [9 + at for at, c in enumerate(ONES) if c in self.alphabet] or [9]
+            self.pool = [*range(1, 9), *ones, *([NON_SPACE, NON_DIGIT, NON_ALPHA] if self.profile == 2 else [])]
         while True:
-            made = self.random.choices([*range(1, 9), *ones, *more], k=self.pick(0, 0, 1, 1, 1, 2, 3))
+            made = tuple(self.random.choices(self.pool, k=self.pick(0, 0, 1, 1, 1, 2, 3)))
             if left and END not in made and START not in made[1:]:
                 return made
             if not left and START not in made and END not in made[:-1]:
