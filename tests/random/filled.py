@@ -8,6 +8,8 @@ from programs import run
 
 # how many rows are told one by one
 MOST_TOLD = 10
+# how many characters of an answer a question tells
+MOST_ASKED = 60
 # seconds for one report
 PATIENCE = 300
 
@@ -110,7 +112,7 @@ class Filled:
             if kept and kept[-1][0] in [it for it, _ in report.refused]:
                 told.append(f"fillcsv: row {kept[-1][0] + self.above}: not learned from")
             first, second = self.answers(report, row)
-            told += [f"row {row + self.above}:", f"  Enter: {quoted(first)}   2: {quoted(second)}"]
+            told += [f"row {row + self.above}:", f"  Enter: {cut(first)}   2: {cut(second)}"]
             if not replies:
                 return now
             line = replies.pop(0).rstrip(b"\r")
@@ -201,8 +203,13 @@ class Filled:
         return mark + records.write(filled)
 
 
+def cut(text):
+    """An answer as a question tells it: the front of a long one."""
+    return quoted(text) if text is None or len(text) <= MOST_ASKED else quoted(text[:MOST_ASKED]) + ".."
+
+
 def quoted(text):
-    """An answer as it is told, cut after 60 characters in a question."""
+    """An answer as it is told."""
     if text is None:
         return "none"
     return '"' + text.replace("\\", "\\\\").replace('"', '\\"').replace("\t", "\\t") + '"'
