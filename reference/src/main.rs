@@ -196,7 +196,10 @@ fn run(words: &[String]) -> Res<Report> {
                 Err(TableError::NotUtf8 { number, .. }) => return refused(file, format!("record {number} is not UTF-8")),
                 Err(_) => unreachable!(),
             }
-            let Some(keys) = keys_of(&t.list[0]) else { return refused(file, "more than 32 columns") };
+            let keys = match keys_of(&t.list[0]) {
+                Some(keys) => keys,
+                None => return refused(file, "more than 32 columns"),
+            };
             let mut r = Report::default();
             for k in keys {
                 let v: Vec<String> = std::iter::once("key".to_string()).chain(k.iter().map(|c| c.to_string())).collect();

@@ -203,7 +203,10 @@ impl RowEval<'_> {
                 for u in (0..n - 1).rev() {
                     let mut b = None;
                     for e in graph.out(u as u32) {
-                        let Some(rest) = free[e.to as usize].clone() else { continue };
+                        let rest = match free[e.to as usize].clone() {
+                            Some(rest) => rest,
+                            None => continue,
+                        };
                         for (v, c, a) in self.atom_leasts(e.atoms).iter() {
                             if v.is_some() {
                                 if b.as_ref().map_or(true, |y: &Chain| ATOM + c + rest.cost <= y.cost) {

@@ -29,7 +29,7 @@ impl<'a> Reading<'a> {
         let start = self.at;
         loop {
             let k = self.at - start;
-            let Some(&c) = self.bytes.get(self.at) else { return Err(self.at) };
+            let c = *self.bytes.get(self.at).ok_or(self.at)?;
             open.retain(|&w| words[w].as_bytes().get(k) == Some(&c));
             if open.is_empty() {
                 return Err(self.at);
@@ -79,7 +79,7 @@ impl<'a> Reading<'a> {
         self.one_of(&["'"])?;
         let mut v: Vec<char> = Vec::new();
         loop {
-            let Some(&c) = self.bytes.get(self.at) else { return Err(self.at) };
+            let c = *self.bytes.get(self.at).ok_or(self.at)?;
             if c == b'\'' {
                 if v.is_empty() && !empty {
                     return Err(self.at);

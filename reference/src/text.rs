@@ -1,6 +1,5 @@
 //! Texts, and the classes of their characters.
 use std::rc::Rc;
-use std::sync::OnceLock;
 
 pub type Text = Rc<[char]>;
 
@@ -28,13 +27,12 @@ fn find_class(c: char) -> u8 {
 
 /// The classes of a character; those of the first 1,280 are kept in a list.
 pub fn class_of(c: char) -> u8 {
-    static TABLE: OnceLock<Vec<u8>> = OnceLock::new();
-    let t = TABLE.get_or_init(|| (0u32..0x500).map(|x| find_class(char::from_u32(x).unwrap())).collect());
-    let x = c as usize;
-    if x < t.len() {
-        t[x]
-    } else {
-        find_class(c)
+    thread_local! {
+        static FIRST: Vec<u8> = (0u32..0x500).map(|x| find_class(char::from_u32(x).unwrap())).collect();
+    }
+    match c as usize {
+        at if at < 0x500 => FIRST.with(|first| first[at]),
+        _ => find_class(c),
     }
 }
 
