@@ -3,6 +3,7 @@ mod arena;
 mod build;
 mod classes;
 mod csv;
+mod doubt;
 mod guard;
 mod hash;
 mod least;
