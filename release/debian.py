@@ -9,7 +9,7 @@ from release.told import text_at
 from release.tree import File, file_at, folder_of, packed, program_at, shared, text, write_tree
 
 NAME = "flashfill"
-MAINTAINER = "FlashFill <flashfill@localhost.localdomain>"
+MAINTAINER = "FlashFill <flashfill@example.org>"
 COPYRIGHT = """Format: https://www.debian.org/doc/packaging-manuals/copyright-format/1.0/
 Upstream-Name: FlashFill
 Source: the commit that /usr/share/doc/flashfill/PROVENANCE names

@@ -9,7 +9,7 @@ import subprocess
 import sys
 
 sys.path.insert(0, os.path.dirname(os.path.dirname(os.path.realpath(__file__))))
-from release.roff import blocks, code, inline, page, plain, section  # noqa: E402
+from release.roff import blocks, code, lines_of, page, plain, section  # noqa: E402
 from release.told import ROOT, help_of, sections, text_at, usage_of  # noqa: E402
 
 # how sections of the documents are called in a manual
@@ -52,11 +52,11 @@ def page_of_fillcsv(told):
     options = []
     for it in told.options:
         names = ", ".join(rf"\fB{plain(name)}\fR" for name in it.names)
-        options += [".TP", names + (rf" \fI{plain(it.value)}\fR" if it.value else ""), inline(it.what) or r"\&"]
+        options += [".TP", names + (rf" \fI{plain(it.value)}\fR" if it.value else ""), *lines_of(it.what)]
     return [
         *section("NAME", [r"fillcsv \- fill a column of a CSV sheet by example"]),
         *synopsis(told.usage),
-        *section("DESCRIPTION", [inline(told.about)]),
+        *section("DESCRIPTION", lines_of(told.about)),
         *section("OPTIONS", without_first_paragraph(options)),
         *taken(flags),
         *taken(rest),

@@ -1,5 +1,6 @@
 """The part of Markdown that the documents use, as text for `man`."""
 import re
+import textwrap
 
 
 def plain(text):
@@ -26,6 +27,12 @@ def inline(text):
     return rf"\&{text}" if text[:1] in (".", "'") else text
 
 
+def lines_of(text):
+    """A run of text in lines of a width that `man` sources have."""
+    out = textwrap.wrap(inline(text), 70, break_long_words=False, break_on_hyphens=False)
+    return [rf"\&{line}" if line[:1] in (".", "'") else line for line in out] or [r"\&"]
+
+
 def code(lines):
     """Lines as they stand."""
     return [".PP", ".RS 4", ".nf", *(plain(line) or r"\&" for line in lines), ".fi", ".RE"]
@@ -42,7 +49,7 @@ def table(rows):
     for row in rows[2:]:
         name, *others = cells(row)
         told = others[:1] + [f"{head[:1].upper()}{head[1:]}: {cell}" for head, cell in zip(heads[2:], others[1:])]
-        out += [".TP", inline(name) or r"\&", inline(". ".join(told)) or r"\&"]
+        out += [".TP", inline(name) or r"\&", *lines_of(". ".join(told))]
     return out
 
 
@@ -53,9 +60,9 @@ def list_of(lines):
         entry = re.match(r"(-|\d+\.) (.*)", line)
         if entry:
             mark = r"\(bu" if entry[1] == "-" else entry[1]
-            out += [f".IP {mark} 4", inline(entry[2])]
+            out += [f".IP {mark} 4", *lines_of(entry[2])]
         else:
-            out.append(inline(line.strip()))
+            out += lines_of(line.strip())
     return out
 
 
@@ -83,7 +90,7 @@ def block_of(lines):
         return table(lines)
     if re.match(r"(-|\d+\.) ", lines[0]):
         return list_of(lines)
-    return [".PP", *(inline(line) for line in lines)]
+    return [".PP", *lines_of(" ".join(lines))]
 
 
 def page(name, part, title, date, source, body):

@@ -15,18 +15,16 @@ COMP_WORDS=("$@") COMP_CWORD=$(($# - 1)) COMP_LINE="$*" COMP_POINT=${#COMP_LINE}
 _fillcsv
 printf '%s\\n' "${COMPREPLY[@]}"
 """
+# Each word that is offered is written to a file, beside what the shell does with it
 ZSH = """autoload -Uz compinit; compinit -u -D
 compdef _fillcsv fillcsv
-zstyle ':completion:*' list-colors ''
-LISTMAX=0 LISTPROMPT='' PROMPT='' RPROMPT=''
-zstyle ':completion:*' format ''
 compadd() {
-    if [[ ${@[1,(i)(-|--)]} == *-(O|A|D)\\ * ]]; then builtin compadd "$@"; return; fi
-    local -a __them
-    builtin compadd -A __them "$@"
-    print -rl -- "told:"${^__them} >>$TOLD
+    local -a offered
+    builtin compadd -A offered "$@"
+    print -rl -- "${(@)offered}" >>$TOLD
     builtin compadd "$@"
 }
+PROMPT=''
 print -r -- ready
 """
 HAS_BASH = shutil.which("bash") is not None and os.path.exists("/usr/share/bash-completion/bash_completion")
@@ -49,30 +47,29 @@ def fish(script, words, folder):
 
 
 def zsh(script, words, folder):
-    """What zsh completes for the last word: a shell at a terminal of its own is typed to."""
+    """What zsh completes for the last word: it is typed to a shell at a terminal of its own."""
+    told = f"{folder}/told"
     with open(f"{folder}/.zshrc", "w", encoding="utf-8") as file:
         file.write(f"fpath=({os.path.dirname(script)} $fpath)\n{ZSH}")
-    told = f"{folder}/told"
-    if os.path.exists(told):
-        os.remove(told)
+    with open(told, "w", encoding="utf-8"):
+        pass
     terminal, end = pty.openpty()
     env = {**os.environ, "ZDOTDIR": folder, "HOME": folder, "TOLD": told, "TERM": "dumb"}
     shell = subprocess.Popen(["zsh", "-i"], cwd=folder, stdin=end, stdout=end, stderr=end, env=env, start_new_session=True)
     os.close(end)
     try:
-        seen, until, asked = b"", time.monotonic() + 120, False
+        seen, until, is_typed = b"", time.monotonic() + 120, False
         while time.monotonic() < until:
             if select.select([terminal], [], [], 0.1)[0]:
                 seen += os.read(terminal, 4096)
-            if not asked and b"ready" in seen:
+            if not is_typed and b"ready" in seen:
                 os.write(terminal, (" ".join(words) + "\t").encode())
-                asked = True
-            # a mark after the answer: the shell writes it once it has completed
-            if asked and os.path.exists(told):
-                time.sleep(0.5)
-                break
-        with open(told, encoding="utf-8") as file:
-            return [it.removeprefix("told:") for it in file.read().splitlines() if it != "told:"]
+                is_typed = True
+            with open(told, encoding="utf-8") as file:
+                offered = [it for it in file.read().split("\n")[:-1] if it]
+            if offered:
+                return offered
+        return []
     finally:
         shell.kill()
         shell.wait()
