@@ -2,10 +2,10 @@
 import email.utils
 import hashlib
 import os
+import re
 import subprocess
 import tempfile
 
-from release.told import text_at
 from release.tree import File, file_at, folder_of, packed, program_at, shared, text, write_tree
 
 NAME = "flashfill"
@@ -31,10 +31,9 @@ DESCRIPTION = """fill a column of a CSV sheet by example
 
 
 def libc_of(programs):
-    """The oldest C library that has all names that the programs use."""
-    told = subprocess.run(["objdump", "-T", *programs], stdout=subprocess.PIPE, text=True, check=True).stdout
-    names = {it for line in told.splitlines() for it in line.split() if "GLIBC_" in it}
-    return max((it.strip("()").removeprefix("GLIBC_") for it in names), key=lambda it: [int(part) for part in it.split(".")])
+    """The oldest C library that has all names that the programs use: each program names their versions."""
+    named = {it for program in programs for it in re.findall(rb"\0GLIBC_([0-9.]+)\0", program_at(program).bytes)}
+    return max((it.decode() for it in named), key=lambda it: [int(part) for part in it.split(".")])
 
 
 def tree(flashfill, fillcsv, version, time, provenance):

@@ -38,9 +38,13 @@ def proved_programs():
     for it in ("flashfill", "fillcsv"):
         if not is_proved(it):
             give_up(f"{it} is not proved from these sources; ./{it} proves and builds it")
+    return binary("flashfill"), binary("fillcsv")
+
+
+def expect_commit():
+    """Gives up where the sources are not those of a commit, which a release names."""
     if git("status", "--porcelain", "--untracked-files=no"):
         give_up("files of this checkout have changed since its last commit")
-    return binary("flashfill"), binary("fillcsv")
 
 
 def kit():
