@@ -1,5 +1,4 @@
 """A release: which programs it has, where they come from, and its files."""
-import glob
 import hashlib
 import os
 import shutil
@@ -8,18 +7,11 @@ import sys
 
 from building.crates import binary, closure, is_proved, sources
 from release import debian
+from release.parts import add_parts
 from release.told import ROOT, sections, text_at
 from release.tree import file_at, folder_of, program_at, shared, tarball, text
 
 OUT = f"{ROOT}/out/release"
-# what other builds of this repository make: its name in a release, where it lies, and how it is made
-PARTS = (
-    ("the Python wheel", "embed/python/out/*.whl", "embed/python/build"),
-    ("the extension for LibreOffice", "calc/out/*.oxt", "calc/build"),
-    ("the page as one file", "page/out/flashfill.html", "page/build"),
-)
-
-
 def give_up(told, status=1):
     print(f"release: {told}", file=sys.stderr)
     sys.exit(status)
@@ -60,10 +52,10 @@ def sum_of(path):
 
 
 class Release:
-    """A release of two programs."""
+    """A release of two programs, and of the library where that is there."""
 
-    def __init__(self, flashfill, fillcsv, is_proved):
-        self.flashfill, self.fillcsv, self.is_proved = flashfill, fillcsv, is_proved
+    def __init__(self, flashfill, fillcsv, library, is_proved):
+        self.flashfill, self.fillcsv, self.library, self.is_proved = flashfill, fillcsv, library, is_proved
         self.version, self.time = text_at("VERSION").strip(), int(git("log", "-1", "--format=%ct"))
         self.mark = "" if is_proved else "-unproved"
 
@@ -85,23 +77,6 @@ class Release:
             lines += ["    ./fillcsv --help && ./flashfill made 1", "    tools/release"]
         return "\n".join(lines) + "\n"
 
-    def parts(self):
-        """The files that other builds have made since the engine was proved; what is not there is told."""
-        found = []
-        for what, places, how in PARTS:
-            made = [it for it in glob.glob(f"{ROOT}/{places}") if self.is_proved and self.is_of_engine(it)]
-            if made:
-                found += made
-            else:
-                why = f"{how} makes it of the proved engine" if os.path.exists(f"{ROOT}/{how}") else "nothing here makes it"
-                say(f"without {what}: {why if self.is_proved else 'this release is not proved'}")
-        return found
-
-    @staticmethod
-    def is_of_engine(path):
-        told = f"{binary('fill_engine')}.proved"
-        return is_proved("fill_engine") and os.path.getmtime(path) > os.path.getmtime(told)
-
     def make(self, out=OUT):
         """Writes all files into a folder, which is emptied first."""
         shutil.rmtree(out, ignore_errors=True)
@@ -118,8 +93,7 @@ class Release:
         with open(f"{out}/PROVENANCE", "w", encoding="utf-8") as file:
             file.write(provenance)
         self.make_package(libc, provenance, out)
-        for path in self.parts():
-            shutil.copy(path, out)
+        add_parts(self.library, out, self.mark, say)
         names = sorted(os.listdir(out))
         with open(f"{out}/SHA256SUMS", "w", encoding="utf-8") as file:
             file.writelines(f"{sum_of(f'{out}/{it}')}  {it}\n" for it in names)
