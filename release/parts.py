@@ -40,10 +40,10 @@ def run(words, **more):
 def python_with(*modules):
     """A Python that has these modules."""
     for it in (sys.executable, "/usr/bin/python3"):
-        words = [it, "-c", f"import {', '.join(modules)}"]
+        words = [it, "-c", "import importlib.util, sys; sys.exit(not all(map(importlib.util.find_spec, sys.argv[1:])))", *modules]
         if os.path.exists(it) and subprocess.run(words, stdin=subprocess.DEVNULL, stderr=subprocess.DEVNULL, check=False).returncode == 0:
             return it
-    raise LeftOut("no Python here has pip, setuptools and wheel")
+    raise LeftOut(f"no Python here has {', '.join(modules)}")
 
 
 def expect(path, library):
