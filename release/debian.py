@@ -6,7 +6,7 @@ import re
 import subprocess
 import tempfile
 
-from release.tree import File, file_at, folder_of, packed, program_at, shared, text, write_tree
+from release.tree import file_at, folder_of, packed, program_at, shared, text, write_tree
 
 NAME = "flashfill"
 MAINTAINER = "FlashFill <flashfill@example.org>"

@@ -32,7 +32,7 @@ HAS_BASH = shutil.which("bash") is not None and os.path.exists("/usr/share/bash-
 
 def bash(script, words, folder):
     """What bash completes for the last word."""
-    how = {"cwd": folder, "stdin": subprocess.DEVNULL, "stdout": subprocess.PIPE, "text": True, "timeout": 120, "check": True}
+    how = {"cwd": folder, "stdin": subprocess.DEVNULL, "stdout": subprocess.PIPE, "text": True, "timeout": 300, "check": True}
     told = subprocess.run(["bash", "--norc", "-c", BASH, "bash", script, *words], **how).stdout
     return told.split("\n")[:-1] if told.strip() else []
 
@@ -40,7 +40,7 @@ def bash(script, words, folder):
 def fish(script, words, folder):
     """What fish completes for the last word."""
     line = " ".join(words)
-    how = {"cwd": folder, "stdin": subprocess.DEVNULL, "stdout": subprocess.PIPE, "text": True, "timeout": 120, "check": True}
+    how = {"cwd": folder, "stdin": subprocess.DEVNULL, "stdout": subprocess.PIPE, "text": True, "timeout": 300, "check": True}
     how["env"] = {**os.environ, "HOME": folder, "XDG_CONFIG_HOME": f"{folder}/config"}
     told = subprocess.run(["fish", "--no-config", "-c", f'source {script}; complete -C "{line}"'], **how).stdout
     return [it.partition("\t")[0] for it in told.splitlines()]
@@ -58,7 +58,7 @@ def zsh(script, words, folder):
     shell = subprocess.Popen(["zsh", "-i"], cwd=folder, stdin=end, stdout=end, stderr=end, env=env, start_new_session=True)
     os.close(end)
     try:
-        seen, until, is_typed = b"", time.monotonic() + 120, False
+        seen, until, is_typed = b"", time.monotonic() + 300, False
         while time.monotonic() < until:
             if select.select([terminal], [], [], 0.1)[0]:
                 seen += os.read(terminal, 4096)

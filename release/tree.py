@@ -7,7 +7,7 @@ from dataclasses import dataclass
 
 from release.completions import completions
 from release.man import pages
-from release.told import ROOT, text_at
+from release.told import ROOT
 
 
 @dataclass(frozen=True)

@@ -43,7 +43,8 @@ def can_write(user, folder):
 def recipes(text):
     """The commands of a document that start a program of this folder, and what should come, None where nothing is said."""
     for block, wanted in re.findall(r"^```sh\n(.*?)^```\n(?:\n```\n(.*?)^```\n)?", text, re.M | re.S):
-        commands = [line for line in block.splitlines() if re.match(r"\./(fillcsv|flashfill) ", line)]
+        lines = block.replace("\\\n", " ").splitlines()
+        commands = [line for line in lines if re.match(r"\./(fillcsv|flashfill) ", line)]
         for command in commands:
             yield command.replace(" --try", ""), wanted if wanted and len(commands) == 1 else None
 
