@@ -5,6 +5,7 @@ Options and examples come from the programs themselves, all else from the docume
 """
 import datetime
 import os
+import re
 import subprocess
 import sys
 
@@ -23,10 +24,16 @@ def without_first_paragraph(body):
     return body[1:] if body[:1] == [".PP"] else body
 
 
+def installed(text):
+    """A document's text as it is for programs that are installed: none is started by its path, or compiled first."""
+    text = re.sub(r"(?<![\w/])\.{1,2}/(?=(fillcsv|flashfill)\b)", "", text)
+    return "\n\n".join(it for it in text.split("\n\n") if "--try" not in it)
+
+
 def taken(parts):
     out = []
     for title, text in parts.items():
-        body = without_first_paragraph(blocks(text))
+        body = without_first_paragraph(blocks(installed(text)))
         if body:
             out += section(TITLES.get(title.lower(), plain(title.upper())), body)
     return out
@@ -86,7 +93,7 @@ def pages(flashfill, fillcsv):
         *section("NAME", [r"flashfill \- session files and saved rules"]),
         *section("DESCRIPTION", without_first_paragraph(blocks(about))),
         *taken(of_files),
-        *(section("SAVED RULES", without_first_paragraph(blocks(rule))) if rule else []),
+        *(section("SAVED RULES", without_first_paragraph(blocks(installed(rule)))) if rule else []),
         *see_also(("fillcsv", 1), ("flashfill", 1)),
     ]
     return {

@@ -85,6 +85,8 @@ class ReleaseTest(unittest.TestCase):
     def test_version(self):
         version = self.release.version
         self.assertIn(f"\n## [{version}] - ", text_at("CHANGELOG.md"))
+        for wheel in glob.glob(f"{self.work}/one/*.whl"):
+            self.assertTrue(os.path.basename(wheel).startswith(f"flashfill-{version}-"), f"{wheel} is not of version {version}")
         if not any("--version" in it.names for it in help_of(self.release.fillcsv).options):
             self.skipTest("this fillcsv has no --version")
         self.assertEqual(run(self.release.fillcsv, "--version").decode(), f"fillcsv {version}\n")
