@@ -69,7 +69,7 @@ def zsh(script, words, folder):
                 offered = [it for it in file.read().split("\n")[:-1] if it]
             if offered:
                 return offered
-        return []
+        raise TimeoutError("zsh offered nothing within five minutes")
     finally:
         shell.kill()
         shell.wait()
