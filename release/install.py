@@ -18,9 +18,9 @@ LIST = f"{DOC}/installed"
 
 def install(folder, flashfill, fillcsv):
     tree = {"bin/flashfill": program_at(flashfill), "bin/fillcsv": program_at(fillcsv)}
-    tree |= shared(flashfill, fillcsv, "site-functions")
-    tree |= {f"{DOC}/{it}": file_at(it) for it in ("README.md", "LICENSE", "CHANGELOG.md")}
-    tree |= {f"{DOC}/{path}": file for path, file in folder_of("examples").items()}
+    tree.update(shared(flashfill, fillcsv, "site-functions"))
+    tree.update({f"{DOC}/{it}": file_at(it) for it in ("README.md", "LICENSE", "CHANGELOG.md")})
+    tree.update({f"{DOC}/{path}": file for path, file in folder_of("examples").items()})
     write_tree({**tree, LIST: text("\n".join([*tree, LIST]) + "\n")}, folder)
 
 

@@ -87,7 +87,8 @@ class Release:
         files = {"flashfill": program_at(self.flashfill), "fillcsv": program_at(self.fillcsv), "PROVENANCE": text(provenance)}
         for path in ("README.md", "LICENSE", "CHANGELOG.md", "VERSION"):
             files[path] = file_at(path)
-        files |= {**shared(self.flashfill, self.fillcsv, "site-functions"), **folder_of("examples"), **folder_of("docs", ".md")}
+        files.update(shared(self.flashfill, self.fillcsv, "site-functions"))
+        files.update({**folder_of("examples"), **folder_of("docs", ".md")})
         with open(f"{out}/{top}.tar.gz", "wb") as file:
             file.write(tarball(files, top, self.time))
         with open(f"{out}/PROVENANCE", "w", encoding="utf-8") as file:

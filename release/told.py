@@ -79,7 +79,7 @@ def help_of(fillcsv):
 
 def usage_of(flashfill):
     """The commands of `flashfill`, from its usage line."""
-    return told_by(flashfill).strip().removeprefix("usage: ").split(" or ")
+    return told_by(flashfill).strip().partition("usage: ")[2].split(" or ")
 
 
 def sections(path):

@@ -77,7 +77,7 @@ def tarball(tree, top, time):
             for path in tree:
                 parts = path.split("/")[:-1]
                 folders.update("/".join([top, *parts[: at + 1]]) for at in range(len(parts)))
-            entries = {it: None for it in folders} | {f"{top}/{path}": file for path, file in tree.items()}
+            entries = {**{it: None for it in folders}, **{f"{top}/{path}": file for path, file in tree.items()}}
             for path in sorted(entries):
                 entry, file = tarfile.TarInfo(path), entries[path]
                 entry.mtime, entry.uname, entry.gname = time, "root", "root"
