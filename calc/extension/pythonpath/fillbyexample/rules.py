@@ -1,0 +1,2 @@
+def save(*_): pass
+def run(*_): pass

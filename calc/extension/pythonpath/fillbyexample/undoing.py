@@ -1,0 +1,55 @@
+"""Follows undo and redo of a document: the memory of what was filled goes with the cells, and the bar goes away."""
+import unohelper
+from com.sun.star.document import XUndoManagerListener
+
+from . import memory
+from .bar import Bar
+
+_followed = {}  # by document
+
+
+class Follower(unohelper.Base, XUndoManagerListener):
+    """`steps` are what the document remembered before and after each step of ours that can be undone."""
+
+    def __init__(self, doc, titles):
+        self.doc, self.titles, self.steps, self.undone = doc, titles, [], []
+
+    def added(self, before):
+        """A step was made; `before` is what the document remembered then."""
+        self.steps.append((before, memory.read(self.doc)))
+        self.undone.clear()
+
+    def actionUndone(self, event):
+        self._moved(event, self.steps, self.undone, 0)
+
+    def actionRedone(self, event):
+        self._moved(event, self.undone, self.steps, 1)
+
+    def _moved(self, event, source, target, which):
+        if event.UndoActionTitle not in self.titles:
+            return
+        if source:
+            target.append(source.pop())
+            memory.write(self.doc, target[-1][which])
+        controller = self.doc.getCurrentController()
+        if controller:
+            Bar(controller.getFrame()).hide()
+
+    def disposing(self, _event):
+        _followed.pop(self.uid, None)
+
+    def ignore(self, _event):
+        pass
+
+    undoActionAdded = allActionsCleared = redoActionsCleared = resetAll = ignore
+    enteredContext = enteredHiddenContext = leftContext = leftHiddenContext = cancelledContext = ignore
+
+
+def follow(doc, titles):
+    """The follower of a document."""
+    uid = doc.RuntimeUID
+    if uid not in _followed:
+        _followed[uid] = follower = Follower(doc, titles)
+        follower.uid = uid
+        doc.getUndoManager().addUndoManagerListener(follower)
+    return _followed[uid]
