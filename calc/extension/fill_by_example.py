@@ -28,7 +28,8 @@ class Handler(unohelper.Base, XDispatchProvider, XDispatch, XInitialization, XSe
 
     def dispatch(self, url, options):
         try:
-            Commands(self.context, self.frame).run(url.Complete[len(PROTOCOL):], {it.Name: it.Value for it in options})
+            name, _, place = url.Complete[len(PROTOCOL):].partition("#")
+            Commands(self.context, self.frame).run(name, {it.Name: it.Value for it in options}, bool(place))
         except Exception:
             traceback.print_exc()
             raise

@@ -19,11 +19,11 @@ def usual(region, header, given, has_tables, tick):
     for column in nearest(region):
         if len(chosen) == MOST_READ:
             break
-        texts = region.texts(column, tick)[header:]
-        held = sum(1 for it in texts if it)
+        texts = region.texts(column, tick)
+        held = sum(1 for it in texts[header:] if it)
         is_number = len(region.has_values(column)) * 2 > held
         is_long = any(len(texts[row]) > LONGEST_READ for row in given)
-        if held * 2 > len(texts) and not is_long and (has_digit or not is_number):
+        if held * 2 > len(texts) - header and not is_long and (has_digit or not is_number):
             chosen.append(column)
     return sorted(chosen)
 

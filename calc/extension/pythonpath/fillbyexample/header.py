@@ -46,8 +46,9 @@ def _learns_better(region, read, own, given, wait):
     kept = sorted({*examples, *range(1, min(region.height, MOST_ROWS))})
     rows = [[region.texts(it)[row] for it in read] for row in [0, *kept]]
     given = {at: examples[row] for at, row in enumerate(kept) if row in examples}
-    if not given:  # the one filled cell is a name where it would be the same text in all rows
-        return len(set(fill(Question(None, rows, {0: own}), wait).texts)) == 1
+    if not given:  # the one filled cell is a name where it is the same text in all rows, or partly made of letters of its own
+        alone = fill(Question(None, rows, {0: own}), wait)
+        return len(set(alone.texts)) == 1 or has_letters(alone.rule[0])
     names = [*rows[0], own]
     as_header = fill(Question(names, rows[1:], given), wait)
     as_row = fill(Question(None, rows, {0: own, **{row + 1: it for row, it in given.items()}}), wait)

@@ -158,8 +158,8 @@ def fill(question, wait):
 
 
 def explain(question, row, wait):
-    """Both answers of one row: the first one, the doubt or None where all rules agree, and the rule in words."""
+    """The first answer of one row, and its doubt, None where all rules agree."""
     kept = sorted({*sorted(question.given)[:MOST_EXAMPLES], row})
     at = kept.index(row)
     filled = _ask_all([question.part(kept)], wait, "--explain")[0]
-    return filled.answer(at), filled.doubts.get(at), filled.rule
+    return filled.answer(at), filled.doubts.get(at)

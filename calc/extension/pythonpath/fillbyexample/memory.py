@@ -18,9 +18,9 @@ class Column:
     """A column that was filled, by the name of its sheet and its number. `read` are the columns that were read, counted from
     it; `chosen` says that a person chose these. `header` is None where nobody said it."""
 
-    def __init__(self, sheet, column, header=None, read=(), chosen=False, tables=False, cells=(), confirmed=()):
+    def __init__(self, sheet, column, header=None, read=(), chosen=False, tables=False, cells=(), confirmed=(), notes=()):
         self.sheet, self.column, self.header, self.read, self.chosen, self.tables = sheet, column, header, list(read), chosen, tables
-        self.confirmed, self.was = set(confirmed), (sheet, column)
+        self.confirmed, self.notes, self.was = set(confirmed), list(notes), (sheet, column)
         self.set_cells(cells)
 
     def set_cells(self, cells):
@@ -33,18 +33,22 @@ class Column:
         content = content_sum(text, beside)
         return content not in self.confirmed and (self.by_row.get(row) == text_sum(text) or content in self.by_content)
 
+    def confirm(self, text, beside):
+        """A person says by a button that this is right."""
+        self.confirmed.add(content_sum(text, beside))
+
     def is_confirmed(self, text, beside):
-        """Whether a person has said by a button that this is right."""
         return content_sum(text, beside) in self.confirmed
 
     def packed(self):
         cells = b"".join(FORM.pack(*it) for it in self.cells)
-        return [self.sheet, self.column, self.header, self.read, self.chosen, self.tables, base64.b64encode(zlib.compress(cells)).decode(), sorted(self.confirmed)]
+        packed = base64.b64encode(zlib.compress(cells)).decode()
+        return [self.sheet, self.column, self.header, self.read, self.chosen, self.tables, packed, sorted(self.confirmed), self.notes]
 
     @classmethod
     def unpacked(cls, it):
         cells = FORM.iter_unpack(zlib.decompress(base64.b64decode(it[6])))
-        return cls(*it[:6], cells, it[7])
+        return cls(*it[:6], cells, *it[7:9])
 
 
 def text_sum(text):

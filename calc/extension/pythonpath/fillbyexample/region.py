@@ -16,7 +16,7 @@ class Refused(Exception):
 class Region:
     """A range of a sheet, of which one column is to be filled. Records and columns count from 0 in the range."""
 
-    def __init__(self, doc, sheet, cell, selected=None):
+    def __init__(self, doc, sheet, cell, selected=None, needs_beside=True):
         """`selected` are the first and the last row of a selection in the column, else None."""
         self.doc, self.sheet, self.selected = doc, sheet, selected
         around = sheet.createCursorByRange(cell)
@@ -26,21 +26,22 @@ class Region:
         self.left, self.right = min(at.StartColumn, self.column), max(at.EndColumn, self.column)
         self.top, self.bottom = at.StartRow, at.EndRow
         self._open()
+        if self.width == 1 and needs_beside:
+            raise Refused("nothing_beside")
 
     def _open(self):
         self.to = self.column - self.left
         self.width, self.height = self.right - self.left + 1, self.bottom - self.top + 1
-        if self.width == 1:
-            raise Refused("nothing_beside")
         self.range = self.sheet.getCellRangeByPosition(self.left, self.top, self.right, self.bottom)
         self.merged = list(self._merged())
         self._texts, self._kinds = {}, {}
 
     @classmethod
-    def of_range(cls, doc, sheet, address):
-        """The region of a selection of several columns: the last one is filled, the others are read."""
+    def of_range(cls, doc, sheet, address, to=None):
+        """The region of a range: this column of it is filled, without one the last, and the others are read."""
         self = cls.__new__(cls)
-        self.doc, self.sheet, self.selected, self.column = doc, sheet, None, address.EndColumn
+        self.doc, self.sheet, self.selected = doc, sheet, None
+        self.column = address.EndColumn if to is None else address.StartColumn + to
         used = sheet.createCursor()
         used.gotoEndOfUsedArea(False)
         self.left, self.right, self.top = address.StartColumn, address.EndColumn, address.StartRow
@@ -75,8 +76,8 @@ class Region:
         cells = self.cells(column)
         data = [it[0] for it in cells.getDataArray()]
         texts = [it if isinstance(it, str) else "" for it in data]
-        values = _records(cells.queryContentCells(VALUE | DATETIME), self.top)
-        formulas = _records(cells.queryFormulaCells(IS_VALUE | IS_ERROR), self.top)
+        values = _records(cells, cells.queryContentCells(VALUE | DATETIME))
+        formulas = _records(cells, cells.queryFormulaCells(IS_VALUE | IS_ERROR))
         formats, shown = by_record(cells, self.top, lambda it: it.NumberFormat) if values else {}, {}
         for count, record in enumerate(values):  # what a value shows follows from it and its format
             key = formats[record], data[record]
@@ -115,11 +116,13 @@ class Region:
 
     def formulas(self):
         """The records whose cell of the column to fill has a formula."""
-        return set(_records(self.cells(self.to).queryContentCells(FORMULA), self.top))
+        cells = self.cells(self.to)
+        return set(_records(cells, cells.queryContentCells(FORMULA)))
 
     def held(self):
         """The records whose cell of the column to fill holds something."""
-        return set(_records(self.cells(self.to).queryContentCells(VALUE | DATETIME | STRING | FORMULA), self.top))
+        cells = self.cells(self.to)
+        return set(_records(cells, cells.queryContentCells(VALUE | DATETIME | STRING | FORMULA)))
 
     def covered(self):
         """The records whose cell of the column to fill lies under a merged one."""
@@ -133,7 +136,7 @@ class Region:
         """The records whose cell of the column to fill may be written, apart from what it holds: those that are seen, not
         protected, not under a merged cell, and in the selection."""
         cells = self.cells(self.to)
-        places = set(_records(cells.queryVisibleCells(), self.top)) - self.covered()
+        places = set(_records(cells, cells.queryVisibleCells())) - self.covered()
         if self.sheet.isProtected():
             locked = by_record(cells, self.top, lambda it: it.CellProtection.IsLocked)
             places = {it for it in places if not locked[it]}
@@ -143,10 +146,12 @@ class Region:
         return places
 
 
-def _records(ranges, top):
-    """All records of ranges of one column, in order."""
-    found = [it - top for at in ranges.getRangeAddresses() for it in range(at.StartRow, at.EndRow + 1)]
-    return sorted(found)
+def _records(cells, ranges):
+    """All records of ranges in cells of one column, in order. Beyond the last column that a sheet uses a query answers with that
+    one (LibreOffice 7.4)."""
+    at = cells.getRangeAddress()
+    found = (range(it.StartRow - at.StartRow, it.EndRow - at.StartRow + 1) for it in ranges.getRangeAddresses() if it.StartColumn == at.StartColumn)
+    return sorted(record for it in found for record in it)
 
 
 def by_record(cells, top, asked):
@@ -162,7 +167,7 @@ def by_record(cells, top, asked):
 
 
 
-def region_of(doc, controller):
+def region_of(doc, controller, needs_beside=True):
     """The region that the selection means: one cell, cells of one column, or a range whose last column is filled."""
     selected = doc.getCurrentSelection()
     if not hasattr(selected, "getRangeAddress"):
@@ -175,4 +180,4 @@ def region_of(doc, controller):
         if merged.getRangeAddress().EndColumn != at.EndColumn:
             return Region.of_range(doc, sheet, at)
     is_part = at.StartRow != at.EndRow and at.EndRow - at.StartRow < MOST_ROWS_SELECTED
-    return Region(doc, sheet, cell, (at.StartRow, at.EndRow) if is_part else None)
+    return Region(doc, sheet, cell, (at.StartRow, at.EndRow) if is_part else None, needs_beside)

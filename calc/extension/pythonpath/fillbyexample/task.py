@@ -30,7 +30,7 @@ class Task:
         """Tells given texts from guesses. A cell that a person left empty by a button is given, too."""
         region, column = self.region, self.column
         formulas, covered = region.formulas(), region.covered()
-        self.own, self.given = set(), {}
+        self.own, self.given, self.confirmed = set(), {}, set()
         knows = bool(column.cells or column.confirmed) and memory.reads_inside(column, region)
         for record, text in enumerate(region.texts(region.to, self.waiting.tick)):
             if record in formulas or record in covered:
@@ -38,8 +38,12 @@ class Task:
             beside = memory.beside(column, region, record) if knows else ()
             if text and knows and column.is_guess(region.top + record, text, beside):
                 self.own.add(record)
-            elif text or knows and column.is_confirmed(text, beside):
+                continue
+            is_confirmed = knows and column.is_confirmed(text, beside)
+            if text or is_confirmed:
                 self.given[record] = text
+            if is_confirmed:
+                self.confirmed.add(record)
 
     @property
     def header(self):
@@ -56,20 +60,23 @@ class Task:
         given = {record - header: text for record, text in self.given.items()}
         return learning.Question(names, rows, given, self.tables)
 
+    def usual_columns(self):
+        """The columns that a person has chosen, else those that are read by default."""
+        if self.column.chosen and memory.reads_inside(self.column, self.region):
+            return [self.region.to + it for it in self.column.read]
+        first = {record: text for record, text in sorted(self.given.items())[:learning.MOST_EXAMPLES]}
+        tick = self.waiting.tick
+        return columns.usual(self.region, self.header, first, bool(self.tables), tick) or columns.all_held(self.region, self.header, tick)
+
     def learn(self):
         """Learns the column. Where a given text is not learned from by the usual columns, all are tried."""
         if not self.given:
             raise Refused("no_example")
-        region, column, tick = self.region, self.column, self.waiting.tick
-        if column.chosen and memory.reads_inside(column, region):
-            self._learn([region.to + it for it in column.read])
+        self._learn(self.usual_columns())
+        if not self.filled.refusals or self.column.chosen:
             return
-        given = {record: text for record, text in sorted(self.given.items())[:learning.MOST_EXAMPLES]}
-        below = {record - self.header: text for record, text in given.items()}
-        self._learn(columns.usual(region, self.header, below, bool(self.tables), tick) or columns.all_held(region, self.header, tick))
-        more = columns.all_held(region, self.header, tick) if self.filled.refusals else self.read
+        kept, more = (self.read, self.asked, self.filled), columns.all_held(self.region, self.header, self.waiting.tick)
         if more != self.read:
-            kept = self.read, self.asked, self.filled
             self._learn(more)
             if len(self.filled.refusals) >= len(kept[2].refusals):
                 self.read, self.asked, self.filled = kept
@@ -83,8 +90,12 @@ class Task:
         self.read, (self.asked, self.filled) = read, last
 
     def explain(self, record):
-        """Both answers of a record, and their rules in words."""
+        """The first answer of a record, and its doubt, None where all rules agree."""
         return learning.explain(self.asked, record - self.header, self.waiting.wait)
+
+    def learned_from(self):
+        """The records whose text is learned from."""
+        return [it for it in self.given if it - self.header not in self.filled.refusals]
 
     def answer(self, record):
         """What the rule gives on a record, as text."""
@@ -116,9 +127,10 @@ class Task:
             if text:
                 cells.append((region.top + record, memory.text_sum(text), memory.content_sum(text, [it[record] for it in texts])))
         column.set_cells(cells)
+        column.confirmed = {memory.content_sum(self.given[record], [it[record] for it in texts]) for record in self.confirmed}
         memory.keep(self.doc, column)
 
 
-def forget(doc):
-    """Forgets a document that was closed."""
-    _last.pop(doc, None)
+def forget(uid):
+    """Forgets a document that is closed."""
+    _last.pop(uid, None)

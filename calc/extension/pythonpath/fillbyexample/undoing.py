@@ -2,7 +2,7 @@
 import unohelper
 from com.sun.star.document import XUndoManagerListener
 
-from . import memory
+from . import memory, task, telling
 from .bar import Bar
 
 _followed = {}  # by document
@@ -12,7 +12,7 @@ class Follower(unohelper.Base, XUndoManagerListener):
     """`steps` are what the document remembered before and after each step of ours that can be undone."""
 
     def __init__(self, doc, titles):
-        self.doc, self.titles, self.steps, self.undone = doc, titles, [], []
+        self.doc, self.uid, self.titles, self.steps, self.undone = doc, doc.RuntimeUID, titles, [], []
 
     def added(self, before):
         """A step was made; `before` is what the document remembered then."""
@@ -37,6 +37,8 @@ class Follower(unohelper.Base, XUndoManagerListener):
 
     def disposing(self, _event):
         _followed.pop(self.uid, None)
+        task.forget(self.uid)
+        telling.forget(self.uid)
 
     def ignore(self, _event):
         pass
@@ -50,6 +52,5 @@ def follow(doc, titles):
     uid = doc.RuntimeUID
     if uid not in _followed:
         _followed[uid] = follower = Follower(doc, titles)
-        follower.uid = uid
         doc.getUndoManager().addUndoManagerListener(follower)
     return _followed[uid]

@@ -2,6 +2,7 @@
 import contextlib
 import re
 
+DATETIME = 6  # com.sun.star.util.NumberFormat
 PLAIN_NUMBER = re.compile(r"-?(0|[1-9]\d{0,14})$")
 
 
@@ -71,6 +72,18 @@ def _noted(region):
     return {it.Row - region.top for it in places if it.Column == region.column}
 
 
+class Texts:
+    """Answers stay texts."""
+
+    format = None
+
+    def value(self, text):
+        return text
+
+
+TEXTS = Texts()
+
+
 class Numbers:
     """Makes numbers of answers where each example is one, in the format of the first of them."""
 
@@ -81,6 +94,7 @@ class Numbers:
             self.format = region.place(min(examples)).NumberFormat
             self._formatter = context.ServiceManager.createInstanceWithContext("com.sun.star.util.NumberFormatter", context)
             self._formatter.attachNumberFormatsSupplier(region.doc)
+            self._is_time = bool(region.doc.getNumberFormats().getByKey(self.format).Type & DATETIME)
 
     def value(self, text):
         """A number, or the text where it is none."""
@@ -91,9 +105,11 @@ class Numbers:
         return self._known[text]
 
     def _number(self, text):
-        if PLAIN_NUMBER.match(text):
+        if PLAIN_NUMBER.match(text) and not self._is_time:
             return float(text)
         try:
-            return self._formatter.convertStringToNumber(self.format, text)
+            value = self._formatter.convertStringToNumber(self.format, text)
+            is_other = self._is_time and self._formatter.convertNumberToString(self.format, value) != text
         except Exception:  # com.sun.star.util.NotNumericException, and whatever else says that it is none
             return text
+        return text if is_other else value  # a date that would show as another one stays a text

@@ -3,7 +3,6 @@ from . import de, en
 
 LANGUAGES = {"en": en, "de": de}
 STYLES = tuple(it.STYLE for it in LANGUAGES.values())
-HEADS = tuple(it.NOTE_HEAD for it in LANGUAGES.values())
 TITLES = {title for it in LANGUAGES.values() for title in (it.FILL, it.RUN_RULE)}
 
 

@@ -27,7 +27,7 @@ EITHER = "{0} oder {1}?"
 ONLY = "{0}? Keine Regel ergibt etwas anderes."
 OR_TYPE = "Oder geben Sie den richtigen Text ein und drücken Sie Strg+E."
 RULE_SAVED = "Die Regel ist in {0} gespeichert."
-MARKS_CLEARED = "Die Kennzeichen sind entfernt."
+BY_RULE = "{0} nach der Regel {1}."
 NONE = "nichts"
 QUOTED = "„{0}“"
 

@@ -30,7 +30,7 @@ EITHER = "{0} or {1}?"
 ONLY = "{0}? No rule gives another answer."
 OR_TYPE = "Or type the right text and press Ctrl+E."
 RULE_SAVED = "The rule is saved in {0}."
-MARKS_CLEARED = "The marks are cleared."
+BY_RULE = "{0} by the rule {1}."
 NONE = "none"
 QUOTED = "“{0}”"
 
