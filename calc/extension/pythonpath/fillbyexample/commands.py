@@ -94,9 +94,8 @@ class Commands:
         region = task.region
         marks.clear(region, words.STYLES, task.column.notes)
         texts = {record: task.answer(record) for record in task.open_records()}
-        stands = region.texts(region.to)
         numbers = Numbers(self.context, region, task.learned_from())
-        write(region, {record: text for record, text in texts.items() if text != stands[record]}, numbers)
+        write(region, texts, numbers)
         doubtful = task.doubtful()
         marks.mark(region, doubtful, self.words)
         notes = {it: self.telling.note(task, it) for it in doubtful if it - task.header in task.filled.doubts}

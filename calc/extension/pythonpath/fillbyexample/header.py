@@ -28,7 +28,7 @@ def has_header(region, given, wait, tick):
 
 def _has_filter(region):
     """Whether the first row has the buttons of a filter."""
-    sheet = region.sheet.getRangeAddress().Sheet
+    sheet = region.sheet_number
     ranges = [region.doc.DatabaseRanges.getByName(it) for it in region.doc.DatabaseRanges.getElementNames()]
     unnamed = region.doc.getPropertyValue("UnnamedDatabaseRanges")
     ranges += [unnamed.getByTable(sheet)] if unnamed.hasByTable(sheet) else []

@@ -10,11 +10,12 @@ from .told import Told
 
 GIVEN, DOUBT, NONE, NONE_DOUBT = "given", "doubt", "none", "none doubt"
 MOST_READ = 8
+EASY = 200  # characters of a row; of longer ones the engine may need seconds to explain a doubt
 MOST_EXAMPLES = 64
 MOST_TABLES, MOST_KEYS, MOST_TABLE_ROWS = 8, 4, 2000
 # A long sheet is asked about in parts of so many rows, each with all given ones: the answer of a row follows from the
 # examples and that row alone. With more given rows than MOST_GIVEN the parts would be long themselves.
-PART, MOST_GIVEN = 20000, 500
+PART, MOST_GIVEN = 8000, 500
 STACK = 64 << 20  # the engine needs more stack than a thread has on some systems
 
 
@@ -137,12 +138,13 @@ def _ask_all(questions, wait, *words):
     return [it.result() for it in futures]
 
 
-def fill(question, wait):
-    """Fills a column."""
+def fill(question, wait, explains=False):
+    """Fills a column. With `explains` doubts have the words of the other rule, if no row has so much to read that it takes long."""
+    words = ["--explain"] if explains and all(sum(map(len, row)) <= EASY for row in question.rows) else []
     parts = _parts(question)
     if len(parts) == 1:
-        return _ask_all([question], wait)[0]
-    answers = _ask_all([question.part(it) for it in parts], wait)
+        return _ask_all([question], wait, *words)[0]
+    answers = _ask_all([question.part(it) for it in parts], wait, *words)
     filled, places = answers[0], parts[0]
     texts, states = [""] * len(question.rows), [""] * len(question.rows)
     for kept, part in zip(parts, answers):

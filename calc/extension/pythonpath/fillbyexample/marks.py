@@ -10,18 +10,19 @@ MOST_NOTES = 10
 
 def mark(region, doubtful, words):
     """Gives cells the style of doubt, but for those with a colour of the person's own. The style of a cell in another style
-    comes from that one, so that all else stays and `clear` finds the way back."""
-    if not doubtful:
+    comes from that one, so that all else stays and `clear` finds the way back. A protected sheet takes no styles."""
+    if not doubtful or region.sheet.isProtected():
         return
-    cells = region.cells(region.to)
-    colors = by_record(cells, region.top, lambda it: it.CellBackColor)
-    names = by_record(cells, region.top, lambda it: it.CellStyle)
+    formats = by_record(region.cells(region.to), region.top, lambda it: (it.CellStyle, it.CellBackColor))
     by_style = {}
     for record in doubtful:
-        if colors[record] == NO_COLOR:
-            by_style.setdefault(names[record], []).append(record)
+        name, color = formats[record]
+        if color == NO_COLOR:
+            by_style.setdefault(name, []).append(record)
     for name, records in by_style.items():
-        _ranges(region, records).CellStyle = _style(region.doc, words, name)
+        ranges = region.doc.createInstance("com.sun.star.sheet.SheetCellRanges")
+        ranges.addRangeAddresses(tuple(region.address(*it) for it in runs(records)), False)
+        ranges.CellStyle = _style(region.doc, words, name)
 
 
 def _style(doc, words, parent):
@@ -35,28 +36,16 @@ def _style(doc, words, parent):
     return name
 
 
-def _ranges(region, records):
-    ranges = region.doc.createInstance("com.sun.star.sheet.SheetCellRanges")
-    ranges.addRangeAddresses(tuple(region.part(*it).getRangeAddress() for it in runs(records)), False)
-    return ranges
-
-
-def is_marked(name, styles):
-    """Whether a cell style is one of ours, in any language."""
-    return any(name == it or name.startswith(f"{it}: ") for it in styles)
-
-
 def clear(region, styles, known):
-    """Takes all marks off the column, but for notes that a person has changed: `known` are the checksums of ours."""
-    family = region.doc.StyleFamilies.getByName("CellStyles")
-    by_style = {}
-    for record, name in by_record(region.cells(region.to), region.top, lambda it: it.CellStyle).items():
-        if is_marked(name, styles):
-            by_style.setdefault(name, []).append(record)
-    for name, records in by_style.items():
-        _ranges(region, records).CellStyle = family.getByName(name).ParentStyle or "Default"
+    """Takes all marks off the column, but for notes that a person has changed: `known` are the checksums of ours. `styles` are
+    the names of the style of doubt in all languages."""
+    family, cells = region.doc.StyleFamilies.getByName("CellStyles"), region.cells(region.to)
+    ours = {name for name in family.getElementNames() if any(name == it or name.startswith(f"{it}: ") for it in styles)}
+    if ours:
+        for group in [it for it in cells.getUniqueCellFormatRanges() if it.CellStyle in ours]:
+            group.CellStyle = family.getByName(group.CellStyle).ParentStyle or "Default"
     notes = region.sheet.getAnnotations()
-    for at in reversed(range(notes.getCount())):
+    for at in reversed(range(notes.getCount() if known else 0)):
         note = notes.getByIndex(at)
         place = note.getPosition()
         is_inside = place.Column == region.column and region.top <= place.Row <= region.bottom

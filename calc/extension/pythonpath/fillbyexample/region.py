@@ -1,5 +1,7 @@
 """What is read of a sheet: the range around a cell or the selected one, its texts as they are shown, and the places of the
 column to fill that may be written."""
+from com.sun.star.table import CellRangeAddress
+
 VALUE, DATETIME, STRING, FORMULA = 1, 2, 4, 16  # com.sun.star.sheet.CellFlags
 IS_VALUE, IS_ERROR = 1, 4  # com.sun.star.sheet.FormulaResult
 MOST_ROWS_SELECTED = 1000000  # of more the whole column is selected
@@ -33,7 +35,8 @@ class Region:
         self.to = self.column - self.left
         self.width, self.height = self.right - self.left + 1, self.bottom - self.top + 1
         self.range = self.sheet.getCellRangeByPosition(self.left, self.top, self.right, self.bottom)
-        self.merged = list(self._merged())
+        self.sheet_number = self.range.getRangeAddress().Sheet
+        self.merged = list(self._merged()) if self.range.getIsMerged() else []
         self._texts, self._kinds = {}, {}
 
     @classmethod
@@ -60,6 +63,10 @@ class Region:
     def part(self, first, last):
         """The cells of the column to fill between two records."""
         return self.sheet.getCellRangeByPosition(self.column, self.top + first, self.column, self.top + last)
+
+    def address(self, first, last):
+        """The address of these, which costs no call."""
+        return CellRangeAddress(self.sheet_number, self.column, self.top + first, self.column, self.top + last)
 
     def texts(self, column, tick=None):
         """The texts of a column as they are shown; an error has none. `tick` is called now and then where that takes long."""

@@ -16,11 +16,12 @@ class Task:
         name = region.sheet.getName()
         self.column = memory.find(doc, region) or memory.Column(name, region.column)
         self.column.tables = self.column.tables or look_up
-        self.held = region.held()
+        self.held, self._open, self._doubtful = region.held(), None, None
         self._sort_cells()
         if self.column.header is None:
             self.column.header = has_header(region, self.given, waiting.wait, waiting.tick)
-        if self.column.header:
+        self.header = int(self.column.header)
+        if self.header:
             self.given.pop(0, None)
         self.tables = tables_of(doc, region.sheet, waiting.tick) if self.column.tables else None
         if look_up and not self.tables:
@@ -44,10 +45,6 @@ class Task:
                 self.given[record] = text
             if is_confirmed:
                 self.confirmed.add(record)
-
-    @property
-    def header(self):
-        return int(self.column.header)
 
     def question(self, read):
         """The question about these columns. Its rows count from 0 below the header."""
@@ -85,7 +82,7 @@ class Task:
         question, uid = self.question(read), self.doc.RuntimeUID
         last = _last.get(uid, {}).get(tuple(read))
         if not last or last[0] != question:
-            last = question, learning.fill(question, self.waiting.wait)
+            last = question, learning.fill(question, self.waiting.wait, explains=True)
             _last[uid] = {**_last.get(uid, {}), tuple(read): last} if len(_last.get(uid, {})) < 4 else {tuple(read): last}
         self.read, (self.asked, self.filled) = read, last
 
@@ -103,14 +100,16 @@ class Task:
 
     def open_records(self):
         """The records that may be written: they hold nothing, or a guess."""
-        if not hasattr(self, "_open"):
+        if self._open is None:
             places = self.region.open_places()
             self._open = {it for it in places if it >= self.header and it not in self.given and (it not in self.held or it in self.own)}
         return self._open
 
     def doubtful(self):
         """The records in doubt, in order."""
-        return sorted(it for it in self.open_records() if self.filled.is_doubtful(it - self.header))
+        if self._doubtful is None:
+            self._doubtful = sorted(it for it in self.open_records() if self.filled.is_doubtful(it - self.header))
+        return self._doubtful
 
     def row(self, record):
         """The number of a record's row in the sheet, as a person sees it."""

@@ -1,24 +1,25 @@
 """Writes cells of a column, so that one step undoes it."""
-import contextlib
 import re
 
 DATETIME = 6  # com.sun.star.util.NumberFormat
 PLAIN_NUMBER = re.compile(r"-?(0|[1-9]\d{0,14})$")
 
 
-@contextlib.contextmanager
-def one_step(doc, title):
+class one_step:
     """All that is done within is one step to undo, and is shown at its end."""
-    undo = doc.getUndoManager()
-    undo.enterUndoContext(title)
-    doc.lockControllers()
-    doc.addActionLock()
-    try:
-        yield
-    finally:
-        doc.removeActionLock()
-        doc.unlockControllers()
-        undo.leaveUndoContext()
+
+    def __init__(self, doc, title):
+        self.doc, self.title = doc, title
+
+    def __enter__(self):
+        self.doc.getUndoManager().enterUndoContext(self.title)
+        self.doc.lockControllers()
+        self.doc.addActionLock()
+
+    def __exit__(self, *_):
+        self.doc.removeActionLock()
+        self.doc.unlockControllers()
+        self.doc.getUndoManager().leaveUndoContext()
 
 
 def runs(records):
@@ -33,15 +34,20 @@ def runs(records):
 
 
 def write(region, texts, numbers):
-    """Writes texts by record; as numbers where `numbers` makes one of them."""
-    noted = _noted(region)
-    for record in texts.keys() & noted:
+    """Makes these texts, by record, stand in the column; as numbers where `numbers` makes one of them."""
+    stands, noted = region.texts(region.to), _noted(region)
+    changed = {record for record, text in texts.items() if text != stands[record]}
+    for record in changed & noted:
         _write_each(region, record, record, texts, numbers)
+    changed -= noted
     for first, last in runs(texts.keys() - noted):
-        if last - first < 2:
-            _write_each(region, first, last, texts, numbers)
+        inside = sorted(it for it in range(first, last + 1) if it in changed)
+        if inside and len(inside) * 2 > inside[-1] - inside[0]:  # what stays between them is written again: that is fast
+            parts = [(inside[0], inside[-1])]
         else:
-            _write_run(region, first, last, texts, numbers)
+            parts = runs(inside)
+        for part in parts:
+            (_write_each if part[1] - part[0] < 2 else _write_run)(region, *part, texts, numbers)
 
 
 def _write_each(region, first, last, texts, numbers):
