@@ -28,7 +28,9 @@ class Region:
         self.left, self.right = min(at.StartColumn, self.column), max(at.EndColumn, self.column)
         self.top, self.bottom = at.StartRow, at.EndRow
         self._open()
-        if self.width == 1 and needs_beside:
+        # beside the columns that a sheet uses the region of a cell is another one's (LibreOffice 7.4)
+        is_apart = not at.StartRow <= place.StartRow <= at.EndRow or not at.StartColumn - 1 <= self.column <= at.EndColumn + 1
+        if needs_beside and (self.width == 1 or is_apart):
             raise Refused("nothing_beside")
 
     def _open(self):
