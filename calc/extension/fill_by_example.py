@@ -27,12 +27,13 @@ class Handler(unohelper.Base, XDispatchProvider, XDispatch, XInitialization, XSe
         return tuple(self.queryDispatch(it.FeatureURL, it.FrameName, it.SearchFlags) for it in requests)
 
     def dispatch(self, url, options):
+        name, _, place = url.Complete[len(PROTOCOL):].partition("#")
+        commands = Commands(self.context, self.frame)
         try:
-            name, _, place = url.Complete[len(PROTOCOL):].partition("#")
-            Commands(self.context, self.frame).run(name, {it.Name: it.Value for it in options}, bool(place))
-        except Exception:
+            commands.run(name, {it.Name: it.Value for it in options}, bool(place))
+        except Exception as why:  # an error of this extension: a person should see it, and LibreOffice go on
             traceback.print_exc()
-            raise
+            commands.telling.refuse("stopped", f"{type(why).__name__}: {why}".partition("\n")[0])
 
     def addStatusListener(self, _listener, _url):
         pass

@@ -29,7 +29,7 @@ class Bar:
 def cut(text, most):
     """A text in one line, which may be cut."""
     text = " ".join(text.split())
-    return text if len(text) <= most else text[:most - 3] + " .."
+    return text if len(text) <= most else text[:most - 1] + "…"
 
 
 def label_of(text):

@@ -1,4 +1,5 @@
 """Which columns are read where a person has not chosen them."""
+import itertools
 import re
 
 from .learning import MOST_READ
@@ -30,4 +31,5 @@ def usual(region, header, given, has_tables, tick):
 
 def all_held(region, header, tick):
     """The nearest eight columns that hold anything."""
-    return sorted([it for it in nearest(region) if any(region.texts(it, tick)[header:])][:MOST_READ])
+    held = (it for it in nearest(region) if any(region.texts(it, tick)[header:]))
+    return sorted(itertools.islice(held, MOST_READ))

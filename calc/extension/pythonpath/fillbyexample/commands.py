@@ -6,7 +6,7 @@ from .region import Refused
 from .task import Task
 from .telling import Telling, asked
 from .undoing import follow
-from .writing import Numbers, one_step, write
+from .writing import Numbers, OneStep, write
 
 _busy = set()  # documents on which a command runs
 
@@ -83,10 +83,11 @@ class Commands:
             task.learn()
             if not task.open_records() and not task.filled.refusals:
                 raise Refused("nothing_open")
-        before = memory.read(self.doc)
-        with one_step(self.doc, self.words.FILL):
+        follower = follow(self.doc, words.TITLES)
+        follower.begin()
+        with OneStep(self.doc, self.words.FILL):
             written = self.write(task)
-        follow(self.doc, words.TITLES).added(before)
+        follower.end()
         self.telling.tell(task, written)
 
     def write(self, task):
@@ -94,7 +95,7 @@ class Commands:
         region = task.region
         marks.clear(region, words.STYLES, task.column.notes)
         texts = {record: task.answer(record) for record in task.open_records()}
-        numbers = Numbers(self.context, region, task.learned_from())
+        numbers = Numbers(self.context, region, [it for it in task.examples() if it - task.header not in task.filled.refusals])
         write(region, texts, numbers)
         doubtful = task.doubtful()
         marks.mark(region, doubtful, self.words)
@@ -135,22 +136,22 @@ class Commands:
         cell = place.cell(self.doc)
         if not cell:
             raise Refused("changed")
-        before, text = memory.read(self.doc), place.answers[which] or ""
+        text, follower = place.answers[which] or "", follow(self.doc, words.TITLES)
         self.controller.select(cell)
-        with one_step(self.doc, self.words.FILL):
+        follower.begin()
+        with OneStep(self.doc, self.words.FILL):
             with self.waiting() as waiting:
                 task = Task(self.doc, self.controller, waiting)
                 record = place.row - task.region.top
                 if record not in task.region.open_places():
                     raise Refused("nothing_open")
-                numbers = Numbers(self.context, task.region, task.given)
-                write(task.region, {record: text}, numbers)
+                write(task.region, {record: text}, Numbers(self.context, task.region, task.examples()))
                 task.column.confirm(cell.getString(), memory.beside(task.column, task.region, record))
                 memory.keep(self.doc, task.column)
                 task = Task(self.doc, self.controller, waiting)
                 task.learn()
             written = self.write(task)
-        follow(self.doc, words.TITLES).added(before)
+        follower.end()
         self.telling.tell(task, written)
         if task.doubtful():
             with self.waiting() as task.waiting:
@@ -159,7 +160,7 @@ class Commands:
     def clear(self):
         """Takes the marks off the column, and the bar away."""
         task = self.task()
-        with one_step(self.doc, self.words.CLEAR):
+        with OneStep(self.doc, self.words.CLEAR):
             marks.clear(task.region, words.STYLES, task.column.notes)
         self.bar.hide()
 

@@ -1,16 +1,17 @@
 """Whether the first record of a region is a header."""
+from .columns import nearest
 from .learning import MOST_EXAMPLES, Question, fill
 from .told import has_letters
 
 BOLD = 120  # com.sun.star.awt.FontWeight: above normal
-MOST_ROWS = 200  # a part of a long sheet tells it too
+MOST_ROWS, MOST_COLUMNS = 200, 16  # a part of a large sheet tells it too
 
 
 def has_header(region, given, wait, tick):
     """As a filter says, as the cells tell by their kinds and their weight, and else as the engine learns better."""
     if _has_filter(region):
         return True
-    beside = [it for it in range(region.width) if it != region.to]
+    beside = sorted(nearest(region)[:MOST_COLUMNS])
     firsts = [region.texts(it, tick)[0] for it in beside]
     if region.height < 2 or not all(it.strip() for it in firsts):
         return False

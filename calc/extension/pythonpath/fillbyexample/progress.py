@@ -4,6 +4,7 @@ import time
 
 import unohelper
 from com.sun.star.awt import XKeyHandler, XMouseClickHandler
+from com.sun.star.lang import DisposedException
 from com.sun.star.util import XModifyListener
 
 from .region import Refused
@@ -60,10 +61,13 @@ class Waiting:
 
     def __exit__(self, *_):
         if self.indicator:
-            self.indicator.end()
-            self.controller.removeKeyHandler(self.keys)
-            self.controller.removeMouseClickHandler(self.keys)
-            self.doc.removeModifyListener(self.changes)
+            try:
+                self.indicator.end()
+                self.controller.removeKeyHandler(self.keys)
+                self.controller.removeMouseClickHandler(self.keys)
+                self.doc.removeModifyListener(self.changes)
+            except DisposedException:  # the document was closed meanwhile
+                pass
 
     def _show(self):
         self.keys, self.changes = Keys(), Changes()

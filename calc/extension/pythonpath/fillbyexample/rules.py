@@ -9,7 +9,7 @@ from .region import Refused, Region, region_of
 from .tables import named_tables, records_of_sheet
 from .task import Task
 from .undoing import follow
-from .writing import TEXTS, one_step, write
+from .writing import TEXTS, OneStep, write
 
 
 def save(view, options):
@@ -109,12 +109,13 @@ def _write(view, region, places, records, name, header):
     held = target.held()
     given = {at: record[places[-1]] for at, record in enumerate(records) if len(record) > places[-1]}
     texts = {at: text for at, text in given.items() if text and at in target.open_places() and at not in held}
-    before = memory.read(doc)
-    with one_step(doc, view.words.RUN_RULE):
+    follower = follow(doc, words.TITLES)
+    follower.begin()
+    with OneStep(doc, view.words.RUN_RULE):
         write(target, texts, TEXTS)
         column = memory.Column(sheet.getName(), target.column, header, [it - places[-1] for it in places[:-1]])
         beside = [target.texts(it) for it in places[:-1]]
         column.set_cells([(target.top + at, memory.text_sum(text), memory.content_sum(text, [it[at] for it in beside])) for at, text in texts.items() if at >= header])
         memory.keep(doc, column)
-    follow(doc, words.TITLES).added(before)
+    follower.end()
     view.bar.show(view.words.FILL, view.words.BY_RULE.format(view.words.FILLED.format(sum(1 for it in texts if it >= header)), name))

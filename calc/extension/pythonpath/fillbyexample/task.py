@@ -90,9 +90,9 @@ class Task:
         """The first answer of a record, and its doubt, None where all rules agree."""
         return learning.explain(self.asked, record - self.header, self.waiting.wait)
 
-    def learned_from(self):
-        """The records whose text is learned from."""
-        return [it for it in self.given if it - self.header not in self.filled.refusals]
+    def examples(self):
+        """The records with a given text."""
+        return [record for record, text in self.given.items() if text]
 
     def answer(self, record):
         """What the rule gives on a record, as text."""

@@ -13,11 +13,20 @@ class Follower(unohelper.Base, XUndoManagerListener):
 
     def __init__(self, doc, titles):
         self.doc, self.uid, self.titles, self.steps, self.undone = doc, doc.RuntimeUID, titles, [], []
+        self.is_empty = False
 
-    def added(self, before):
-        """A step was made; `before` is what the document remembered then."""
-        self.steps.append((before, memory.read(self.doc)))
-        self.undone.clear()
+    def begin(self):
+        """A step is about to be made."""
+        self.before, self.is_empty = memory.read(self.doc), False
+
+    def end(self):
+        """It was made. One in which nothing changed is no step."""
+        if not self.is_empty:
+            self.steps.append((self.before, memory.read(self.doc)))
+            self.undone.clear()
+
+    def cancelledContext(self, _event):
+        self.is_empty = True
 
     def actionUndone(self, event):
         self._moved(event, self.steps, self.undone, 0)
@@ -44,7 +53,7 @@ class Follower(unohelper.Base, XUndoManagerListener):
         pass
 
     undoActionAdded = allActionsCleared = redoActionsCleared = resetAll = ignore
-    enteredContext = enteredHiddenContext = leftContext = leftHiddenContext = cancelledContext = ignore
+    enteredContext = enteredHiddenContext = leftContext = leftHiddenContext = ignore
 
 
 def follow(doc, titles):

@@ -5,7 +5,7 @@ DATETIME = 6  # com.sun.star.util.NumberFormat
 PLAIN_NUMBER = re.compile(r"-?(0|[1-9]\d{0,14})$")
 
 
-class one_step:
+class OneStep:
     """All that is done within is one step to undo, and is shown at its end."""
 
     def __init__(self, doc, title):

@@ -7,9 +7,9 @@ MENU = {
     "fill": "Nach ~Beispiel ausfüllen",
     "look": "Nach Beispiel und ~anderen Tabellen ausfüllen",
     "next": "Nächste zu ~prüfende Zelle",
-    "columns": "Ge~lesene Spalten ..",
-    "save": "Regel s~peichern ..",
-    "run": "Regel anwen~den ..",
+    "columns": "Ge~lesene Spalten...",
+    "save": "Regel s~peichern...",
+    "run": "Regel anwen~den...",
 }
 
 FILL = "Nach Beispiel ausfüllen"
@@ -17,10 +17,10 @@ RUN_RULE = "Regel anwenden"
 CLEAR = "Kennzeichen entfernen"
 STYLE = "Nach Beispiel: zu prüfen"
 
-FILLED = "{0:,} ausgefüllt"
-TO_CHECK = "{0:,} zu prüfen"
-LEFT_EMPTY = "{0:,} leer geblieben"
-KEPT = "{0:,} nicht gelernt"
+FILLED = "{0} ausgefüllt"
+TO_CHECK = "{0} zu prüfen"
+LEFT_EMPTY = "{0} leer geblieben"
+KEPT = "{0} nicht gelernt"
 RULE = "Regel: {0}"
 ROW = "Zeile {0}"
 EITHER = "{0} oder {1}?"
@@ -33,7 +33,7 @@ QUOTED = "„{0}“"
 
 NEXT = "~Nächste prüfen"
 LEAVE_EMPTY = "Leer lassen"
-COLUMNS = "~Spalten .."
+COLUMNS = "~Spalten..."
 NO_HEADER = "Zeile {0} ist ~kein Kopf"
 HEADER = "Zeile {0} ist ein ~Kopf"
 CLEAR_MARKS = "Kennzeichen ~entfernen"

@@ -8,9 +8,9 @@ MENU = {
     "fill": "Fill by E~xample",
     "look": "Fill by Example with ~Other Sheets",
     "next": "Next Cell to Chec~k",
-    "columns": "Columns to ~Read..",
-    "save": "Save R~ule..",
-    "run": "Run Ru~le..",
+    "columns": "Columns to ~Read...",
+    "save": "Save R~ule...",
+    "run": "Run Ru~le...",
 }
 
 # steps of undo, and the cell style of doubt
@@ -37,7 +37,7 @@ QUOTED = "“{0}”"
 # its buttons
 NEXT = "~Next to Check"
 LEAVE_EMPTY = "Leave Empty"
-COLUMNS = "C~olumns.."
+COLUMNS = "C~olumns..."
 NO_HEADER = "Row {0} Is No ~Header"
 HEADER = "Row {0} Is a ~Header"
 CLEAR_MARKS = "C~lear Marks"
