@@ -38,7 +38,9 @@ class Sheet:
 
     def texts(self, cells):
         """The texts of cells of one column, as they are shown."""
-        area = self.cell(cells)
+        area, values = self.cell(cells), self.values(cells)
+        if all(isinstance(it, str) for it in values):  # one call
+            return values
         return [area.getCellByPosition(0, it).String for it in range(area.Rows.Count)]
 
     def values(self, cells):
