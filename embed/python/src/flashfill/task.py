@@ -1,0 +1,116 @@
+"""What is asked of the engine: a frame as a sheet, and the words that say how to fill it."""
+from __future__ import annotations
+
+from typing import Any, Dict, Hashable, List, Mapping, NamedTuple, Optional, Sequence, Tuple
+
+from . import engine
+from .cells import Shown, is_empty, records_of, sheet_of, texts_of
+from .frames import Frame, frame_of
+from .told import rows_in
+
+
+class Settings(NamedTuple):
+    """How a column is to be filled; `flashfill.learn` says what each one means."""
+
+    sources: Optional[Sequence[Any]]
+    formats: Mapping[Any, Shown]
+    depth: int
+    replace: bool
+    only_sure: bool
+    profile: Optional[int]
+
+
+class Task:
+    """A frame, the column to fill, and examples by labels.
+
+    The sheet for the engine has the column to fill in front, and then those to read. A column is called by its number,
+    and by its name if another column has that number for a name.
+    """
+
+    def __init__(self, frame: Frame, to: Any, examples: Mapping[Hashable, Any], settings: Settings, tables: Tables) -> None:
+        self.frame, self.to, self.examples, self.settings, self.tables = frame, to, dict(examples), settings, tables
+        frame.check()
+        self.read = [it for it in frame.names if it != to] if settings.sources is None else list(settings.sources)
+        for name in self.read:
+            if name not in frame.names:
+                raise KeyError(f"no column {name!r}")
+        self.header = [str(it) for it in (to, *self.read)]
+        for shown in self.header:
+            if self.header.count(shown) > 1:
+                raise ValueError(f"more than one column is called {shown!r}")
+        self.given = frame.cells(to) if to in frame.names else [None] * len(frame)
+        self.old = texts_of(self.given, settings.formats.get(to))
+        self.columns = [[""] * len(frame) if settings.replace else self.old]
+        self.columns += [frame.texts(it, settings.formats.get(it)) for it in self.read]
+        self.places = {frame.position(label): label for label in self.examples}
+
+    def ask(self, places: Sequence[int], *more: str) -> engine.Answer:
+        """Returns the engine's answer for some rows in their order, with these words more.
+
+        Raises
+        ------
+        FlashFillError
+            If the engine refuses something; its `rows` are labels if its line speaks of the frame's rows.
+        """
+        is_all = len(places) == len(self.frame)
+        rows = zip(*self.columns) if is_all else ([it[place] for it in self.columns] for place in places)
+        name = engine.free_name("sheet", self.tables.files)
+        files = {**self.tables.files, name: sheet_of([self.header, *rows])}
+        answer = engine.run("fillcsv", [name, *self._words(), *self._examples(places), *more], files)
+        try:
+            return answer.checked()
+        except engine.FlashFillError as error:
+            error.rows = rows_in(str(error))
+            if str(error).startswith(f"fillcsv: {name}: "):
+                error.rows = tuple(self.frame.label(places[row - 2]) for row in error.rows if 2 <= row < len(places) + 2)
+            raise
+
+    def _words(self) -> List[str]:
+        words = [f"--to={self._called(1)}", "--state", *self.tables.words]
+        if self.settings.sources is not None:
+            words.append(f"--from={','.join(self._called(it) for it in range(2, len(self.header) + 1))}")
+        if self.tables.files:
+            words.append(f"--depth={self.settings.depth}")
+        if self.settings.profile is not None:
+            words.append(f"--profile={self.settings.profile}")
+        return words
+
+    def _called(self, number: int) -> str:
+        return self.header[number - 1] if str(number) in self.header else str(number)
+
+    def _examples(self, places: Sequence[int]) -> List[str]:
+        """The words for the examples among these rows."""
+        shown = self.settings.formats.get(self.to)
+        labels = ((row, self.places[place]) for row, place in enumerate(places, 2) if place in self.places)
+        cells = ((row, self.examples[label]) for row, label in labels)
+        return [f"--example={row}={'' if is_empty(cell) else texts_of([cell], shown)[0]}" for row, cell in cells]
+
+
+class Tables(NamedTuple):
+    """The words and the files for the tables that rules may look up in."""
+
+    words: Tuple[str, ...]
+    files: Dict[str, bytes]
+
+
+def tables_of(tables: Mapping[str, Any], keys: Mapping[str, Sequence[Any]]) -> Tables:
+    """Returns what the engine is to know of tables. One without keys of its own has the first four that the engine finds."""
+    words: List[str] = []
+    files: Dict[str, bytes] = {}
+    for name, table in tables.items():
+        frame = frame_of(table)
+        sheet = sheet_of(zip(*(frame.texts(it) for it in frame.names)))
+        if name in keys:
+            numbers = {it: str(number) for number, it in enumerate(frame.names, 1)}
+            wanted = ([it] if it in frame.names else it for it in map(_hashed, keys[name]))
+            found = [",".join(numbers[it] for it in key) for key in wanted]
+        else:
+            listed = engine.run("flashfill", ["keys", name], {name: sheet}).checked().out
+            found = [",".join(it[1:]) for it in records_of(listed)][:4]
+        files[f"{name}.csv"] = sheet
+        words += [f"--table={name}={name}.csv", *(f"--key={name}:{it}" for it in found)]
+    return Tables(tuple(words), files)
+
+
+def _hashed(key: Any) -> Any:
+    return tuple(key) if isinstance(key, list) else key
