@@ -120,7 +120,7 @@ class Pandas(Frame):
 
     def filled(self, to: Any, texts: Sequence[str], given: Sequence[Any], write: Sequence[bool]) -> Any:
         made = iter(_cells([it for it, wanted in zip(texts, write) if wanted], given))
-        new = [next(made) or None if wanted else None for wanted in write]
+        new = [_or_none(next(made)) if wanted else None for wanted in write]
         frame = self.data.copy()
         if to in self.names:
             frame[to] = _joined(frame[to], new, write)
@@ -144,6 +144,10 @@ def _cells(texts: Sequence[str], given: Sequence[Any]) -> List[Any]:
     """Texts as cells of the given ones' kind, else as they are."""
     made = cells_of(texts, given)
     return list(texts) if made is None else made
+
+
+def _or_none(cell: Any) -> Any:
+    return None if isinstance(cell, str) and cell == "" else cell
 
 
 def _column(cells: Sequence[Any], labels: Any, dtype: Any) -> Any:

@@ -58,7 +58,7 @@ class Learned:
         only = ["--only=sure"] if task.settings.only_sure else []
         answer = task.ask(range(len(task.frame)), "--save=rule", *only)
         self._told, records = told_by(answer.err), records_of(answer.out)[1:]
-        self._texts, self._states = [it[0] for it in records], [it[-1] for it in records]
+        self._texts, self._states = [it[task.at] for it in records], [it[-1] for it in records]
         self._others: Dict[int, Doubt] = {}
         self.rule = Rule(answer.saved, self._told.rule, task.tables.files) if answer.saved else None
         self.refused: Dict[Any, str] = {task.frame.label(row - 2): why for row, why in self._told.refused.items()}
@@ -141,11 +141,11 @@ class Learned:
         shown = sorted(sorted(range(len(states)), key=lambda it: ("doubt" not in states[it], it))[:MOST_SHOWN])
         doubts = [it for it in shown if "doubt" in states[it]]
         others = {it: told.other or "none" for it, told in zip(doubts, self._about(doubts))}
-        columns = [it for it in range(1, len(task.header)) if not self.rule or task.header[it] in self.rule.sources][:MOST_COLUMNS]
-        lines = [_line("th", ["", *(task.header[it] for it in columns), task.header[0], "or", "state"])]
+        read = self.rule.sources if self.rule else task.header
+        columns = [at for at, it in enumerate(task.header) if at != task.at and it in read][:MOST_COLUMNS]
+        lines = [_line("th", ["", *(task.header[it] for it in columns), str(task.to), "or", "state"])]
         for at in shown:
-            read = [task.columns[it][at] for it in columns]
-            cells = [str(task.frame.label(at)), *read, self._texts[at], others.get(at, ""), states[at]]
+            cells = [str(task.frame.label(at)), *(task.columns[it][at] for it in columns), self._texts[at], others.get(at, ""), states[at]]
             lines.append(_line("td", cells, len(cells) - 3, COLORS.get(states[at])))
         counts = ", ".join(f"{count} {it}" for it, count in self.counts.items())
         rule = self.rule._repr_html_() if self.rule else "no rule"

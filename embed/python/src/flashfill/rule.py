@@ -123,6 +123,8 @@ class Rule:
         if isinstance(data, Iterator) or (isinstance(data, Iterable) and hasattr(data, "fieldnames")):
             return self._stream(iter(data), _teller(progress, None))
         frame = frame_of(data)
+        if isinstance(frame, Rows) and not len(frame):
+            return []
         return self._frame(frame, _teller(progress, len(frame)), formats)
 
     __call__ = apply

@@ -23,26 +23,33 @@ class Settings(NamedTuple):
 class Task:
     """A frame, the column to fill, and examples by labels.
 
-    The sheet for the engine has the column to fill in front, and then those to read. A column is called by its number,
-    and by its name if another column has that number for a name.
+    The sheet for the engine has the column to fill and those that are to be read, in the frame's order; a new column is
+    the last one. A column is called by its number, and by its name if another column has that number for a name.
     """
 
     def __init__(self, frame: Frame, to: Any, examples: Mapping[Hashable, Any], settings: Settings, tables: Tables) -> None:
         self.frame, self.to, self.examples, self.settings, self.tables = frame, to, dict(examples), settings, tables
         frame.check()
-        self.read = [it for it in frame.names if it != to] if settings.sources is None else list(settings.sources)
-        for name in self.read:
+        for name in settings.sources or ():
             if name not in frame.names:
                 raise KeyError(f"no column {name!r}")
-        self.header = [str(it) for it in (to, *self.read)]
+        is_read = [settings.sources is None or it == to or it in settings.sources for it in frame.names]
+        self.names = [it for it, is_wanted in zip(frame.names, is_read) if is_wanted]
+        self.names += [] if to in self.names else [to]
+        self.at = self.names.index(to)
+        self.header = [str(it) for it in self.names]
         for shown in self.header:
             if self.header.count(shown) > 1:
                 raise ValueError(f"more than one column is called {shown!r}")
         self.given = frame.cells(to) if to in frame.names else [None] * len(frame)
         self.old = texts_of(self.given, settings.formats.get(to))
-        self.columns = [[""] * len(frame) if settings.replace else self.old]
-        self.columns += [frame.texts(it, settings.formats.get(it)) for it in self.read]
+        self.columns = [self._texts(it) for it in self.names]
         self.places = {frame.position(label): label for label in self.examples}
+
+    def _texts(self, name: Any) -> List[str]:
+        if name != self.to:
+            return self.frame.texts(name, self.settings.formats.get(name))
+        return [""] * len(self.frame) if self.settings.replace else self.old
 
     def ask(self, places: Sequence[int], *more: str) -> engine.Answer:
         """Returns the engine's answer for some rows in their order, with these words more.
@@ -66,17 +73,18 @@ class Task:
             raise
 
     def _words(self) -> List[str]:
-        words = [f"--to={self._called(1)}", "--state", *self.tables.words]
+        words = [f"--to={self._called(self.to)}", "--state", *self.tables.words]
         if self.settings.sources is not None:
-            words.append(f"--from={','.join(self._called(it) for it in range(2, len(self.header) + 1))}")
+            words.append(f"--from={','.join(map(self._called, self.settings.sources))}")
         if self.tables.files:
             words.append(f"--depth={self.settings.depth}")
         if self.settings.profile is not None:
             words.append(f"--profile={self.settings.profile}")
         return words
 
-    def _called(self, number: int) -> str:
-        return self.header[number - 1] if str(number) in self.header else str(number)
+    def _called(self, name: Any) -> str:
+        number = str(self.names.index(name) + 1)
+        return str(name) if number in self.header else number
 
     def _examples(self, places: Sequence[int]) -> List[str]:
         """The words for the examples among these rows."""
