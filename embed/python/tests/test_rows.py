@@ -11,7 +11,7 @@ import warnings
 
 import flashfill
 from flashfill import engine, told
-from flashfill.cells import cells_of, records_of, sheet_of, texts_of
+from flashfill.cells import cells_of, records_of, texts_of
 
 EXAMPLES = pathlib.Path(__file__).resolve().parents[3] / "examples"
 SETTLED = {3: "Noether (Erlangen)"}
@@ -119,9 +119,11 @@ class Kinds(unittest.TestCase):
         rows = [{"Text": it} for it in texts]
         self.assertEqual([it["Copy"] for it in flashfill.learn(rows, "Copy", {0: "a\nb"}).frame], texts)
 
-    def test_long_cells_are_read_and_written(self):
-        records = [["a" * 200_000 + '"', "x,y"], ["", "\n"]]
-        self.assertEqual(records_of(sheet_of(records)), records)
+    def test_long_cells(self):
+        long = "x" * 200_000 + '",\n'
+        rule = flashfill.learn([{"Name": "Ada Byron"}, {"Name": "Max Planck"}], "Last", {0: "Byron"}).rule
+        self.assertEqual([it["Last"] for it in rule.apply([{"Name": f"Ada {long}"}, {"Name": "Max Planck"}])], [long, "Planck"])
+        self.assertEqual(records_of(f'a,"{long[:-3]}"",\n"\n"",\n'.encode()), [["a", long], ["", ""]])
 
 
 class Rules(unittest.TestCase):

@@ -19,9 +19,10 @@ import datetime
 import io
 import numbers
 import re
-from typing import Any, Callable, Iterable, List, Optional, Sequence
+from typing import Any, Callable, Iterable, Iterator, List, Optional, Sequence, Tuple, TypeVar
 
 Shown = Callable[[Any], str]
+Result = TypeVar("Result")
 MIDNIGHT = datetime.time()
 _WHOLE = re.compile(r"[+-]?\d+")
 _NUMBER = re.compile(r"[+-]?\d+(?:\.\d+)?(?:[eE][+-]?\d+)?")
@@ -80,14 +81,16 @@ def _shown_by_day(cell: Any) -> str:
 
 
 def cells_of(texts: Sequence[str], given: Iterable[Any]) -> Optional[List[Any]]:
-    """Returns texts as cells of the kind that all given cells have; none if there is no such kind or a text is no such cell.
+    """Returns texts as cells of the kind that all given cells have, and "" as None.
+
+    It returns none if there is no such kind, or if a text is no such cell.
 
     Examples
     --------
-    >>> cells_of(["7", "12"], [3, None]), cells_of(["7.5"], [3, 0.5]), cells_of(["7", "x"], [3])
+    >>> cells_of(["7", "12"], [3]), cells_of(["7.5"], [3, 0.5]), cells_of(["7", "x"], [3])
     ([7, 12], [7.5], None)
     """
-    read = _reader_of({type(it) for it in given if not is_empty(it)})
+    read = _reader_of(set(map(type, given)))
     try:
         return [None if it == "" else read(it) for it in texts] if read else None
     except ValueError:
@@ -138,10 +141,11 @@ def _time(text: str) -> datetime.datetime:
     return datetime.datetime.fromisoformat(text)
 
 
-def sheet_of(records: Iterable[Sequence[str]]) -> bytes:
-    """Returns records as a CSV file."""
+def sheet_of(header: Sequence[str], rows: Iterable[Sequence[str]]) -> bytes:
+    """Returns a header and rows as a CSV file. The header is in quotes, so a byte order mark in it is a part of a name."""
     text = io.StringIO()
-    csv.writer(text, quoting=csv.QUOTE_ALL, lineterminator="\n").writerows(records)
+    csv.writer(text, quoting=csv.QUOTE_ALL).writerow(header)
+    csv.writer(text).writerows(rows)
     return text.getvalue().encode()
 
 
@@ -153,14 +157,39 @@ def records_of(sheet: bytes) -> List[List[str]]:
     >>> records_of(b'a,"b ""c"\n"d\n",\n')
     [['a', 'b "c'], ['d\n', '']]
     """
+    return _read(sheet, list)
+
+
+def columns_of(sheet: bytes, at: int) -> Tuple[List[str], List[str]]:
+    """Returns the fields at a place, and the last ones, of all records after the first.
+
+    Examples
+    --------
+    >>> columns_of(b"Name,Last,Last state\\nAda,Byron,given\\nMax,Planck,sure\\n", 1)
+    (['Byron', 'Planck'], ['given', 'sure'])
+    """
+
+    def picked(records: Iterator[List[str]]) -> Tuple[List[str], List[str]]:
+        next(records)
+        fields: List[str] = []
+        last: List[str] = []
+        for record in records:
+            fields.append(record[at])
+            last.append(record[-1])
+        return fields, last
+
+    return _read(sheet, picked)
+
+
+def _read(sheet: bytes, use: Callable[[Iterator[List[str]]], Result]) -> Result:
     text = sheet.decode()
     try:
-        return list(csv.reader(io.StringIO(text, newline="")))
-    except csv.Error:  # a long field, or a NUL before Python 3.11
-        return list(_split(text))
+        return use(csv.reader(io.StringIO(text, newline="")))
+    except csv.Error:  # a field of more than 131072 characters, or a NUL before Python 3.11
+        return use(_split(text))
 
 
-def _split(text: str) -> Iterable[List[str]]:
+def _split(text: str) -> Iterator[List[str]]:
     record: List[str] = []
     for quoted, plain, end in _FIELD.findall(text):
         record.append(quoted.replace('""', '"') or plain)

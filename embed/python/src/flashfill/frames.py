@@ -9,13 +9,13 @@ import numbers
 import sys
 from typing import Any, Dict, Hashable, List, Mapping, Optional, Sequence
 
-from .cells import Shown, cells_of, texts_of
+from .cells import Shown, cells_of, is_empty, texts_of
 
 STATES = ("given", "sure", "likely", "doubt", "none", "none doubt")
 
 
 class Frame:
-    """What all frames have in common."""
+    """What all frames have in common. A *place* is the number of a row from 0."""
 
     data: Any
     names: List[Any]
@@ -29,34 +29,33 @@ class Frame:
         if not len(self):
             raise ValueError("the frame has no rows")
 
-    def label(self, place: int) -> Any:
-        """Returns the label of the row at a place from 0."""
-        label = self.labels[place]
-        return label.item() if hasattr(label, "item") else label
+    def labels_at(self, places: Sequence[int]) -> List[Any]:
+        """Returns the labels of rows."""
+        raise NotImplementedError
 
     def position(self, label: Hashable) -> int:
         """Returns the place of the row that has this label, or raises a KeyError."""
         raise NotImplementedError
 
-    def cells(self, name: Any) -> List[Any]:
-        """Returns the cells of a column."""
-        raise NotImplementedError
-
-    def filled(self, to: Any, texts: Sequence[str], given: Sequence[Any], write: Sequence[bool]) -> Any:
-        """Returns a copy with these texts in a column, in the rows that are to be written."""
-        raise NotImplementedError
-
-    def states(self, name: str, states: Sequence[str]) -> Any:
-        """Returns the states of the rows, in the form that the frame's own columns have."""
-        raise NotImplementedError
-
-    def table(self, rows: Sequence[int], columns: Mapping[str, Sequence[Any]]) -> Any:
-        """Returns columns for some of the rows, in the frame's own form."""
+    def given(self, name: Any) -> List[Any]:
+        """Returns the cells of a column that are not empty; none if there is no such column."""
         raise NotImplementedError
 
     def texts(self, name: Any, shown: Optional[Shown] = None) -> List[str]:
         """Returns the texts of a column."""
-        return texts_of(self.cells(name), shown)
+        raise NotImplementedError
+
+    def filled(self, to: Any, places: Sequence[int], texts: Sequence[str], given: Sequence[Any]) -> Any:
+        """Returns a copy with texts in some rows of a column, as cells of the kind of the given ones if they can be such."""
+        raise NotImplementedError
+
+    def states(self, name: str, states: Sequence[str]) -> Any:
+        """Returns the states of all rows, in the form that the frame's own columns have."""
+        raise NotImplementedError
+
+    def table(self, places: Sequence[int], columns: Mapping[str, Sequence[Any]]) -> Any:
+        """Returns columns for some of the rows, in the frame's own form."""
+        raise NotImplementedError
 
     def find(self, name: str) -> Any:
         """Returns the column that a rule calls so: the one of this name, else the only one whose name is shown so."""
@@ -71,25 +70,34 @@ class Rows(Frame):
 
     def __init__(self, data: Sequence[Mapping[Any, Any]]) -> None:
         self.data, self.labels = data, range(len(data))
-        self.names = list(dict.fromkeys(name for row in data for name in row if name is not None))
+        self.names = list(dict.fromkeys(name for row in data for name in row))
+
+    def labels_at(self, places: Sequence[int]) -> List[int]:
+        return list(places)
 
     def position(self, label: Hashable) -> int:
         if not isinstance(label, int) or label not in self.labels:
             raise KeyError(f"no row {label!r}: rows of a list go by their numbers from 0")
         return label
 
-    def cells(self, name: Any) -> List[Any]:
-        return [row.get(name) for row in self.data]
+    def given(self, name: Any) -> List[Any]:
+        return [row[name] for row in self.data if name in row and not is_empty(row[name])]
 
-    def filled(self, to: Any, texts: Sequence[str], given: Sequence[Any], write: Sequence[bool]) -> List[Dict[Any, Any]]:
-        made = iter(_cells([it for it, wanted in zip(texts, write) if wanted], given))
-        return [{**row, to: next(made) if wanted else row.get(to)} for row, wanted in zip(self.data, write)]
+    def texts(self, name: Any, shown: Optional[Shown] = None) -> List[str]:
+        return texts_of([row.get(name) for row in self.data], shown)
+
+    def filled(self, to: Any, places: Sequence[int], texts: Sequence[str], given: Sequence[Any]) -> List[Dict[Any, Any]]:
+        made = cells_of(texts, given)
+        new = [{**row, to: row.get(to)} for row in self.data]
+        for place, cell in zip(places, texts if made is None else made):
+            new[place][to] = cell
+        return new
 
     def states(self, name: str, states: Sequence[str]) -> List[str]:
         return list(states)
 
-    def table(self, rows: Sequence[int], columns: Mapping[str, Sequence[Any]]) -> List[Dict[str, Any]]:
-        return [{"row": row, **{name: it[at] for name, it in columns.items()}} for at, row in enumerate(rows)]
+    def table(self, places: Sequence[int], columns: Mapping[str, Sequence[Any]]) -> List[Dict[str, Any]]:
+        return [{"row": row, **{name: it[at] for name, it in columns.items()}} for at, row in enumerate(places)]
 
 
 class Pandas(Frame):
@@ -104,77 +112,87 @@ class Pandas(Frame):
             label = self.labels[self.labels.duplicated()][0]
             raise ValueError(f"the index has {label!r} twice, so labels name no single row; frame.reset_index() gives each its own")
 
+    def labels_at(self, places: Sequence[int]) -> List[Any]:
+        labels: List[Any] = self.labels[list(places)].tolist()
+        return labels
+
     def position(self, label: Hashable) -> int:
         place = self.labels.get_loc(label)
         if not isinstance(place, numbers.Integral):
             raise KeyError(f"more than one row {label!r}")
         return int(place)
 
-    def cells(self, name: Any) -> List[Any]:
+    def _column(self, name: Any) -> Any:
         column = self.data[name]
         if column.ndim != 1:
             raise ValueError(f"more than one column {name!r}")
-        is_short = column.dtype.kind == "f" and column.dtype.itemsize < 8  # 0.1 as a short number is shown as 0.1
-        cells = map(str, column.to_numpy()) if is_short else column.tolist()
-        return [None if empty else float(it) if is_short else it for it, empty in zip(cells, column.isna().tolist())]
+        return column
 
-    def filled(self, to: Any, texts: Sequence[str], given: Sequence[Any], write: Sequence[bool]) -> Any:
-        made = iter(_cells([it for it, wanted in zip(texts, write) if wanted], given))
-        new = [_or_none(next(made)) if wanted else None for wanted in write]
+    def given(self, name: Any) -> List[Any]:
+        if name not in self.names:
+            return []
+        column = self._column(name)
+        return [it for it in column[column.notna()].tolist() if not is_empty(it)]
+
+    def texts(self, name: Any, shown: Optional[Shown] = None) -> List[str]:
+        from pandas.api.types import infer_dtype
+
+        column = self._column(name)
+        is_there = column.notna()
+        if shown is None and infer_dtype(column, skipna=True) == "string":
+            texts: List[str] = column.astype(object).where(is_there, "").tolist()
+            return texts
+        is_short = column.dtype.kind == "f" and column.dtype.itemsize < 8  # 0.1 as a short number is shown as 0.1
+        cells = map(float, map(str, column[is_there].to_numpy())) if is_short else column[is_there].tolist()
+        told = iter(texts_of(list(cells), shown))
+        return [next(told) if it else "" for it in is_there.tolist()]
+
+    def filled(self, to: Any, places: Sequence[int], texts: Sequence[str], given: Sequence[Any]) -> Any:
+        import pandas
+
+        made = cells_of(texts, given)
+        cells = [it or None for it in texts] if made is None else made
         frame = self.data.copy()
-        if to in self.names:
-            frame[to] = _joined(frame[to], new, write)
-        else:
-            frame[to] = _column(new, self.labels, None)
+        if to not in self.names:
+            new = pandas.Series([None] * len(self), index=self.labels, dtype=object)
+            frame[to] = new if not cells else _joined(new, places, cells).infer_objects()
+        elif cells:
+            frame[to] = _joined(self._column(to), places, cells)
         return frame
 
     def states(self, name: str, states: Sequence[str]) -> Any:
         import pandas
 
         known = [it for it in dict.fromkeys((*STATES, *states)) if it != "likely" or it in states]
-        return pandas.Series(pandas.Categorical(states, known), index=self.labels, name=name)
+        codes = {it: code for code, it in enumerate(known)}
+        return pandas.Series(pandas.Categorical.from_codes([codes[it] for it in states], known), index=self.labels, name=name)
 
-    def table(self, rows: Sequence[int], columns: Mapping[str, Sequence[Any]]) -> Any:
+    def table(self, places: Sequence[int], columns: Mapping[str, Sequence[Any]]) -> Any:
         import pandas
 
-        return pandas.DataFrame(dict(columns), index=self.labels[list(rows)], columns=list(columns), dtype=object)
+        return pandas.DataFrame(dict(columns), index=self.labels[list(places)], columns=list(columns), dtype=object)
 
 
-def _cells(texts: Sequence[str], given: Sequence[Any]) -> List[Any]:
-    """Texts as cells of the given ones' kind, else as they are."""
-    made = cells_of(texts, given)
-    return list(texts) if made is None else made
-
-
-def _or_none(cell: Any) -> Any:
-    return None if isinstance(cell, str) and cell == "" else cell
-
-
-def _column(cells: Sequence[Any], labels: Any, dtype: Any) -> Any:
-    """A column of pandas; texts and what is missing beside them are of dtype object, as `read_csv` has them."""
+def _joined(old: Any, places: Sequence[int], cells: Sequence[Any]) -> Any:
+    """A column of pandas with new cells at some places. It keeps its dtype if that can hold them."""
     import pandas
 
-    if dtype is None and all(it is None or isinstance(it, str) for it in cells):
-        return pandas.Series([float("nan") if it is None else it for it in cells], index=labels, dtype=object)
-    return pandas.Series(cells, index=labels, dtype=dtype)
-
-
-def _joined(old: Any, new: Sequence[Any], write: Sequence[bool]) -> Any:
-    """A column of pandas with new cells where they are to be written, of its own dtype if it can hold them."""
-    import pandas
-
+    are_texts = all(it is None or isinstance(it, str) for it in cells)
     if isinstance(old.dtype, pandas.CategoricalDtype):
-        more = [it for it in dict.fromkeys(new) if it is not None and it not in old.cat.categories]
+        more = [it for it in dict.fromkeys(cells) if it is not None and it not in old.cat.categories]
         old = old.astype(object) if more and old.cat.ordered else old.cat.add_categories(more)
-    if old.dtype != object and all(it is None or isinstance(it, str) for it in new) and old.dtype.kind in "biufcmM":
+    elif are_texts and old.dtype.kind in "biufcmM":
         old = old.astype(object)
-    keep = [not it for it in write]
-    if old.dtype == object:
-        return old.where(keep, _column(new, old.index, object))
+    values = pandas.array(cells, dtype=object) if old.dtype == object else cells
     try:
-        return old.where(keep, _column(new, old.index, old.dtype))
+        new = old.array.copy()
+        new[list(places)] = values
     except (TypeError, ValueError):
-        return old.astype(object).where(keep, _column(new, old.index, object))
+        new = old.astype(object).array.copy()
+        new[list(places)] = pandas.array(cells, dtype=object)
+    if old.dtype == object and are_texts:  # what is missing among texts is NaN, as `read_csv` has it
+        new[[place for place, it in zip(places, cells) if it is None]] = float("nan")
+    return pandas.Series(new, index=old.index, name=old.name)
 
 
 def frame_of(data: Any) -> Frame:

@@ -6,7 +6,7 @@ import html
 import warnings
 from typing import Any, Dict, Hashable, List, Mapping, Optional, Sequence, Tuple
 
-from .cells import Shown, is_empty, records_of
+from .cells import Shown, columns_of
 from .frames import STATES, frame_of
 from .rule import Rule
 from .task import Settings, Task, tables_of
@@ -57,25 +57,26 @@ class Learned:
         self._task = task
         only = ["--only=sure"] if task.settings.only_sure else []
         answer = task.ask(range(len(task.frame)), "--save=rule", *only)
-        self._told, records = told_by(answer.err), records_of(answer.out)[1:]
-        self._texts, self._states = [it[task.at] for it in records], [it[-1] for it in records]
+        self._told = told_by(answer.err)
+        self._texts, self._states = columns_of(answer.out, task.at)
         self._others: Dict[int, Doubt] = {}
         self.rule = Rule(answer.saved, self._told.rule, task.tables.files) if answer.saved else None
-        self.refused: Dict[Any, str] = {task.frame.label(row - 2): why for row, why in self._told.refused.items()}
+        refused = task.frame.labels_at([row - 2 for row in self._told.refused])
+        self.refused: Dict[Any, str] = dict(zip(refused, self._told.refused.values()))
         self.states = task.frame.states(f"{task.to} state", self._states)
-        is_held = any(not is_empty(it) for it in task.given)
-        kind = task.given if is_held else list(task.examples.values())
-        self.frame = task.frame.filled(task.to, self._texts, kind, self._written())
+        places = self._written()
+        given = task.given or list(task.examples.values())
+        self.frame = task.frame.filled(task.to, places, [self._texts[it] for it in places], given)
         self.warnings: List[FlashFillWarning] = [
             NotLearnedWarning(f"row {label!r}: not learned from: {why}", (label,)) for label, why in self.refused.items()
         ]
         self.warnings += [NotLearnedWarning(it) for it in self._told.rest]
 
-    def _written(self) -> List[bool]:
+    def _written(self) -> List[int]:
         """Which cells are written: those that have an answer or an example, and hold another text."""
-        task = self._task
-        wanted = (text != "" or at in task.places or task.settings.replace for at, text in enumerate(self._texts))
-        return [is_wanted and text != old for is_wanted, text, old in zip(wanted, self._texts, task.old)]
+        task, wanted = self._task, self._task.places
+        changed = [place for place, (text, old) in enumerate(zip(self._texts, task.old)) if text != old]
+        return [it for it in changed if self._texts[it] != "" or it in wanted or task.settings.replace]
 
     @property
     def counts(self) -> Dict[str, int]:
@@ -105,7 +106,7 @@ class Learned:
         if len(doubtful) > 1 and row is None:
             row = told_by(self._task.ask(range(len(self._states)), "--explain").err).next
         place = row - 2 if row else doubtful[0] if doubtful else None
-        return None if place is None else self._task.frame.label(place)
+        return None if place is None else self._task.frame.labels_at([place])[0]
 
     def _in_doubt(self) -> List[int]:
         return [place for place, it in enumerate(self._states) if it in ("doubt", "none doubt")]
@@ -145,7 +146,7 @@ class Learned:
         columns = [at for at, it in enumerate(task.header) if at != task.at and it in read][:MOST_COLUMNS]
         lines = [_line("th", ["", *(task.header[it] for it in columns), str(task.to), "or", "state"])]
         for at in shown:
-            cells = [str(task.frame.label(at)), *(task.columns[it][at] for it in columns), self._texts[at], others.get(at, ""), states[at]]
+            cells = [str(task.frame.labels[at]), *(task.columns[it][at] for it in columns), self._texts[at], others.get(at, ""), states[at]]
             lines.append(_line("td", cells, len(cells) - 3, COLORS.get(states[at])))
         counts = ", ".join(f"{count} {it}" for it, count in self.counts.items())
         rule = self.rule._repr_html_() if self.rule else "no rule"
@@ -242,7 +243,7 @@ def fill(
     """
     settings = Settings(sources, formats or {}, depth, replace, only_sure, profile)
     learned = Learned(Task(frame_of(frame), to, examples or {}, settings, tables_of(tables or {}, keys or {})))
-    rows = tuple(learned._task.frame.label(it) for it in learned._in_doubt())
+    rows = tuple(learned._task.frame.labels_at(learned._in_doubt()))
     line = f"{len(rows)} of {len(learned._states)} cells of {to!r} are in doubt: flashfill.learn(..).doubts has both answers"
     _warn([*learned.warnings, *([DoubtWarning(line, rows)] if rows and not only_sure else [])])
     return learned.frame

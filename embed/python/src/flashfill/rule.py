@@ -10,7 +10,7 @@ import sys
 from typing import Any, Callable, Dict, Iterable, Iterator, List, Mapping, Optional, Sequence, Tuple, Union
 
 from . import engine
-from .cells import Shown, is_empty, records_of, sheet_of, texts_of
+from .cells import Shown, columns_of, records_of, sheet_of, texts_of
 from .frames import Frame, Rows, frame_of
 
 CHUNK = 50_000
@@ -140,7 +140,7 @@ class Rule:
         made: List[str] = []
         for at in range(0, len(columns[0]), CHUNK):
             part = list(zip(*(it[at : at + CHUNK] for it in columns)))
-            made += [it[-1] for it in self._run([self.sources, *part])[1:]]
+            made += columns_of(self._run(self.sources, part), -1)[1]
             told(len(part))
         return made
 
@@ -165,11 +165,11 @@ class Rule:
 
         return call
 
-    def _run(self, records: Sequence[Sequence[str]]) -> List[List[str]]:
+    def _run(self, header: Sequence[str], rows: Iterable[Sequence[str]]) -> bytes:
         """What the program makes of a sheet by this rule."""
         name = engine.free_name("rule", self.tables)
-        files = {**self.tables, name: self.text, "-": sheet_of(records)}
-        return records_of(engine.run("fillcsv", [f"--rule={name}", "--quiet"], files).checked().out)
+        files = {**self.tables, name: self.text, "-": sheet_of(header, rows)}
+        return engine.run("fillcsv", [f"--rule={name}", "--quiet"], files).checked().out
 
     def _frame(self, frame: Frame, told: Callable[[int], Any], formats: Optional[Mapping[Any, Shown]]) -> Any:
         try:
@@ -178,8 +178,9 @@ class Rule:
             raise KeyError(f"the rule reads {', '.join(map(repr, self.sources))}: {error.args[0]}") from None
         texts = self.texts([frame.texts(it, (formats or {}).get(it)) for it in sources], told) if len(frame) else []
         to = next((it for it in frame.names if str(it) == self.to), self.to)
-        given = frame.cells(to) if to in frame.names else [None] * len(texts)
-        return frame.filled(to, texts, given, [is_empty(old) and text != "" for old, text in zip(given, texts)])
+        old = frame.texts(to) if to in frame.names else [""] * len(texts)
+        places = [place for place, text in enumerate(texts) if text != "" and old[place] == ""]
+        return frame.filled(to, places, [texts[it] for it in places], frame.given(to))
 
     def _series(self, data: Any, progress: Progress, formats: Optional[Mapping[Any, Shown]]) -> Any:
         if len(self.sources) != 1:
@@ -192,13 +193,13 @@ class Rule:
         chunk = list(itertools.islice(rows, CHUNK))
         header = None if not chunk or isinstance(chunk[0], Mapping) else chunk.pop(0)
         if header is not None and not chunk:
-            yield self._run([header])[0]
+            yield records_of(self._run(header, []))[0]
         is_first = True
         while chunk:
             if header is None:
                 yield from self._frame(Rows(chunk), lambda _: None, None)
             else:
-                yield from self._run([header, *chunk])[0 if is_first else 1 :]
+                yield from records_of(self._run(header, chunk))[0 if is_first else 1 :]
             told(len(chunk))
             chunk, is_first = list(itertools.islice(rows, CHUNK)), False
 

@@ -41,8 +41,8 @@ class Task:
         for shown in self.header:
             if self.header.count(shown) > 1:
                 raise ValueError(f"more than one column is called {shown!r}")
-        self.given = frame.cells(to) if to in frame.names else [None] * len(frame)
-        self.old = texts_of(self.given, settings.formats.get(to))
+        self.given = frame.given(to) if to in frame.names else []
+        self.old = frame.texts(to, settings.formats.get(to)) if to in frame.names else [""] * len(frame)
         self.columns = [self._texts(it) for it in self.names]
         self.places = {frame.position(label): label for label in self.examples}
 
@@ -62,14 +62,14 @@ class Task:
         is_all = len(places) == len(self.frame)
         rows = zip(*self.columns) if is_all else ([it[place] for it in self.columns] for place in places)
         name = engine.free_name("sheet", self.tables.files)
-        files = {**self.tables.files, name: sheet_of([self.header, *rows])}
+        files = {**self.tables.files, name: sheet_of(self.header, rows)}
         answer = engine.run("fillcsv", [name, *self._words(), *self._examples(places), *more], files)
         try:
             return answer.checked()
         except engine.FlashFillError as error:
             error.rows = rows_in(str(error))
             if str(error).startswith(f"fillcsv: {name}: "):
-                error.rows = tuple(self.frame.label(places[row - 2]) for row in error.rows if 2 <= row < len(places) + 2)
+                error.rows = tuple(self.frame.labels_at([places[row - 2] for row in error.rows if 2 <= row < len(places) + 2]))
             raise
 
     def _words(self) -> List[str]:
@@ -107,7 +107,8 @@ def tables_of(tables: Mapping[str, Any], keys: Mapping[str, Sequence[Any]]) -> T
     files: Dict[str, bytes] = {}
     for name, table in tables.items():
         frame = frame_of(table)
-        sheet = sheet_of(zip(*(frame.texts(it) for it in frame.names)))
+        first, *rows = zip(*(frame.texts(it) for it in frame.names))
+        sheet = sheet_of(first, rows)
         if name in keys:
             numbers = {it: str(number) for number, it in enumerate(frame.names, 1)}
             wanted = ([it] if it in frame.names else it for it in map(_hashed, keys[name]))
