@@ -141,11 +141,15 @@ def _time(text: str) -> datetime.datetime:
     return datetime.datetime.fromisoformat(text)
 
 
-def sheet_of(header: Sequence[str], rows: Iterable[Sequence[str]]) -> bytes:
+def sheet_of(header: Sequence[str], rows: Sequence[Sequence[str]]) -> bytes:
     """Returns a header and rows as a CSV file. The header is in quotes, so a byte order mark in it is a part of a name."""
     text = io.StringIO()
     csv.writer(text, quoting=csv.QUOTE_ALL).writerow(header)
-    csv.writer(text).writerows(rows)
+    try:
+        csv.writer(text).writerows(rows)
+    except csv.Error:  # a NUL in Python 3.10
+        quoted = (",".join('"' + it.replace('"', '""') + '"' for it in record) for record in (header, *rows))
+        return "".join(f"{it}\n" for it in quoted).encode()
     return text.getvalue().encode()
 
 

@@ -165,7 +165,7 @@ class Rule:
 
         return call
 
-    def _run(self, header: Sequence[str], rows: Iterable[Sequence[str]]) -> bytes:
+    def _run(self, header: Sequence[str], rows: Sequence[Sequence[str]]) -> bytes:
         """What the program makes of a sheet by this rule."""
         name = engine.free_name("rule", self.tables)
         files = {**self.tables, name: self.text, "-": sheet_of(header, rows)}

@@ -60,7 +60,7 @@ class Task:
             If the engine refuses something; its `rows` are labels if its line speaks of the frame's rows.
         """
         is_all = len(places) == len(self.frame)
-        rows = zip(*self.columns) if is_all else ([it[place] for it in self.columns] for place in places)
+        rows = list(zip(*self.columns)) if is_all else [tuple(it[place] for it in self.columns) for place in places]
         name = engine.free_name("sheet", self.tables.files)
         files = {**self.tables.files, name: sheet_of(self.header, rows)}
         answer = engine.run("fillcsv", [name, *self._words(), *self._examples(places), *more], files)
