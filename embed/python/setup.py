@@ -29,7 +29,7 @@ class WithLibrary(build_py):
         if not LIBRARY.is_file():
             raise SystemExit(f"{LIBRARY} is not there: embed/build makes it, or FLASHFILL_LIBRARY names another one")
         super().run()
-        if not self.editable_mode:
+        if not getattr(self, "editable_mode", False):
             package = pathlib.Path(self.build_lib) / "flashfill"
             shutil.copyfile(LIBRARY, package / "libflashfill.so")
             shutil.copyfile(LICENSE, package / "LICENSE")

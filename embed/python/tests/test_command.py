@@ -49,6 +49,11 @@ def ran(words, given):
         shutil.rmtree(folder)
 
 
+def proved(err):
+    """What is told, without the line of a library over an engine that is not proved."""
+    return b"".join(it for it in err.splitlines(True) if not it.startswith(b"libflashfill: "))
+
+
 def saved_in(folder):
     rule = pathlib.Path(folder, "new.rule")
     return rule.read_bytes() if rule.exists() else None
@@ -74,7 +79,7 @@ class Command(unittest.TestCase):
     def test_an_output_that_cannot_be_written(self):
         with open("/dev/full", "wb") as full:
             run = subprocess.run([sys.executable, "-m", "flashfill", str(EXAMPLES / "people.csv"), "--to=Label"], stdout=full, stderr=subprocess.PIPE)
-        self.assertEqual((run.returncode, run.stderr), (4, b"fillcsv: output cannot be written\n"))
+        self.assertEqual((run.returncode, proved(run.stderr)), (4, b"fillcsv: output cannot be written\n"))
 
     def test_questions_at_a_terminal(self):
         ours, theirs = os.openpty()
@@ -85,7 +90,7 @@ class Command(unittest.TestCase):
         out, err = run.communicate(timeout=300)
         os.close(ours)
         wanted = ran([*PEOPLE, *LABEL, "--ask"], b"2\n")
-        self.assertEqual((run.returncode, out, err), wanted[:3])
+        self.assertEqual((run.returncode, out, proved(err)), wanted[:3])
         self.assertIn(b"Emmy A Noether,emmy.n@ring.de,Erlangen,Noether (Erlangen)\n", out)
 
 

@@ -187,6 +187,9 @@ class Errors(unittest.TestCase):
         with self.assertRaisesRegex(flashfill.RefusedFile, "agree in the key") as caught:
             flashfill.learn(rows_of("sales.csv"), "Month", tables={"months": table}, keys={"months": ["no"]})
         self.assertEqual(caught.exception.rows, (1, 2))
+        with self.assertRaises(flashfill.RefusedFile) as caught:
+            flashfill.learn([{"a": "x"}, {"a": "\ud800"}], "b", {0: "x"})
+        self.assertEqual(caught.exception.rows, (1,))
 
     def test_wrong_calls(self):
         rows = rows_of("people.csv")
@@ -196,7 +199,6 @@ class Errors(unittest.TestCase):
             (KeyError, lambda: label_rule().apply([{"Name": "Ada Byron"}])),
             (ValueError, lambda: flashfill.fill([], "Label")),
             (ValueError, lambda: flashfill.fill([{"1": "a", 1: "b"}], "Label", {0: "x"})),
-            (ValueError, lambda: flashfill.fill([{"Name": "\ud800"}], "Label", {0: "x"})),
             (TypeError, lambda: flashfill.fill("people.csv", "Label")),
             (flashfill.RefusedFile, lambda: flashfill.Rule(b"x")),
             (flashfill.RefusedFile, lambda: flashfill.Rule(b"\xff")),

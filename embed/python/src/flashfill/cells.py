@@ -53,6 +53,11 @@ def is_empty(cell: Any) -> bool:
     return is_missing(cell) or (isinstance(cell, str) and cell == "")
 
 
+def is_unicode(text: str) -> bool:
+    """Returns whether a text can be written as UTF-8, which no half of a surrogate pair can."""
+    return text.encode(errors="ignore").decode() == text
+
+
 def texts_of(cells: Sequence[Any], shown: Optional[Shown] = None) -> List[str]:
     """Returns the texts of a column's cells, by a function of one's own or by the rule of this module.
 

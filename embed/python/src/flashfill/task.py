@@ -4,7 +4,7 @@ from __future__ import annotations
 from typing import Any, Dict, Hashable, List, Mapping, NamedTuple, Optional, Sequence, Tuple
 
 from . import engine
-from .cells import Shown, is_empty, records_of, sheet_of, texts_of
+from .cells import Shown, is_empty, is_unicode, records_of, sheet_of, texts_of
 from .frames import Frame, frame_of
 from .told import rows_in
 
@@ -62,10 +62,14 @@ class Task:
         is_all = len(places) == len(self.frame)
         rows = list(zip(*self.columns)) if is_all else [tuple(it[place] for it in self.columns) for place in places]
         name = engine.free_name("sheet", self.tables.files)
-        files = {**self.tables.files, name: sheet_of(self.header, rows)}
-        answer = engine.run("fillcsv", [name, *self._words(), *self._examples(places), *more], files)
+        words = [name, *self._words(), *self._examples(places), *more]
         try:
-            return answer.checked()
+            sheet = sheet_of(self.header, rows)
+        except UnicodeEncodeError as error:
+            wrong = [place for place, row in zip(places, rows) if not is_unicode("".join(row))]
+            raise engine.RefusedFile(5, f"a text is no Unicode: {error}", tuple(self.frame.labels_at(wrong))) from None
+        try:
+            return engine.run("fillcsv", words, {**self.tables.files, name: sheet}).checked()
         except engine.FlashFillError as error:
             error.rows = rows_in(str(error))
             if str(error).startswith(f"fillcsv: {name}: "):
