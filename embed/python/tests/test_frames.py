@@ -198,10 +198,11 @@ def test_frames_of_others():
     assert rule.apply(Other(people()))["Label"].tolist()[:5] == LABELS
 
 
-def test_progress(capsys):
+def test_progress(capsys, monkeypatch):
+    monkeypatch.setattr("flashfill.rule.CHUNK", 100)
     rule = flashfill.learn(people(), "Label", SETTLED, ["Name", "City"]).rule
-    frame = pandas.DataFrame({"Name": [f"Ada N{it}" for it in range(120_000)], "City": "Bonn"})
+    frame = pandas.DataFrame({"Name": [f"Ada N{it}" for it in range(240)], "City": "Bonn"})
     done = []
-    assert rule.apply(frame, progress=done.append)["Label"].iloc[-1] == "N119999 (Bonn)" and done == [50_000, 50_000, 20_000]
+    assert rule.apply(frame, progress=done.append)["Label"].iloc[-1] == "N239 (Bonn)" and done == [100, 100, 40]
     rule.apply(frame, progress=True)
-    assert "120000" in capsys.readouterr().err
+    assert "240" in capsys.readouterr().err

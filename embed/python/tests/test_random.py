@@ -65,7 +65,7 @@ def by_program(frame, to, examples, sources):
         return ran.returncode, records_of(ran.stdout), rule.read_bytes() if rule.exists() else b""
 
 
-@settings(max_examples=80, deadline=None, derandomize=True, database=None, suppress_health_check=list(HealthCheck))
+@settings(max_examples=50, deadline=None, derandomize=True, database=None, suppress_health_check=list(HealthCheck))
 @given(tasks())
 def test_frames_are_filled_as_the_program_fills_their_csv(task):
     frame, to, examples, sources = task

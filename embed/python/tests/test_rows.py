@@ -8,6 +8,7 @@ import tempfile
 import threading
 import unittest
 import warnings
+from unittest import mock
 
 import flashfill
 from flashfill import engine, told
@@ -161,9 +162,10 @@ class Rules(unittest.TestCase):
         self.assertEqual(list(rule.apply(csv.reader(io.StringIO("City,Name\n")))), [["City", "Name", "Label"]])
         self.assertEqual((list(rule.apply(iter([]))), rule.apply([])), ([], []))
         done = []
-        many = ({"Name": f"Ada N{it}", "City": "Bonn"} for it in range(120_000))
-        last = list(rule.apply(many, progress=done.append))[-1]
-        self.assertEqual((last["Label"], done), ("N119999 (Bonn)", [50_000, 50_000, 20_000]))
+        many = ({"Name": f"Ada N{it}", "City": "Bonn"} for it in range(240))
+        with mock.patch("flashfill.rule.CHUNK", 100):
+            last = list(rule.apply(many, progress=done.append))[-1]
+        self.assertEqual((last["Label"], done), ("N239 (Bonn)", [100, 100, 40]))
 
     def test_filled_cells_stay(self):
         rows = [{"Name": "Marie Curie", "City": "Paris", "Label": "mine"}, {"Name": "Kurt Gödel", "City": "Brno", "Label": ""}]
