@@ -55,12 +55,11 @@ class Learning(unittest.TestCase):
         self.assertEqual(first.frame[3]["Label"], "A Noether (Erlangen)")
 
     def test_more_doubts_than_the_program_tells(self):
-        rows = [{"Name": f"Ada {chr(65 + at)} Byron{at}"} for at in range(26)]
-        learned = flashfill.learn(rows, "Last", {0: "Byron0"})
-        self.assertEqual([it["row"] for it in learned.doubts], [at for at, it in enumerate(learned.states) if it == "doubt"])
-        self.assertGreater(len(learned.doubts), 10)
-        self.assertTrue(all(it["other"] is not None or "none" in learned.states[it["row"]] for it in learned.doubts[:10]))
-        self.assertTrue(all(it["answer"] != it["other"] for it in learned.doubts))
+        rows = [{"Name": "Ada Byron"}, *({"Name": f"Ada {letter} By-ron"} for letter in "ABCDEFGHIJKLMNOPQRSTUVWXYZ")]
+        learned = flashfill.learn(rows, "Last", {0: "Byron"})
+        self.assertEqual(learned.states, ["given", *["doubt"] * 26])
+        self.assertEqual([(it["row"], it["answer"]) for it in learned.doubts], [(at, it["Last"]) for at, it in enumerate(learned.frame)][1:])
+        self.assertTrue(all(it["other"] not in (None, it["answer"]) and it["other_rule"] for it in learned.doubts))
 
     def test_an_example_can_say_that_a_cell_stays_empty(self):
         learned = flashfill.learn(rows_of("people.csv"), "Label", {5: ""}, ["Name", "City"])
@@ -167,6 +166,11 @@ class Rules(unittest.TestCase):
             last = list(rule.apply(many, progress=done.append))[-1]
         self.assertEqual((last["Label"], done), ("N239 (Bonn)", [100, 100, 40]))
 
+    def test_progress_without_a_bar(self):
+        with mock.patch.dict("sys.modules", {"tqdm.auto": None}), mock.patch("sys.stderr", io.StringIO()) as err:
+            label_rule().apply(rows_of("more-people.csv"), progress=True)
+        self.assertEqual(err.getvalue(), "5 of 5 rows\n")
+
     def test_filled_cells_stay(self):
         rows = [{"Name": "Marie Curie", "City": "Paris", "Label": "mine"}, {"Name": "Kurt Gödel", "City": "Brno", "Label": ""}]
         self.assertEqual([it["Label"] for it in label_rule()(rows)], ["mine", "Gödel (Brno)"])
@@ -209,6 +213,8 @@ class Errors(unittest.TestCase):
 
     def test_lines_that_are_not_understood_are_warned_of(self):
         self.assertEqual(told.told_by(b"fillcsv: 1 given, 0 sure\nfillcsv: something new\n").rest, ("something new",))
+        with self.assertWarnsRegex(flashfill.FlashFillWarning, "nothing to learn from"):
+            self.assertIsNone(flashfill.learn([{"a": "x"}], "b").rule)
 
 
 class Threads(unittest.TestCase):

@@ -70,7 +70,7 @@ class Learned:
         self.warnings: List[FlashFillWarning] = [
             NotLearnedWarning(f"row {label!r}: not learned from: {why}", (label,)) for label, why in self.refused.items()
         ]
-        self.warnings += [NotLearnedWarning(it) for it in self._told.rest]
+        self.warnings += [FlashFillWarning(it) for it in self._told.rest]
 
     def _written(self) -> List[int]:
         """Which cells are written: those that have an answer or an example, and hold another text."""

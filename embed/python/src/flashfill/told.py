@@ -11,7 +11,7 @@ from typing import Dict, List, NamedTuple, Optional, Tuple
 
 _ANSWER = r'("(?:[^"\\]|\\.)*"|none)'
 _DOUBT = re.compile(rf"row (\d+): {_ANSWER}, or {_ANSWER}(?: by: (.*))?")
-_REFUSED = re.compile(r"row (\d+): not learned from(?:: (.*))?")
+_REFUSED = re.compile(r"row (\d+)(?: \(.*\))?(?:: not learned from| was not used)(?:: (.*))?")
 _NEXT = re.compile(r"look at row (\d+) next: .*")
 _IN_DOUBT = re.compile(r"look at row [\d, ]+")
 _COUNTS = re.compile(r".*\b\d+ given, .*")
