@@ -16,12 +16,22 @@ PROGRAM = os.environ.get("FILLCSV")
 PEOPLE, LABEL = ["people.csv", "--to", "Label"], ["--from", "Name,City"]
 MONTHS = ["sales.csv", "--to=Month", "--table=months=months.csv", "--key", "months:1"]
 RUNS = [
-    (["--help"], b""), (["--version"], b""), ([], b""), (["gone.csv", "--to=x"], b""), ([".", "--to=x"], b""), (["people.csv", "--to=Lable"], b""),
-    ([*PEOPLE, *LABEL, "--state", "--explain"], b""), ([*PEOPLE, "--strict", "--only=sure"], b""), (["-", "--to", "Label"], (EXAMPLES / "people.csv").read_bytes()),
-    ([*PEOPLE, *LABEL, "--save", "new.rule"], b""), ([*PEOPLE, "--save=new.rule", "--quiet"], b""), ([*PEOPLE, "--save=gone/new.rule"], b""),
-    ([*MONTHS, "--save=new.rule"], b""), (["--rule", "label.rule"], (EXAMPLES / "more-people.csv").read_bytes()),
-    (["--rule=month.rule", "--quiet"], (EXAMPLES / "more-sales.csv").read_bytes()), (["--rule=gone.rule"], b"a\n"), (["--rule=people.csv"], b"a\n"),
-    ([*PEOPLE, "--ask"], b"2\nu\n\nx\n"), ([*PEOPLE, *LABEL, "--ask"], b"Noether (Erlangen)"), ([*PEOPLE, "--ask"], b""), ([*PEOPLE, "--to=\udcff"], b""),
+    *((it, b"") for it in (["--help"], ["--version"], [], ["gone.csv", "--to=x"], [".", "--to=x"], ["people.csv", "--to=Lable"])),
+    ([*PEOPLE, *LABEL, "--state", "--explain"], b""),
+    ([*PEOPLE, "--strict", "--only=sure"], b""),
+    (["-", "--to", "Label"], (EXAMPLES / "people.csv").read_bytes()),
+    ([*PEOPLE, *LABEL, "--save", "new.rule"], b""),
+    ([*PEOPLE, "--save=new.rule", "--quiet"], b""),
+    ([*PEOPLE, "--save=gone/new.rule"], b""),
+    ([*MONTHS, "--save=new.rule"], b""),
+    (["--rule", "label.rule"], (EXAMPLES / "more-people.csv").read_bytes()),
+    (["--rule=month.rule", "--quiet"], (EXAMPLES / "more-sales.csv").read_bytes()),
+    (["--rule=gone.rule"], b"a\n"),
+    (["--rule=people.csv"], b"a\n"),
+    ([*PEOPLE, "--ask"], b"2\nu\n\nx\n"),
+    ([*PEOPLE, *LABEL, "--ask"], b"Noether (Erlangen)"),
+    ([*PEOPLE, "--ask"], b""),
+    ([*PEOPLE, "--to=\udcff"], b""),
 ]
 
 
@@ -74,11 +84,13 @@ class Command(unittest.TestCase):
     def test_examples(self):
         status, out, err, _ = ran([*PEOPLE, *LABEL, "--state"], b"")
         self.assertEqual((status, out, err[:9]), (0, (EXAMPLES / "people-filled.csv").read_bytes(), b"fillcsv: "))
-        self.assertEqual(ran(["--rule", "label.rule"], (EXAMPLES / "more-people.csv").read_bytes())[1], (EXAMPLES / "more-people-filled.csv").read_bytes())
+        more = ran(["--rule", "label.rule"], (EXAMPLES / "more-people.csv").read_bytes())
+        self.assertEqual(more[1], (EXAMPLES / "more-people-filled.csv").read_bytes())
 
     def test_an_output_that_cannot_be_written(self):
         with open("/dev/full", "wb") as full:
-            run = subprocess.run([sys.executable, "-m", "flashfill", str(EXAMPLES / "people.csv"), "--to=Label"], stdout=full, stderr=subprocess.PIPE)
+            words = [sys.executable, "-m", "flashfill", str(EXAMPLES / "people.csv"), "--to=Label"]
+            run = subprocess.run(words, stdout=full, stderr=subprocess.PIPE)
         self.assertEqual((run.returncode, proved(run.stderr)), (4, b"fillcsv: output cannot be written\n"))
 
     def test_questions_at_a_terminal(self):

@@ -14,8 +14,9 @@ from hypothesis import strategies as some
 import flashfill
 from flashfill.cells import records_of
 
-WORDS = ["Ada", "Byron", "Max", "O'Neil", "du Châtelet", "42", "007", "a-1", "x@y.org", '"', ",", "\n", "\r\n", " ", "é\u0301", "\U0001f600", "("]
-TEXTS = some.lists(some.sampled_from(WORDS), max_size=4).flatmap(lambda it: some.sampled_from([" ", ""]).map(lambda between: between.join(it)))
+SIGNS = ['"', ",", "\n", "\r\n", " ", "é\u0301", "\U0001f600", "("]
+WORDS = ["Ada", "Byron", "Max", "O'Neil", "du Châtelet", "42", "007", "a-1", "x@y.org", *SIGNS]
+TEXTS = some.builds(str.join, some.sampled_from([" ", ""]), some.lists(some.sampled_from(WORDS), max_size=4))
 KINDS = [
     some.one_of(TEXTS, some.text(max_size=6).filter(lambda it: it.isprintable()), some.none()),
     some.integers(-1000, 1000),

@@ -132,7 +132,8 @@ class Rules(unittest.TestCase):
         self.assertEqual(learned.rule.text, (EXAMPLES / "month.rule").read_bytes())
         again = flashfill.Rule((EXAMPLES / "label.rule").read_bytes())
         self.assertEqual((again.sources, again.to), (["Name", "City"], "Label"))
-        self.assertEqual([it["Label"] or "" for it in again.apply(rows_of("more-people.csv"))], [it["Label"] for it in rows_of("more-people-filled.csv")])
+        wanted = [it["Label"] for it in rows_of("more-people-filled.csv")]
+        self.assertEqual([it["Label"] or "" for it in again.apply(rows_of("more-people.csv"))], wanted)
 
     def test_pickle_equality_file(self):
         rule = label_rule()
@@ -148,7 +149,8 @@ class Rules(unittest.TestCase):
         with tempfile.TemporaryDirectory() as folder:
             rule.save(f"{folder}/month.rule")
             again = flashfill.Rule.load(f"{folder}/month.rule")
-            self.assertEqual([it["Month"] for it in again.apply(rows_of("more-sales.csv"))], [it["Month"] for it in rows_of("more-sales-filled.csv")])
+            wanted = [it["Month"] for it in rows_of("more-sales-filled.csv")]
+            self.assertEqual([it["Month"] for it in again.apply(rows_of("more-sales.csv"))], wanted)
             pathlib.Path(folder, "months.csv").write_text("mine")
             self.assertRaises(FileExistsError, rule.save, f"{folder}/month.rule")
             self.assertEqual(pathlib.Path(folder, "months.csv").read_text(), "mine")
@@ -221,7 +223,11 @@ class Threads(unittest.TestCase):
     def test_eight_at_once(self):
         found = []
         wanted = [it["Label"] for it in rows_of("people-filled.csv")]
-        work = [threading.Thread(target=lambda: found.append(flashfill.learn(rows_of("people.csv"), "Label", sources=["Name", "City"]))) for _ in range(8)]
+
+        def learn():
+            found.append(flashfill.learn(rows_of("people.csv"), "Label", sources=["Name", "City"]))
+
+        work = [threading.Thread(target=learn) for _ in range(8)]
         for it in work:
             it.start()
         for it in work:

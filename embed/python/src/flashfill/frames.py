@@ -154,7 +154,7 @@ class Pandas(Frame):
         cells = [it or None for it in texts] if made is None else made
         frame = self.data.copy()
         if to not in self.names:
-            new = pandas.Series([None] * len(self), index=self.labels, dtype=object)
+            new = pandas.Series([float("nan")] * len(self), index=self.labels, dtype=object)
             frame[to] = new if not cells else _joined(new, places, cells).infer_objects()
         elif cells:
             frame[to] = _joined(self._column(to), places, cells)
