@@ -235,5 +235,11 @@ def _teller(progress: Progress, count: Optional[int]) -> Callable[[int], Any]:
             print(f"{done[0]}{'' if count is None else f' of {count}'} rows", file=sys.stderr)
 
         return tell
-    update: Callable[[int], Any] = tqdm(total=count, unit=" rows").update
-    return update
+    bar = tqdm(total=count, unit=" rows")
+
+    def show(rows: int) -> None:
+        bar.update(rows)
+        if bar.n == count:
+            bar.close()
+
+    return show
