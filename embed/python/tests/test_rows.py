@@ -61,6 +61,10 @@ class Learning(unittest.TestCase):
         self.assertEqual([(it["row"], it["answer"]) for it in learned.doubts], [(at, it["Last"]) for at, it in enumerate(learned.frame)][1:])
         self.assertTrue(all(it["other"] not in (None, it["answer"]) and it["other_rule"] for it in learned.doubts))
 
+    def test_doubts_above_the_examples(self):
+        (doubt,) = flashfill.learn([{"Name": "Max A Planck"}, {"Name": "Ada Byron"}], "Last", {1: "Byron"}).doubts
+        self.assertEqual((doubt["row"], doubt["answer"], doubt["other"]), (0, "A Planck", "Planck"))
+
     def test_an_example_can_say_that_a_cell_stays_empty(self):
         learned = flashfill.learn(rows_of("people.csv"), "Label", {5: ""}, ["Name", "City"])
         self.assertEqual((learned.states[5], learned.frame[5]["Label"]), ("given", ""))

@@ -59,8 +59,8 @@ class Task:
         FlashFillError
             If the engine refuses something; its `rows` are labels if its line speaks of the frame's rows.
         """
-        is_all = len(places) == len(self.frame)
-        rows = list(zip(*self.columns)) if is_all else [tuple(it[place] for it in self.columns) for place in places]
+        is_whole = places == range(len(self.frame))
+        rows = list(zip(*self.columns)) if is_whole else [tuple(it[place] for it in self.columns) for place in places]
         name = engine.free_name("sheet", self.tables.files)
         words = [name, *self._words(), *self._examples(places), *more]
         try:
