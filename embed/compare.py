@@ -13,8 +13,8 @@ import sys
 import tempfile
 
 HERE = pathlib.Path(__file__).resolve().parent
-sys.path.insert(0, str(HERE / "python"))
-import flashfill  # noqa: E402
+sys.path.insert(0, str(HERE / "python/src"))
+from flashfill import engine  # noqa: E402
 
 EXAMPLES = {it.name: it.read_bytes() for end in ("csv", "rule") for it in sorted((HERE.parent / "examples").glob(f"*.{end}"))}
 SAVED = "saved.rule"
@@ -80,7 +80,7 @@ def wanted(request, programs):
 def is_told(request, answer):
     """Whether a room that is too small is told the size, and stays as it was, and one of that size is filled."""
     size = 25 + len(answer.out) + len(answer.err) + len(answer.saved)
-    call = flashfill._library.fill_engine
+    call = engine.library().fill_engine
     for given in (0, 1, size - 1, size):
         room = ctypes.create_string_buffer(b"\xaa" * (size + 1), size + 1)
         if call(request, len(request), room, given) != size or room.raw[given:] != b"\xaa" * (size + 1 - given):
@@ -159,7 +159,7 @@ def other(random):
 
 def random_request(random):
     kind = random.choice([session, session, filled, filled, ruled, other])
-    request = flashfill.request_of(*kind(random))
+    request = engine.request_of(*kind(random))
     if random.random() < 0.2:  # damage to its form
         request = request[: random.randrange(len(request))] if random.random() < 0.5 else damaged(random, request[:80], 1) + request[80:]
     return request
@@ -167,17 +167,17 @@ def random_request(random):
 
 def main(programs, number, seed):
     made = random.Random(seed)
-    requests = [flashfill.request_of("flashfill", ["replay", it], EXAMPLES) for it in SESSIONS]
-    requests += [flashfill.request_of("fillcsv", ["people.csv", "--to=Label", f"--save={SAVED}"], EXAMPLES)]
+    requests = [engine.request_of("flashfill", ["replay", it], EXAMPLES) for it in SESSIONS]
+    requests += [engine.request_of("fillcsv", ["people.csv", "--to=Label", f"--save={SAVED}"], EXAMPLES)]
     requests += [random_request(made) for _ in range(number)]
 
     def differs(request):
-        want, got = wanted(request, programs), flashfill.answer_of(request)
+        want, got = wanted(request, programs), engine.answer_of(request)
         if want is not None and want != got or not is_told(request, got):
             return True, want
         if got.saved:
             files = {**EXAMPLES, "a.rule": got.saved, "-": EXAMPLES["more-people.csv"]}
-            return differs(flashfill.request_of("fillcsv", ["--rule", "a.rule"], files))
+            return differs(engine.request_of("fillcsv", ["--rule", "a.rule"], files))
         return False, want
 
     with concurrent.futures.ThreadPoolExecutor(4) as pool:

@@ -1,4 +1,4 @@
-"""Fills a list of dicts, as `csv.DictReader` gives them."""
+"""Fills a list of dicts, as `csv.DictReader` gives them, without any other package."""
 import csv
 import io
 
@@ -12,8 +12,8 @@ Carl Gauss,Kassel,
 """
 
 rows = list(csv.DictReader(io.StringIO(SHEET)))
-filled, states = flashfill.fill(rows, to="Label", examples={0: "Byron (London)", 2: "Meitner (Graz)"})
-for row, state in zip(filled, states):
+learned = flashfill.learn(rows, "Label", examples={0: "Byron (London)", 2: "Meitner (Graz)"})
+for row, state in zip(learned.frame, learned.states):
     print(row["Label"], state, sep="\t")
 
 try:
@@ -21,6 +21,5 @@ try:
 except flashfill.MissingFile as error:
     print(error)
 
-rule = flashfill.learn(rows, to="Label", examples={0: "Byron (London)", 2: "Meitner (Graz)"})
-for row in flashfill.run_rule(rule, [{"City": "Paris", "Name": "Marie Curie", "Id": 7}]):
+for row in learned.rule.apply([{"City": "Paris", "Name": "Marie Curie", "Id": 7}]):
     print(row)
