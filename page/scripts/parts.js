@@ -39,7 +39,8 @@ export async function builtFrom() {
  * sending anything elsewhere. A worker that is fetched would have a policy of its own.
  */
 export function startWorker() {
-    const script = inside("worker-script")?.textContent ?? `import ${JSON.stringify(new URL("./worker.js", import.meta.url).href)};`;
+    const whole = inside("worker-script")?.textContent;
+    const script = whole ?? `import ${JSON.stringify(new URL("./worker.js", import.meta.url).href)};`;
     const url = URL.createObjectURL(new Blob([script], { type: "text/javascript" }));
-    return new Worker(url, { type: "module" });
+    return new Worker(url, { type: whole ? "classic" : "module" });
 }

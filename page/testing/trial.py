@@ -36,7 +36,8 @@ class Trial:
         """Opens the page, and waits until its example is filled."""
         self.browser.requests()
         self.browser.open(self.address)
-        self.browser.wait("Number(document.body.dataset.filled ?? 0) > 0", "the example is filled")
+        self.browser.wait("Number(document.body.dataset.filled ?? 0) > 0 || !document.getElementById('problem').hidden", "the example is filled")
+        assert self.problem() is None, self.problem()
         return self.settle()
 
     def settle(self):
