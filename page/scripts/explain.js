@@ -2,8 +2,6 @@
 // cells in doubt in groups of the same two rules.
 import { NONE_DOUBT, doubtsIn, isDoubtful, ruleIn } from "./answers.js";
 
-/** A reason that takes longer is given up where another one is asked for. */
-const PATIENCE = 700;
 /** The engine explains so many cells of a sheet. */
 const BATCH = 10;
 /** So many cells in doubt are put into groups, or as many as can be in this time. */
@@ -16,7 +14,6 @@ const MOST_TIME = 10_000;
  * place of this one.
  */
 export async function explain(filling, filled, record) {
-    if (filling.reasons.busyFor > PATIENCE) filling.reasons.stop();
     const told = await filling.tellOf(filled.learning, [record], ["--explain"], "explain");
     if (told === null) return null;
     const rule = ruleIn(told.lines);

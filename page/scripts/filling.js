@@ -16,6 +16,9 @@ const SLOW = 150;
 const PAUSE = 250;
 /** With more doubts the engine names no row to look at next. */
 const MOST_DOUBTS = 1000;
+/** What is told is given up after so many milliseconds where something newer is asked for, and in any case after `LONGEST`. */
+const PATIENCE = 700;
+const LONGEST = 8000;
 
 const pause = (time) => new Promise((resolve) => setTimeout(resolve, time));
 
@@ -178,7 +181,10 @@ export class Filling {
         if (records === null) return null;
         const { learning: part } = learning.part(records);
         const words = [...shownWords(part), ...options];
-        const answer = await this.#askPart(this.reasons, part, lane, { kind: "tell", words });
+        if (this.reasons.busyFor > PATIENCE) this.reasons.stop();
+        const asked = this.#askPart(this.reasons, part, lane, { kind: "tell", words });
+        const end = setTimeout(() => this.reasons.stop(), LONGEST);
+        const answer = await asked.finally(() => clearTimeout(end));
         return answer === null || answer.status > 1 ? null : { lines: linesOf(answer.lines), records };
     }
 

@@ -10,7 +10,7 @@ KEYS = {"Enter": "\ue007", "Escape": "\ue00c", "Tab": "\ue004", "Delete": "\ue01
         "F10": "\ue03a", "Control": "\ue009", "Alt": "\ue00a", "Shift": "\ue008"}
 
 # A call may take so many seconds on a machine that has other work too
-PATIENCE = 120
+PATIENCE = 300
 
 SCRIPT = """const done = arguments[arguments.length - 1]; const args = [...arguments].slice(0, -1);
 (async () => { %s })().then((it) => done({it}), (e) => done({failed: String(e.stack ?? e)}));"""
