@@ -41,9 +41,10 @@ export function fillRow(row, record, view) {
     view.columns.forEach(({ id, role }, at) => {
         const cell = row.children[at + 1];
         const isActive = view.isActive(record, id);
+        const isPicked = view.isPicked(record, at);
         cell.id = cellId(record, id);
-        const kept = [isActive ? "active" : "", view.isPicked(record, at) ? "picked" : "", cell.classList.contains("editing") ? "editing" : ""].filter((it) => it !== "");
-        cell.setAttribute("aria-selected", String(kept.length > 0 && kept[0] !== "editing"));
+        cell.setAttribute("aria-selected", String(isActive || isPicked));
+        const kept = [isActive && "active", isPicked && "picked", cell.classList.contains("editing") && "editing"].filter(Boolean);
         if (role === "fills" || role === "filled") fillAnswer(cell, record, id, role, kept, view);
         else fillRead(cell, record, id, role, kept, view);
     });

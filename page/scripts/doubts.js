@@ -121,6 +121,7 @@ export class Doubts {
     async group() {
         const { page } = this;
         const { filled } = page;
+        if (filled?.fresh !== null) return;
         if (!this.hasDoubts) return showGroups(null, {});
         if (this.#grouped === filled.learning) return;
         this.#grouped = filled.learning;

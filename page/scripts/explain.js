@@ -7,6 +7,8 @@ const BATCH = 10;
 /** So many cells in doubt are put into groups, or as many as can be in this time. */
 const MOST_GROUPED = 1000;
 const MOST_TIME = 10_000;
+/** So often some may be given up for something that is asked for meanwhile. */
+const MOST_FAILED = 5;
 
 /**
  * Explains the doubtful cell of a record: the answer that stands there and another one, the words of a rule with each, as far
@@ -34,11 +36,13 @@ export async function groupsOf(filling, filled, isCurrent, onMore) {
     const groups = new Map();
     const began = performance.now();
     let looked = 0;
+    let failed = 0;
     const result = () => ({ groups: [...groups.values()].sort((a, b) => b.rows.length - a.rows.length), looked, doubts: doubtful.length });
     while (looked < Math.min(doubtful.length, MOST_GROUPED) && performance.now() - began < MOST_TIME) {
         const some = doubtful.slice(looked, looked + BATCH);
-        const told = await filling.tellOf(learning, some, ["--explain"], "groups");
+        const told = await filling.tellOf(learning, some, ["--explain"], "groups", true);
         if (!isCurrent()) return null;
+        if (told === null && ++failed < MOST_FAILED) continue;
         if (told === null) break;
         const rule = ruleIn(told.lines);
         for (const [at, doubt] of doubtsIn(told.lines)) {

@@ -175,13 +175,16 @@ export class Filling {
         return client.ask(kind, { words, column: part.place, header: part.header, more }, lane);
     }
 
-    /** What the engine tells of a part of the sheet with these records and all examples: its lines, and the part's records. Null where it is not asked. */
-    async tellOf(learning, more, options, lane) {
+    /**
+     * What the engine tells of a part of the sheet with these records and all examples: its lines, and the part's records. Null
+     * where it is not asked, or given up. What is on its way and takes long is given up for it, unless it `isPatient`.
+     */
+    async tellOf(learning, more, options, lane, isPatient = false) {
         const records = recordsWith(learning, more);
         if (records === null) return null;
         const { learning: part } = learning.part(records);
         const words = [...shownWords(part), ...options];
-        if (this.reasons.busyFor > PATIENCE) this.reasons.stop();
+        if (!isPatient && this.reasons.busyFor > PATIENCE) this.reasons.stop();
         const asked = this.#askPart(this.reasons, part, lane, { kind: "tell", words });
         const end = setTimeout(() => this.reasons.stop(), LONGEST);
         const answer = await asked.finally(() => clearTimeout(end));
@@ -213,7 +216,7 @@ export class Filling {
         const doubtful = [];
         for (let record = learning.header ? 1 : 0; record < filled.states.length && doubtful.length <= MOST_DOUBTS; record++) if (isDoubtful(filled.states[record])) doubtful.push(record);
         if (doubtful.length < 2 || doubtful.length > MOST_DOUBTS) return;
-        const told = await this.tellOf(learning, doubtful, [], "suggest");
+        const told = await this.tellOf(learning, doubtful, [], "suggest", true);
         const now = this.resultOf(learning.fill.column);
         if (told === null || turn !== this.#turn || now.learning !== learning) return;
         const at = nextIn(told.lines);

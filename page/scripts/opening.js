@@ -4,10 +4,11 @@ import { firstChoices } from "./choices.js";
 import { recordsOfCells, textOf } from "./csv.js";
 import { byId, notify } from "./dom.js";
 import { EXAMPLE } from "./example.js";
-import { described, isPlain } from "./formats.js";
+import { bytesLike, described, isPlain } from "./formats.js";
 import { forgetKept, lastKept, readKept } from "./keeping.js";
 import { filledByRule, isRule } from "./rule.js";
 import { Sheet } from "./sheet.js";
+import { filledName } from "./words.js";
 
 /** Larger sheets are refused: the page holds them several times over. */
 const MOST_MEGABYTES = 400;
@@ -68,7 +69,6 @@ export class Opening {
         else page.history.push(choices, sheet);
         page.changedSheet();
         await page.changed();
-        page.isDirty = false;
         if (!page.filled?.isWhole || page.history.now.sheet !== sheet) return;
         if (page.doubts.hasDoubts && page.grid.active.column === page.column) page.doubts.next(1);
         else page.grid.choose(page.grid.active.record, page.grid.active.column);
@@ -86,10 +86,11 @@ export class Opening {
     /** Fills the sheet by a rule that was saved; what comes of it becomes the sheet. */
     async runRule(name, bytes) {
         const { page } = this;
+        const { source } = page.sheet;
         const made = await page.during(filledByRule(page.filling, page.sheet, name, bytes));
         if (made.problem) return page.showProblem(made.problem);
         await this.open(made.name, made.bytes, { separator: ",", isOnDisk: false });
-        notify(`${name} filled the sheet: ${made.told}. In a terminal: ${made.line}`, ["Download it", () => page.results.handOut(made.name, made.bytes)], ["Back to the sheet before", () => page.undo()]);
+        notify(`${name} filled the sheet: ${made.told}. In a terminal: ${made.line}`, ["Download it", () => page.results.handOut(filledName(source.came), bytesLike(made.bytes, source.format))], ["Back to the sheet before", () => page.undo()]);
     }
 
     /** Asks for cells in the dialog, and opens them as a sheet. */

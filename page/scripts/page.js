@@ -205,8 +205,12 @@ export class Page {
 
     /** Asks the engine by the choices as they are, or as they would be with what is being typed. */
     refresh() {
-        const choices = this.preview ?? this.choices;
-        return this.during(this.filling.fill(this.sheetOf(choices), choices, this.grid.inView, this.preview !== null));
+        const { preview } = this;
+        const choices = preview ?? this.choices;
+        const filling = this.filling.fill(this.sheetOf(choices), choices, this.grid.inView, preview !== null);
+        return this.during(filling.then(() => {
+            if (this.preview === null && this.choices === choices) this.doubts.group();
+        }));
     }
 
     /** Shows the column that is worked on; not `isWhole` where the rows in view alone are up to date. */
@@ -232,9 +236,7 @@ export class Page {
         this.grid.show(this.rows);
         showStates(filled, this.filter, (it) => this.setFilter(it));
         this.results.show();
-        if (this.preview) return;
-        this.doubts.showCard();
-        this.doubts.group();
+        if (!this.preview) this.doubts.showCard();
     }
 
     showProblem(text) {

@@ -2,6 +2,7 @@
 import { problemOf } from "./answers.js";
 import { recordsOf } from "./csv.js";
 import { byId, element } from "./dom.js";
+import { formatOf, isPlain, plainBytes, plainName } from "./formats.js";
 import { tableBytes } from "./opening.js";
 import { fileWord } from "./words.js";
 
@@ -22,18 +23,25 @@ export class TablesCard {
     }
 
     /** Adds a table, with the keys that the engine finds. */
-    async add(fileName, bytes) {
+    async add(fileName, given) {
         const { page } = this;
         if (!this.isThere || !page.history) return;
         if (page.choices.tables.length >= MOST_TABLES) return page.showProblem(`${fileName}: at most ${MOST_TABLES} tables can be added.`);
-        const file = fileWord(fileName);
+        let format;
+        try {
+            format = formatOf(given);
+        } catch (error) {
+            return page.showProblem(`${fileName}: ${error.message}.`);
+        }
+        const bytes = plainBytes(given, format);
+        const file = fileWord(plainName(fileName, format));
         const name = fileName.replace(/\.[^.]*$/, "").replace(/[^\w-]+/g, "-");
         const answer = await page.during(page.filling.run("flashfill", ["keys", file], [[file, bytes]]));
         if (answer.status !== 0) return page.showProblem(problemOf(answer));
         const offered = recordsOf(new TextDecoder().decode(answer.out)).map(([, ...columns]) => columns.map(Number));
         if (offered.length === 0) return page.showProblem(`${fileName}: no columns tell its rows apart, so nothing can be looked up in it`);
         const others = page.choices.tables.filter((it) => it.name !== name);
-        page.choose(page.choices.with({ tables: [...others, { name, file, bytes, offered, keys: offered.slice(0, 1) }] }));
+        page.choose(page.choices.with({ tables: [...others, { name, file, bytes, isConverted: !isPlain(format), offered, keys: offered.slice(0, 1) }] }));
     }
 
     show() {
@@ -66,6 +74,7 @@ export class TablesCard {
             return element("label", { class: "chip" }, element("input", { type: "checkbox", checked: isOn, disabled: isFixed, onchange }), element("span", {}, title));
         });
         const remove = () => page.choose(page.choices.with({ tables: page.choices.tables.filter((it) => it !== table) }));
-        return element("div", { class: "table" }, element("p", {}, element("strong", {}, table.file), " ", element("button", { type: "button", class: "small", "aria-label": `Remove ${table.file}`, onclick: remove }, "Remove")), element("p", { class: "row-of-buttons" }, "found by", ...chips));
+        const save = table.isConverted ? element("button", { type: "button", class: "small", title: "The table was converted to commas and UTF-8, and the lines for a terminal read it so", onclick: () => page.results.handOut(table.file, table.bytes) }, "Download") : null;
+        return element("div", { class: "table" }, element("p", {}, element("strong", {}, table.file), " ", save, " ", element("button", { type: "button", class: "small", "aria-label": `Remove ${table.file}`, onclick: remove }, "Remove")), element("p", { class: "row-of-buttons" }, "found by", ...chips));
     }
 }

@@ -65,7 +65,7 @@ export function ruleWords(learning, name) {
 const baseOf = (name) => name.replace(/\.(csv|txt|tsv|tab)$/i, "");
 
 /** The name under which the result of a sheet is handed out. */
-export const filledName = (name) => `${baseOf(name)}-filled.csv`;
+export const filledName = (name) => `${baseOf(name)}-filled${/\.(?:tsv|tab)$/i.exec(name)?.[0] ?? ".csv"}`;
 
 /**
  * The runs of `fillcsv` that make the result, one for each column that is filled: the words of each, the file that it reads
