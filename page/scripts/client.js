@@ -25,6 +25,11 @@ export class Client {
         this.#worker.onerror = (event) => this.#ended({ id: this.#sent?.id, failed: event.message ?? "the worker could not start" });
     }
 
+    /** The lane of the request that is on its way. */
+    get lane() {
+        return this.#sent?.lane ?? null;
+    }
+
     /** Whether a request is on its way. */
     get isBusy() {
         return this.#sent !== null;

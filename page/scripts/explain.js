@@ -6,7 +6,7 @@ import { NONE_DOUBT, doubtsIn, isDoubtful, ruleIn } from "./answers.js";
 const BATCH = 10;
 /** So many cells in doubt are put into groups, or as many as can be in this time. */
 const MOST_GROUPED = 1000;
-const MOST_TIME = 10_000;
+const MOST_TIME = 30_000;
 /** So often some may be given up for something that is asked for meanwhile. */
 const MOST_FAILED = 5;
 
@@ -40,7 +40,7 @@ export async function groupsOf(filling, filled, isCurrent, onMore) {
     const result = () => ({ groups: [...groups.values()].sort((a, b) => b.rows.length - a.rows.length), looked, doubts: doubtful.length });
     while (looked < Math.min(doubtful.length, MOST_GROUPED) && performance.now() - began < MOST_TIME) {
         const some = doubtful.slice(looked, looked + BATCH);
-        const told = await filling.tellOf(learning, some, ["--explain"], "groups", true);
+        const told = await filling.tellOf(learning, some, ["--explain"], "groups");
         if (!isCurrent()) return null;
         if (told === null && ++failed < MOST_FAILED) continue;
         if (told === null) break;

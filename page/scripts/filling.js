@@ -16,9 +16,10 @@ const SLOW = 150;
 const PAUSE = 250;
 /** With more doubts the engine names no row to look at next. */
 const MOST_DOUBTS = 1000;
-/** What is told is given up after so many milliseconds where something newer is asked for, and in any case after `LONGEST`. */
+/** What is told in these lanes can wait. It is given up after so many milliseconds for something else, and in any case after `LONGEST`. */
+const PATIENT = ["suggest", "groups"];
 const PATIENCE = 700;
-const LONGEST = 8000;
+const LONGEST = 30_000;
 
 const pause = (time) => new Promise((resolve) => setTimeout(resolve, time));
 
@@ -177,16 +178,17 @@ export class Filling {
 
     /**
      * What the engine tells of a part of the sheet with these records and all examples: its lines, and the part's records. Null
-     * where it is not asked, or given up. What is on its way and takes long is given up for it, unless it `isPatient`.
+     * where it is not asked, or given up. What a person waits for takes the place of what takes long and can wait.
      */
-    async tellOf(learning, more, options, lane, isPatient = false) {
+    async tellOf(learning, more, options, lane) {
+        const isPatient = PATIENT.includes(lane);
         const records = recordsWith(learning, more);
         if (records === null) return null;
         const { learning: part } = learning.part(records);
         const words = [...shownWords(part), ...options];
-        if (!isPatient && this.reasons.busyFor > PATIENCE) this.reasons.stop();
+        if (!isPatient && this.reasons.busyFor > PATIENCE && [lane, ...PATIENT].includes(this.reasons.lane)) this.reasons.stop();
         const asked = this.#askPart(this.reasons, part, lane, { kind: "tell", words });
-        const end = setTimeout(() => this.reasons.stop(), LONGEST);
+        const end = isPatient ? setTimeout(() => this.reasons.lane === lane && this.reasons.stop(), LONGEST) : null;
         const answer = await asked.finally(() => clearTimeout(end));
         return answer === null || answer.status > 1 ? null : { lines: linesOf(answer.lines), records };
     }
@@ -216,7 +218,7 @@ export class Filling {
         const doubtful = [];
         for (let record = learning.header ? 1 : 0; record < filled.states.length && doubtful.length <= MOST_DOUBTS; record++) if (isDoubtful(filled.states[record])) doubtful.push(record);
         if (doubtful.length < 2 || doubtful.length > MOST_DOUBTS) return;
-        const told = await this.tellOf(learning, doubtful, [], "suggest", true);
+        const told = await this.tellOf(learning, doubtful, [], "suggest");
         const now = this.resultOf(learning.fill.column);
         if (told === null || turn !== this.#turn || now.learning !== learning) return;
         const at = nextIn(told.lines);
