@@ -1,5 +1,6 @@
 """A browser with the page, as a person uses it, and what it is compared with."""
 import pathlib
+import re
 import shlex
 import subprocess
 import tempfile
@@ -151,8 +152,8 @@ class Trial:
         return self.settle()
 
     def lines(self):
-        """The lines that the page shows for a terminal."""
-        return self.browser.run("return document.querySelector('#terminal code').textContent;").split("\n")
+        """The lines that the page shows for a terminal; a text in one may have line ends."""
+        return re.split(r"\n(?=\./fillcsv )", self.browser.run("return document.querySelector('#terminal code').textContent;"))
 
     def by_program(self, folder):
         """What the program writes for the lines that the page shows, run one after the other in a folder."""
