@@ -111,7 +111,8 @@ class Chromium(Browser):
         return self.on("POST", "/se/log", {"type": kind})
 
     def errors(self):
-        return [it["message"] for it in self.log("browser") if it["level"] in ("SEVERE", "WARNING")]
+        # a page that is left with work in it would ask, which the driver does not let it
+        return [it["message"] for it in self.log("browser") if it["level"] in ("SEVERE", "WARNING") and "'beforeunload'" not in it["message"]]
 
     def requests(self):
         messages = (json.loads(it["message"])["message"] for it in self.log("performance"))
