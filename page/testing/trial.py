@@ -36,6 +36,7 @@ class Trial:
     def start(self):
         """Opens the page, and waits until its example is filled."""
         self.browser.requests()
+        self.browser.errors()  # those of the page before
         self.browser.open(self.address)
         self.browser.wait("Number(document.body.dataset.filled ?? 0) > 0 || !document.getElementById('problem').hidden", "the example is filled")
         assert self.problem() is None, self.problem()
