@@ -1,4 +1,4 @@
-// What the engine tells beside the filled sheet: its lines of errors, one by one.
+// What the engine answers, in the page's terms: states of cells, and its lines of errors, one by one.
 
 export const GIVEN = 0;
 export const SURE = 1;
@@ -6,20 +6,21 @@ export const DOUBT = 2;
 export const NONE = 3;
 export const NONE_DOUBT = 4;
 
-/** How states are called on the page, and the mark that stands beside their colour. */
+/** How states are called on the page, their classes, and the mark that stands beside their colour. */
 export const STATE_NAMES = ["given", "sure", "doubt", "none", "none, in doubt"];
+export const STATE_CLASSES = ["given", "sure", "doubt", "none", "none-doubt"];
 export const STATE_MARKS = ["●", "✓", "?", "∅", "∅?"];
 
 export const isDoubtful = (state) => state === DOUBT || state === NONE_DOUBT;
 
 /** The lines without the program's name before them. */
-const linesOf = (text) => text.split("\n").filter((it) => it !== "").map((it) => it.replace(/^(?:fillcsv|flashfill): /, ""));
+export const linesOf = (text) => text.split("\n").filter((it) => it !== "").map((it) => it.replace(/^(?:fillcsv|flashfill): /, ""));
 
 /** Why given cells are not learned from: the reasons by record, counted from 0. */
 function refusalsIn(lines) {
     const refusals = new Map();
     for (const line of lines) {
-        const found = /^row (\d+): (not learned from.*)$/.exec(line);
+        const found = /^row (\d+): not learned from(?:: |, since )?(.*)$/.exec(line);
         if (found) refusals.set(Number(found[1]) - 1, found[2]);
     }
     return refusals;
@@ -30,42 +31,40 @@ const ESCAPES = { n: "\n", r: "\r", t: "\t", "?": "\ufffd" };
 /** The text of an answer as a line tells it: in quotes with escapes, or `none`, which is null. */
 const answerIn = (told) => (told === "none" ? null : told.slice(1, -1).replace(/\\([^])/g, (_, it) => ESCAPES[it] ?? it));
 
-/** What else cells in doubt could be: the other answer and the words of its rule, by record. */
-function doubtsIn(lines) {
-    const answer = '("(?:[^"\\\\]|\\\\.)*"|none)';
-    const pattern = new RegExp(`^row (\\d+): ${answer}, or ${answer} by: (.*)$`);
+const ANSWER = '("(?:[^"\\\\]|\\\\.)*"|none)';
+const EXPLAINED = new RegExp(`^row (\\d+): ${ANSWER}, or ${ANSWER} by: (.*)$`);
+
+/** What else cells in doubt could be: the answer, the other answer and the words of its rule, by record. */
+export function doubtsIn(lines) {
     const doubts = new Map();
     for (const line of lines) {
-        const found = pattern.exec(line);
-        if (found) doubts.set(Number(found[1]) - 1, { other: answerIn(found[3]), words: found[4] });
+        const found = EXPLAINED.exec(line);
+        if (found) doubts.set(Number(found[1]) - 1, { text: answerIn(found[2]), other: answerIn(found[3]), words: found[4] });
     }
     return doubts;
 }
 
+/** The row to look at next, a record counted from 0; null where none is named. */
+export function nextIn(lines) {
+    const found = lines.map((it) => /^look at row (\d+) next/.exec(it)).find((it) => it !== null);
+    return found ? Number(found[1]) - 1 : null;
+}
+
+/** The rule in plain words, a line for each kind of rows. */
+export const ruleIn = (lines) => lines.filter((it) => it.startsWith("rule: ")).map((it) => it.slice(6));
+
+const isNote = (line) => !/^row \d+: |^look at row |^\d+ given, |^rule: |^no cell of the column is filled/.test(line);
+
+/** What is told of the examples: why some are not learned from, the rule, and lines that belong to no cell. */
+export function toldIn(lines) {
+    return { refusals: refusalsIn(lines), rule: ruleIn(lines), notes: lines.filter(isNote) };
+}
+
 /** How many cells have each state, in the order of the states; the header is no cell. */
-function countsOf(states, header) {
+export function countsOf(states, header) {
     const counts = [0, 0, 0, 0, 0];
     for (let record = header ? 1 : 0; record < states.length; record++) counts[states[record]]++;
     return counts;
-}
-
-/** What the engine told of a fill, in the page's terms: `rule` in plain words, a line for each kind of rows; `notes` are lines that belong to no cell. */
-export function filledOf(answer, header) {
-    const lines = linesOf(answer.lines);
-    const refusals = refusalsIn(lines);
-    const isNote = (line) => !/^row \d+: |^look at row |^\d+ given, |^rule: |^no cell of the column is filled/.test(line);
-    const isWhole = answer.status <= 1;
-    return {
-        isWhole,
-        texts: answer.texts,
-        states: answer.states,
-        counts: isWhole ? countsOf(answer.states, header) : [0, 0, 0, 0, 0],
-        refusals,
-        rule: lines.filter((it) => it.startsWith("rule: ")).map((it) => it.slice(6)),
-        doubts: doubtsIn(lines),
-        notes: isWhole ? lines.filter(isNote) : [],
-        times: answer.times,
-    };
 }
 
 /** The line of an answer that is none: what the program says, or the status where it says nothing. */
@@ -76,10 +75,10 @@ export function problemOf({ status, lines }) {
 }
 
 /**
- * The next row to look at, a record counted from 0, or null where no row is in doubt: the first one in doubt after `from`,
- * or else from the top; with -1 as `step` the other way round. The engine has no better order yet.
+ * The next row in doubt, a record counted from 0, or null where no row is: the first one after `from`, or else from the top;
+ * with -1 as `step` the other way round.
  */
-export function suggest({ states }, header, from, step = 1) {
+export function nextDoubt({ states }, header, from, step = 1) {
     const first = header ? 1 : 0;
     const count = states.length - first;
     for (let far = 1; far <= count; far++) {

@@ -1,76 +1,87 @@
-// What stands above the sheet: the column to fill, the columns that are read, the header, and the rows by state.
+// What stands above the sheet: the columns that are filled, those that are read, the header, and the rows by state.
 import { DOUBT, GIVEN, NONE, NONE_DOUBT, STATE_MARKS, SURE } from "./answers.js";
 import { byId, element } from "./dom.js";
-import { usualSources } from "./model.js";
 
-/** At most so many columns can be read, and these are the first of which a name is known. */
-const MOST_SOURCES = 8;
-const MOST_SHOWN = 60;
+/** At most so many columns can be read. */
+export const MOST_SOURCES = 8;
+/** With more columns those that are not read stand in the heads alone. */
+const MOST_SHOWN = 12;
 
-/** Listens to the choices above the sheet; `choose(changes)` gets what was changed. */
+/** Listens to the choices above the sheet. */
 export function listenToChoices(page) {
     byId("target").addEventListener("change", (event) => page.fillColumn(event.target.value === "new" ? null : Number(event.target.value)));
-    byId("new-name").addEventListener("change", (event) => page.choose({ newName: event.target.value.trim() || "New column" }));
-    byId("header").addEventListener("change", (event) => page.choose({ header: event.target.checked }));
-    byId("sources").addEventListener("change", () => {
-        const sources = [...byId("sources").querySelectorAll("input:checked")].map((it) => Number(it.value));
-        if (sources.length > 0 && sources.length <= MOST_SOURCES) page.choose({ sources });
-        else page.render();
-    });
+    byId("new-name").addEventListener("change", (event) => page.choose(page.choices.withFill(page.choices.fill.with({ newName: event.target.value.trim() || "New column" }))));
+    byId("header").addEventListener("change", (event) => page.choose(page.choices.with({ header: event.target.checked })));
+    byId("sources").addEventListener("change", () => page.read([...byId("sources").querySelectorAll("input:checked")].map((it) => Number(it.value))));
 }
 
-/** Shows the choices as they are. */
-export function showChoices(sheet, choices) {
-    const titles = Array.from({ length: sheet.width }, (_, index) => sheet.title(index + 1, choices.header));
+/** Shows the choices as they are. `page` is asked for more. */
+export function showChoices(page, sheet, choices) {
+    const { fill, fills } = choices;
+    const columns = choices.columns(sheet);
     byId("target").replaceChildren(
-        ...titles.map((title, index) => element("option", { value: index + 1, selected: choices.column === index + 1 }, title)),
-        element("option", { value: "new", selected: choices.column === null }, "a new column"),
+        ...columns.map((id) => element("option", { value: id, selected: fill.column === id }, choices.title(sheet, id))),
+        element("option", { value: "new" }, "a new column"),
     );
-    byId("new-name-choice").hidden = choices.column !== null || !choices.header;
-    byId("new-name").value = choices.newName;
+    byId("new-name-choice").hidden = !fill.isNew || !choices.header;
+    byId("new-name").value = fill.newName;
     byId("header").checked = choices.header;
-    const isFull = choices.sources.length >= MOST_SOURCES;
-    const chips = titles.slice(0, MOST_SHOWN).map((title, index) => {
-        const number = index + 1;
-        if (number === choices.column) return null;
-        const isRead = choices.sources.includes(number);
-        const box = element("input", { type: "checkbox", value: number, checked: isRead, disabled: isFull && !isRead });
-        return element("label", { class: "chip" }, box, element("span", {}, title));
+    showSources(sheet, choices);
+    byId("fills").hidden = fills.length < 2;
+    byId("fills").replaceChildren("Filled: ", ...fills.map((it, at) => {
+        const title = choices.title(sheet, it.column);
+        const isOn = at === choices.at;
+        return element("span", { class: "pair" },
+            element("button", { type: "button", class: "fill-tab", "aria-pressed": String(isOn), onclick: () => page.fillColumn(it.column) }, title),
+            element("button", { type: "button", class: "fill-tab", "aria-label": `Do not fill ${title}`, title: `Do not fill ${title}`, onclick: () => page.choose(choices.without(sheet, at)) }, "×"));
+    }));
+}
+
+function showSources(sheet, choices) {
+    const { sources } = choices.fill;
+    const readable = choices.readable(sheet);
+    const isFull = sources.length >= MOST_SOURCES;
+    const shown = readable.length > MOST_SHOWN ? readable.filter((it) => sources.includes(it)) : readable;
+    const chips = shown.map((id) => {
+        const isRead = sources.includes(id);
+        const box = element("input", { type: "checkbox", value: id, checked: isRead, disabled: isFull && !isRead });
+        return element("label", { class: "chip", title: isFull && !isRead ? `At most ${MOST_SOURCES} columns are read` : null }, box, element("span", {}, choices.title(sheet, id)));
     });
-    byId("sources").replaceChildren(...chips.filter((it) => it !== null));
+    const more = readable.length - shown.length;
+    const note = more > 0 ? `${more} more: choose in the column heads${isFull ? `, ${MOST_SOURCES} at most` : ""}` : isFull && readable.length > MOST_SOURCES ? `${MOST_SOURCES} at most` : null;
+    byId("sources").replaceChildren(...chips, ...(note ? [element("span", { class: "hint" }, note)] : []));
 }
 
-/** The choices with another column to fill; what was typed for the old one is not taken along. */
-export function withColumn(sheet, choices, column) {
-    const kept = choices.sources.filter((it) => it !== column);
-    const sources = kept.length > 0 ? kept : usualSources(sheet, column);
-    return choices.with({ column, sources, typed: new Map(), cleared: new Set() });
-}
-
-/** The states that a filter shows, and how it is called. */
+/** The rows that a filter shows, and how it is called. */
 export const FILTERS = [
-    { name: "given", states: [GIVEN], mark: STATE_MARKS[GIVEN] },
-    { name: "sure", states: [SURE], mark: STATE_MARKS[SURE] },
-    { name: "doubt", states: [DOUBT, NONE_DOUBT], mark: STATE_MARKS[DOUBT] },
-    { name: "none", states: [NONE], mark: STATE_MARKS[NONE] },
+    { name: "given", mark: STATE_MARKS[GIVEN], has: (filled, record) => filled.states[record] === GIVEN && !filled.refusals.has(record) },
+    { name: "refused", mark: "!", title: "not used", has: (filled, record) => filled.refusals.has(record) },
+    { name: "sure", mark: STATE_MARKS[SURE], has: (filled, record) => filled.states[record] === SURE },
+    { name: "doubt", mark: STATE_MARKS[DOUBT], has: (filled, record) => filled.states[record] === DOUBT || filled.states[record] === NONE_DOUBT },
+    { name: "none", mark: STATE_MARKS[NONE], has: (filled, record) => filled.states[record] === NONE },
 ];
+
+/** How many rows each filter has. */
+export function rowCounts({ counts, refusals }) {
+    return { given: counts[GIVEN] - refusals.size, refused: refusals.size, sure: counts[SURE], doubt: counts[DOUBT] + counts[NONE_DOUBT], none: counts[NONE] };
+}
 
 /** Shows how many rows have each state; a button shows these rows alone. */
 export function showStates(filled, filter, onFilter) {
-    if (filled?.isWhole && filled.counts[GIVEN] === 0) {
-        byId("chips").replaceChildren(element("span", { class: "hint" }, "Nothing is given yet: type what one cell of the green column should be."));
-        return;
+    const place = byId("chips");
+    if (!filled?.isWhole || filled.counts[GIVEN] === 0) {
+        const hint = filled?.isWhole ? "Nothing is given yet: type what one cell of the green column should be." : "";
+        return place.replaceChildren(element("span", { class: "hint" }, hint));
     }
-    const chips = FILTERS.map(({ name, states, mark }) => {
-        const count = states.reduce((sum, it) => sum + (filled?.counts[it] ?? 0), 0);
+    const counts = rowCounts(filled);
+    const chips = FILTERS.filter(({ name }) => name !== "refused" || counts.refused > 0).map(({ name, mark, title }) => {
         const isOn = filter === name;
-        const text = [element("span", { class: "dot", "aria-hidden": "true" }, mark), ` ${count.toLocaleString("en")} ${name}`];
-        const title = isOn ? "Show all rows" : `Show these rows alone: ${name}`;
-        return element("button", { type: "button", class: `state ${name}`, "aria-pressed": String(isOn), title, onclick: () => onFilter(isOn ? null : name) }, text);
+        const text = [element("span", { class: "dot", "aria-hidden": "true" }, mark), ` ${counts[name].toLocaleString("en")} ${title ?? name}`];
+        const what = isOn ? "Show all rows" : `Show these rows alone: ${title ?? name}`;
+        return element("button", { type: "button", class: `state ${name}`, "aria-pressed": String(isOn), title: what, onclick: () => onFilter(isOn ? null : name) }, text);
     });
     // the focus stays on the button that was pressed
-    const place = byId("chips");
     const focused = [...place.children].indexOf(document.activeElement);
     place.replaceChildren(...chips);
-    if (focused >= 0) place.children[focused].focus();
+    if (focused >= 0) place.children[focused]?.focus();
 }

@@ -1,4 +1,5 @@
 // The page's side of the worker. Of requests in one lane that wait, only the newest is sent.
+import { startWorker } from "./parts.js";
 
 export class Client {
     #worker = null;
@@ -16,12 +17,17 @@ export class Client {
     }
 
     #start() {
-        const worker = new Worker(new URL("./worker.js", import.meta.url), { type: "module" });
+        const worker = startWorker();
         this.#worker = worker;
         this.#ready = this.module.then((module) => worker.postMessage({ module }));
         this.#ready.catch(() => {}); // told by each request
         this.#worker.onmessage = ({ data }) => this.#ended(data);
         this.#worker.onerror = (event) => this.#ended({ id: this.#sent?.id, failed: event.message ?? "the worker could not start" });
+    }
+
+    /** The lane of the request that is on its way. */
+    get lane() {
+        return this.#sent?.lane ?? null;
     }
 
     /** Whether a request is on its way. */
@@ -34,24 +40,20 @@ export class Client {
         return this.isBusy ? performance.now() - this.#sentAt : 0;
     }
 
-    /** Holds a file for all later requests; without bytes it is forgotten. */
-    hold(name, bytes) {
-        if (bytes) this.#held.set(name, bytes);
-        else this.#held.delete(name);
-        return this.ask("hold", { name, bytes }, `hold ${name}`);
+    /** Holds these files for all later requests, bytes by name, and no others. */
+    hold(files) {
+        for (const name of [...this.#held.keys()].filter((it) => !files.has(it))) this.#hold(name, null);
+        for (const [name, bytes] of files) if (this.#held.get(name) !== bytes) this.#hold(name, bytes);
     }
 
-    /** Holds this file alone. */
-    holdOnly(name, bytes) {
-        this.#held.clear();
-        this.#held.set(name, bytes);
-        if (this.isBusy) this.stop();
-        else this.ask("hold", { name: null });
-        return this.ask("hold", { name, bytes });
+    #hold(name, bytes) {
+        if (bytes) this.#held.set(name, bytes);
+        else this.#held.delete(name);
+        this.ask("hold", { name, bytes }).catch(() => {}); // told by the request that needs the file
     }
 
     /**
-     * Sends a request, and answers what comes back; null where a newer one in the same lane has taken its place.
+     * Sends a request, and returns what comes back; null where a newer one in the same lane has taken its place.
      * Rejects where the engine could not be loaded, or stopped in the middle.
      */
     ask(kind, request, lane = null) {

@@ -1,13 +1,21 @@
-// CSV text: reading all of it, reading two of its columns, and writing cells that were pasted.
+// CSV text and copied cells: reading them into records, and writing records.
 
-/** Reads the field that begins at `at`: its text, and where the comma or line end behind it stands. */
-function fieldAt(text, at) {
-    if (text.charCodeAt(at) !== 34) {
-        let end = at;
+const QUOTE = 34;
+const LF = 10;
+const CR = 13;
+
+/** Reads the field that begins at `at`: its text, and where the separator or line end behind it stands. */
+function fieldAt(text, at, separator) {
+    const endFrom = (from) => {
+        let end = from;
         for (; end < text.length; end++) {
             const code = text.charCodeAt(end);
-            if (code === 44 || code === 10 || code === 13) break;
+            if (code === separator || code === LF || code === CR) break;
         }
+        return end;
+    };
+    if (text.charCodeAt(at) !== QUOTE) {
+        const end = endFrom(at);
         return { field: text.slice(at, end), end };
     }
     let field = "";
@@ -16,65 +24,66 @@ function fieldAt(text, at) {
         const quote = text.indexOf('"', from);
         if (quote < 0) return { field: field + text.slice(from), end: text.length };
         field += text.slice(from, quote);
-        if (text.charCodeAt(quote + 1) !== 34) return { field, end: quote + 1 };
+        if (text.charCodeAt(quote + 1) !== QUOTE) {
+            // what follows a closing quote belongs to the field as it stands
+            const end = endFrom(quote + 1);
+            return { field: field + text.slice(quote + 1, end), end };
+        }
         field += '"';
         from = quote + 2;
     }
 }
 
-/** Calls `each` with every record, a list of fields. A byte order mark and empty lines are passed over. */
-export function eachRecord(text, each) {
+/**
+ * Calls `each` with every record, a list of fields; it ends early if `each` returns false. A byte order mark and empty lines
+ * are passed over.
+ */
+export function eachRecord(text, each, separator = ",") {
+    const between = separator.charCodeAt(0);
     let at = text.charCodeAt(0) === 0xfeff ? 1 : 0;
     while (at < text.length) {
         const code = text.charCodeAt(at);
-        if (code === 10 || code === 13) {
+        if (code === LF || code === CR) {
             at++;
             continue;
         }
         const record = [];
         for (;;) {
-            const { field, end } = fieldAt(text, at);
+            const { field, end } = fieldAt(text, at, between);
             record.push(field);
             at = end + 1;
-            if (text.charCodeAt(end) !== 44) break;
+            if (text.charCodeAt(end) !== between) break;
         }
-        each(record);
+        if (each(record) === false) return;
     }
 }
 
-/** All records of a text. */
-export function recordsOf(text) {
+/** All records of a text, or the first ones, `most` at the most. */
+export function recordsOf(text, separator = ",", most = Infinity) {
     const records = [];
-    eachRecord(text, (record) => records.push(record));
+    eachRecord(text, (record) => records.push(record) < most, separator);
     return records;
 }
 
-function fieldText(field) {
-    return /[",\r\n]/.test(field) ? `"${field.replaceAll('"', '""')}"` : field;
-}
-
 /** The CSV text of records. A record with one empty field is quoted, so that it is no empty line. */
-export function textOf(records) {
-    return records.map((record) => (record.length === 1 && record[0] === "" ? '""' : record.map(fieldText).join(","))).join("\n") + "\n";
+export function textOf(records, separator = ",") {
+    const isQuoted = new RegExp(`["\\r\\n${separator}]`);
+    const fieldText = (field) => (isQuoted.test(field) ? `"${field.replaceAll('"', '""')}"` : field);
+    return records.map((record) => (record.length === 1 && record[0] === "" ? '""' : record.map(fieldText).join(separator))).join("\n") + "\n";
 }
 
-/** The records of cells that were copied in a spreadsheet: fields with tabs between them, quoted where they hold one. */
+/** The records of cells that were copied in a spreadsheet: fields with tabs between them, quoted where they hold one or a line end. */
 export function recordsOfCells(text) {
+    const quoted = /"((?:[^"]|"")*)"(?=[\t\r\n]|$)/y;
+    const plain = /[^\t\r\n]*/y;
     const records = [];
     let record = [];
     let at = 0;
     while (at <= text.length) {
-        let field = "";
-        let end = at;
-        if (text.charCodeAt(at) === 34 && /^"(?:[^"]|"")*"(?:[\t\r\n]|$)/.test(text.slice(at))) {
-            const whole = /^"((?:[^"]|"")*)"/.exec(text.slice(at));
-            field = whole[1].replaceAll('""', '"');
-            end = at + whole[0].length;
-        } else {
-            while (end < text.length && !"\t\r\n".includes(text[end])) end++;
-            field = text.slice(at, end);
-        }
-        record.push(field);
+        quoted.lastIndex = plain.lastIndex = at;
+        const found = quoted.exec(text);
+        record.push(found ? found[1].replaceAll('""', '"') : plain.exec(text)[0]);
+        let end = found ? quoted.lastIndex : plain.lastIndex;
         if (text[end] !== "\t") {
             records.push(record);
             record = [];
@@ -86,7 +95,8 @@ export function recordsOfCells(text) {
     return records;
 }
 
-/** The records of a pasted text: of a spreadsheet's cells where a tab stands in it, else of CSV. */
-export function recordsOfPasted(text) {
-    return text.includes("\t") ? recordsOfCells(text) : recordsOf(text);
+/** Records as a spreadsheet takes them from the clipboard. */
+export function cellsOf(records) {
+    const fieldText = (field) => (/^"|[\t\r\n]/.test(field) ? `"${field.replaceAll('"', '""')}"` : field);
+    return records.map((record) => record.map(fieldText).join("\t")).join("\n");
 }

@@ -19,3 +19,16 @@ export function element(tag, attributes = {}, ...children) {
 export function say(text) {
     byId("said").textContent = text;
 }
+
+/** Shows a note above the sheet, with buttons, pairs of a text and what it does; null takes it away. */
+export function notify(text, ...buttons) {
+    const place = byId("notice");
+    place.hidden = text === null;
+    if (text === null) return;
+    const close = () => {
+        place.hidden = true;
+    };
+    const made = buttons.map(([name, act]) => element("button", { type: "button", onclick: () => { close(); act(); } }, name));
+    place.replaceChildren(element("p", {}, text), element("p", { class: "row-of-buttons" }, ...made, element("button", { type: "button", "aria-label": "Close this note", onclick: close }, "Close")));
+    say(text);
+}

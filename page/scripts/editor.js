@@ -93,17 +93,19 @@ function stepOf({ key, ctrlKey, metaKey, shiftKey }, grid) {
 
 /**
  * Lets keys work on the sheet. `calls` has what they do: `type(text)` begins with a text, `edit()` goes on with what stands
- * there, and `clear()`.
+ * there, `clear()`, and `menu()` opens the column's menu. With Shift the keys that move pick cells.
  */
 export function listen(grid, calls) {
     grid.place.addEventListener("keydown", (event) => {
-        const { key, altKey, ctrlKey, metaKey, isComposing } = event;
+        const { key, altKey, ctrlKey, metaKey, shiftKey, isComposing } = event;
         if (isComposing || event.target !== grid.place) return;
         const isPlain = !ctrlKey && !metaKey && !altKey;
         const step = altKey ? null : stepOf(event, grid);
         let isDone = true;
-        if ((key === "Enter" && isPlain && !event.shiftKey) || key === "F2") calls.edit();
-        else if (step) grid.move(...step);
+        if ((key === "Enter" && isPlain && !shiftKey) || key === "F2") calls.edit();
+        else if (key === "ContextMenu" || (key === "F10" && shiftKey)) calls.menu();
+        else if ((ctrlKey || metaKey) && key.toLowerCase() === "a") grid.pickAll();
+        else if (step) grid.move(...step, shiftKey && key !== "Enter");
         else if (key === "Delete" || (key === "Backspace" && isPlain)) calls.clear();
         else if (isPlain && [...key].length === 1) calls.type(key);
         else isDone = false;

@@ -1,15 +1,10 @@
 // The engine: a request of bytes in, an answer of bytes out. What stands behind the call is proved; this file is only tested.
 
-/** What a browser must understand before it can run the engine: memory with addresses of 64 bits. */
-const MEMORY64 = new Uint8Array([0, 97, 115, 109, 1, 0, 0, 0, 5, 3, 1, 4, 1]);
-
-/** Whether this browser can run the engine. */
-export const canRun = () => typeof WebAssembly === "object" && WebAssembly.validate(MEMORY64);
-
 /** The engine's memory never shrinks: where it has more bytes than this after a call, the next call begins with a new one. */
 const MOST_KEPT = 256 * 1024 * 1024;
 
 const encoder = new TextEncoder();
+const NONE = new Uint8Array();
 
 /** The bytes of a request: the program, its words, and each file by its name. A number has eight bytes, the lowest first. */
 function requestOf(program, words, files) {
@@ -40,13 +35,6 @@ function requestOf(program, words, files) {
     return request;
 }
 
-/** Fetches and compiles the engine's module. */
-export async function loadModule(url) {
-    const response = await fetch(url);
-    if (!response.ok) throw new Error(`the engine could not be loaded: ${response.status} ${response.statusText}`);
-    return WebAssembly.compile(await response.arrayBuffer());
-}
-
 /** The engine over a module. */
 export class Engine {
     constructor(module) {
@@ -56,14 +44,14 @@ export class Engine {
 
     /**
      * Runs `fillcsv` or `flashfill` with the words after its name over files, bytes by name.
-     * Answers its status and the bytes of its output, of its errors and of the file that it saved. The file `-` is standard input.
+     * Returns its status and the bytes of its output, of its errors and of the file that it saved. The file `-` is standard input.
      * Throws where the engine stops in the middle.
      */
     run(program, words, files) {
         const request = requestOf(program, words, files);
         try {
             this.calls ??= new WebAssembly.Instance(this.module, {}).exports;
-            let size = 3 * request.length + 1024 * 1024;
+            let size = 2 * request.length + 1024 * 1024;
             for (;;) {
                 const answer = this.#answer(request, size);
                 if (answer.needed <= size) return answer;
@@ -83,8 +71,7 @@ export class Engine {
         reset();
         const from = room(BigInt(request.length));
         const to = room(BigInt(size));
-        const none = new Uint8Array();
-        if (from === 0n || to === 0n) return { needed: 0, status: 6, out: none, err: none, saved: none };
+        if (from === 0n || to === 0n) return { needed: 0, status: 6, out: NONE, err: NONE, saved: NONE };
         new Uint8Array(memory.buffer).set(request, Number(from));
         const needed = Number(call(from, BigInt(request.length), to, BigInt(size)));
         if (needed > size) return { needed };

@@ -1,4 +1,4 @@
-// The sheet of a first visit: two labels are given, one guess is wrong, and one row has no city.
+// The sheet of a first visit: three labels are given, the guesses where a name has three parts are wrong, and one row has no city.
 
 export const EXAMPLE = {
     name: "people.csv",
@@ -12,7 +12,7 @@ Emil Artin,artin@ring.de,,
 Marie Curie,marie@radium.fr,Paris,
 Kurt Gödel,kurt@proof.at,Brno,
 Ada M Turing,a.turing@machine.uk,London,
-Niels Bohr,niels@orbit.dk,Kopenhagen,
+Niels Bohr,niels@orbit.dk,Kopenhagen,Bohr (Kopenhagen)
 Sofia Kowalewski,sofia@wave.se,Stockholm,
 Otto R Frisch,otto@split.uk,Wien,
 `,

@@ -1,154 +1,254 @@
-// Asks the engine for the filled column and for the reasons of doubts. Three workers: one fills the whole sheet; one fills the
-// rows in view, so that they follow in a large sheet while one types; one finds reasons.
-import { filledOf, problemOf } from "./answers.js";
+// Asks the engine for filled columns. Three workers: one fills whole sheets; one fills the rows in view, so that they follow in a
+// large sheet while one types; one finds reasons.
+import { countsOf, isDoubtful, linesOf, nextIn, problemOf, toldIn } from "./answers.js";
 import { Client } from "./client.js";
 import { textOf } from "./csv.js";
-import { loadModule } from "./engine.js";
-import { explain } from "./explain.js";
-import { partOf } from "./model.js";
+import { learningOf } from "./learning.js";
+import { loadModule } from "./parts.js";
 import { fileWord, shownWords } from "./words.js";
 
 /** Of a sheet with more records the rows in view are filled first. */
 const LARGE = 400;
 /** With more given cells a part of the sheet has not the same examples. */
-const MOST_EXAMPLES = 64;
-/** Where the whole sheet takes longer than this, it waits until typing pauses for so many milliseconds. */
+export const MOST_EXAMPLES = 64;
+/** Where the whole sheet takes longer than this, it waits until typing pauses for so many milliseconds; so does what is told. */
 const SLOW = 150;
 const PAUSE = 250;
-/** A reason that takes longer is given up where another one is asked for. */
+/** With more doubts the engine names no row to look at next. */
+const MOST_DOUBTS = 1000;
+/** What is told in these lanes can wait. It is given up after so many milliseconds for something else, and in any case after `LONGEST`. */
+const PATIENT = ["suggest", "groups"];
 const PATIENCE = 700;
+const LONGEST = 30_000;
 
 const pause = (time) => new Promise((resolve) => setTimeout(resolve, time));
 
 export class Filling {
     #turn = 0;
-    #viewTurn = 0;
     #took = 0;
+    #bytes = new WeakMap();
+    #results = new Map();
 
-    /** `calls.onFilled(filled, isWhole)` gets what to show, `calls.onProblem(text)` why there is nothing, `calls.onBusy()` any change of that. */
+    /**
+     * `calls.onFilled(filled, isWhole)` gets the column that is worked on, `calls.onOther()` comes with any other column,
+     * `calls.onTold(filled)` with more that is known of it, `calls.onProblem(text)` tells why there is nothing.
+     */
     constructor(calls) {
         this.calls = calls;
-        const module = loadModule(new URL("../engine.wasm", import.meta.url));
+        const module = loadModule();
         this.client = new Client(module);
         this.quick = new Client(module);
         this.reasons = new Client(module);
-        this.filled = null;
-        this.bytes = null;
-        this.held = null;
-    }
-
-    get isBusy() {
-        return this.client.isBusy;
     }
 
     stop() {
         this.client.stop();
     }
 
-    get workers() {
-        return [this.client, this.quick, this.reasons];
+    /** Opens a file as a sheet: how it came, its records, or why it is none. */
+    open(name, bytes, separator = null) {
+        return this.quick.ask("open", { name, bytes, separator });
     }
 
-    /** Holds a table in all workers. */
-    hold(name, bytes) {
-        return Promise.all(this.workers.map((it) => it.hold(name, bytes)));
+    /** The bytes of a sheet's file. */
+    bytesOf(sheet) {
+        if (sheet === sheet.origin) return sheet.source.bytes;
+        if (!this.#bytes.has(sheet)) this.#bytes.set(sheet, new TextEncoder().encode(textOf(sheet.records)));
+        return this.#bytes.get(sheet);
     }
 
-    /** Opens a file as a sheet: its status, lines and records. Where it has records, all other files are forgotten. */
-    async open(name, bytes) {
-        const answer = await this.quick.ask("open", { word: name, more: [[name, bytes]] });
-        if (answer.records.length === 0) return answer;
-        this.filled = null;
-        this.bytes = bytes;
-        this.held = null;
+    /** Lets the workers hold a sheet and the tables; parts of the sheet come with their requests. */
+    hold(sheet, choices) {
+        const tables = choices.tables.map(({ file, bytes }) => [file, bytes]);
+        this.client.hold(new Map([[fileWord(sheet.name), this.bytesOf(sheet)], ...tables]));
+        for (const it of [this.quick, this.reasons]) it.hold(new Map(tables));
+    }
+
+    /** What is filled in a column, up to date or not; null where it was not filled yet. */
+    resultOf(column) {
+        return this.#results.get(column) ?? null;
+    }
+
+    /** Forgets all that was filled: another sheet is shown. */
+    forget() {
         this.#turn++;
-        // parts of the sheet come with their requests
-        this.quick.holdOnly(name, new Uint8Array());
-        this.reasons.holdOnly(name, new Uint8Array());
-        await this.client.holdOnly(name, bytes);
-        return answer;
+        this.#results.clear();
     }
 
-    /** Fills by these choices; what was asked before is no longer waited for. `inView` are the records in view. */
+    /** What the fill at a place asks; null where columns that it reads are not filled yet. */
+    learning(sheet, choices, at = choices.at) {
+        return learningOf(sheet, choices, at, (column) => (this.#isFresh(sheet, choices, column) ? this.#results.get(column).texts : null));
+    }
+
+    /** Whether a column is filled by the choices as they are. */
+    #isFresh(sheet, choices, column) {
+        const result = this.#results.get(column);
+        if (!result?.isWhole || result.fresh !== null) return false;
+        const at = choices.fills.findIndex((it) => it.column === column);
+        const learning = this.learning(sheet, choices, at);
+        const made = result.learning;
+        return learning !== null && learning.sheet === made.sheet && learning.fill === made.fill && learning.header === made.header && learning.tables === made.tables && learning.depth === made.depth;
+    }
+
+    /**
+     * Fills by these choices: the column that is worked on, those before it that it reads first, the others afterwards. What
+     * was asked before is no longer waited for. `inView` are the records in view.
+     */
     async fill(sheet, choices, inView, isTyping) {
         const turn = ++this.#turn;
+        this.hold(sheet, choices);
+        for (const column of [...this.#results.keys()]) if (!choices.fillOf(column)) this.#results.delete(column);
         try {
-            if (sheet.records.length > LARGE && this.filled?.isWhole) {
-                this.#fillView(turn, sheet, choices, inView);
+            for (let at = 0; at < choices.at; at++) await this.#others(turn, sheet, choices, at, choices.fill.sources);
+            if (turn !== this.#turn) return;
+            const learning = this.learning(sheet, choices);
+            if (learning === null) return this.calls.onProblem("A column that this one reads cannot be filled.");
+            const known = this.resultOf(choices.fill.column);
+            if (sheet.records.length > LARGE && known?.isWhole && known.learning.sheet.origin === sheet.origin) {
+                this.#fillView(turn, learning, inView);
                 if (isTyping && this.#took > SLOW) await pause(PAUSE);
                 if (turn !== this.#turn) return;
             }
-            await this.#fillAll(turn, sheet, choices);
+            await this.#fillAll(turn, learning, sheet);
+            if (turn !== this.#turn) return;
+            if (isTyping) await pause(PAUSE);
+            if (turn !== this.#turn) return;
+            await this.#tell(turn, learning);
+            if (isTyping) return;
+            for (let at = 0; at < choices.fills.length; at++) await this.#others(turn, sheet, choices, at, null);
+            await this.#suggest(turn, learning);
         } catch (error) {
             if (turn === this.#turn) this.calls.onProblem(error.message);
         }
     }
 
-    /** Holds a sheet with its corrections; as it was opened, its file is held byte for byte. */
-    #holdSheet(sheet) {
-        if (sheet === (this.held ?? sheet.origin)) return;
-        this.held = sheet;
-        this.client.hold(fileWord(sheet.name), sheet === sheet.origin ? this.bytes : sheetBytes(sheet));
+    /** Asks for a column of a sheet; a sheet that is not held comes along. */
+    async #ask(client, learning, sheet, lane) {
+        const more = learning.sheet === sheet ? null : [[fileWord(learning.sheet.name), this.bytesOf(learning.sheet)]];
+        return client.ask("fill", { words: shownWords(learning, true), column: learning.place, header: learning.header, more }, lane);
     }
 
-    async #fillAll(turn, sheet, choices) {
+    /** Fills a column that is not worked on, if it is not up to date; where `sources` are handed in, only if it is one of these. */
+    async #others(turn, sheet, choices, at, sources) {
+        const { column } = choices.fills[at];
+        if (turn !== this.#turn || at === choices.at || (sources && !sources.includes(column)) || this.#isFresh(sheet, choices, column)) return;
+        for (let before = 0; before < at; before++) await this.#others(turn, sheet, choices, before, choices.fills[at].sources);
+        const learning = this.learning(sheet, choices, at);
+        if (learning === null) return;
+        const answer = await this.#ask(this.client, learning, sheet, null);
+        if (answer === null || turn !== this.#turn) return;
+        this.#results.set(column, filledOf(answer, learning, {}));
+        this.calls.onOther();
+    }
+
+    async #fillAll(turn, learning, sheet) {
         const began = performance.now();
-        this.#holdSheet(sheet);
-        const request = { words: shownWords(sheet, choices), column: choices.place(sheet), header: choices.header };
-        const asked = this.client.ask("fill", request, "fill");
-        this.calls.onBusy();
-        const answer = await asked.finally(() => this.calls.onBusy());
-        if (answer === null || turn < this.#viewTurn || this.filled?.turn > turn) return;
+        const answer = await this.#ask(this.client, learning, sheet, "fill");
+        if (answer === null || turn !== this.#turn) return;
         this.#took = performance.now() - began;
-        this.filled = { ...filledOf(answer, choices.header), sheet, turn, fresh: null, took: this.#took };
-        this.calls.onFilled(this.filled, true);
-        this.calls.onProblem(this.filled.isWhole ? null : problemOf(answer));
+        const before = this.resultOf(learning.fill.column);
+        const filled = filledOf(answer, learning, { ...before, took: this.#took });
+        this.#results.set(learning.fill.column, filled);
+        this.calls.onFilled(filled, true);
+        this.calls.onProblem(filled.isWhole ? null : problemOf(answer));
     }
 
     /** Fills the rows in view, and shows them among what was filled before. */
-    async #fillView(turn, sheet, choices, inView) {
-        const given = choices.allGiven(sheet).map(([record]) => record);
-        if (given.length > MOST_EXAMPLES) return;
-        const began = performance.now();
-        const records = [...new Set([...(choices.header ? [0] : []), ...given, ...inView])].sort((a, b) => a - b);
-        const part = partOf(sheet, choices, records);
-        const answer = await this.quick.ask("fill", partRequest(part), "view").catch(() => null);
-        if (answer === null || answer.status > 1 || turn !== this.#turn || this.filled?.sheet.origin !== sheet.origin || this.filled.turn >= turn) return;
-        this.#viewTurn = turn;
-        const { filled } = this;
-        const texts = filled.texts.slice();
-        const states = filled.states.slice();
+    async #fillView(turn, learning, inView) {
+        const records = recordsWith(learning, inView);
+        if (records === null) return;
+        const answer = await this.#askPart(this.quick, learning.part(records).learning, "view").catch(() => null);
+        const before = this.resultOf(learning.fill.column);
+        if (answer === null || answer.status > 1 || turn !== this.#turn || !before || before.learning === learning) return;
+        const texts = before.texts.slice();
+        const states = before.states.slice();
         records.forEach((record, at) => {
             texts[record] = answer.texts[at];
             states[record] = answer.states[at];
         });
-        const refusals = new Map([...filledOf(answer, choices.header).refusals].map(([at, reason]) => [records[at], reason]));
-        this.filled = { ...filled, texts, states, refusals, fresh: new Set(records), turn: turn - 0.5, took: performance.now() - began };
-        this.calls.onFilled(this.filled, false);
+        const filled = { ...before, texts, states, fresh: new Set(records) };
+        this.#results.set(learning.fill.column, filled);
+        this.calls.onFilled(filled, false);
     }
 
-    /** Why a cell is in doubt; null where a newer question took its place. A question that takes long is given up for it. */
-    explain(sheet, choices, filled, record) {
-        const examples = choices.allGiven(sheet).filter(([it]) => !filled.refusals.has(it)).slice(0, MOST_EXAMPLES);
-        const records = [...new Set([...(choices.header ? [0] : []), ...examples.map(([it]) => it), record])].sort((a, b) => a - b);
-        const part = partOf(sheet, choices, records);
-        const request = partRequest(part);
-        request.words.push("--explain");
-        if (this.reasons.busyFor > PATIENCE) this.reasons.stop();
-        return explain(this.reasons, request, choices.header, part.places.get(record), { text: filled.texts[record], state: filled.states[record] });
+    #askPart(client, part, lane, { kind = "fill", words = shownWords(part, true) } = {}) {
+        const more = [[fileWord(part.sheet.name), new TextEncoder().encode(textOf(part.sheet.records))]];
+        return client.ask(kind, { words, column: part.place, header: part.header, more }, lane);
+    }
+
+    /**
+     * What the engine tells of a part of the sheet with these records and all examples: its lines, and the part's records. Null
+     * where it is not asked, or given up. What a person waits for takes the place of what takes long and can wait.
+     */
+    async tellOf(learning, more, options, lane) {
+        const isPatient = PATIENT.includes(lane);
+        const records = recordsWith(learning, more);
+        if (records === null) return null;
+        const { learning: part } = learning.part(records);
+        const words = [...shownWords(part), ...options];
+        if (!isPatient && this.reasons.busyFor > PATIENCE && [lane, ...PATIENT].includes(this.reasons.lane)) this.reasons.stop();
+        const asked = this.#askPart(this.reasons, part, lane, { kind: "tell", words });
+        const end = isPatient ? setTimeout(() => this.reasons.lane === lane && this.reasons.stop(), LONGEST) : null;
+        const answer = await asked.finally(() => clearTimeout(end));
+        return answer === null || answer.status > 1 ? null : { lines: linesOf(answer.lines), records };
+    }
+
+    /** Finds the rule, and which examples are not learned from. They depend on the examples alone. */
+    async #tell(turn, learning) {
+        const { column } = learning.fill;
+        let told = await this.tellOf(learning, [], [], "tell");
+        if (told === null && turn === this.#turn) {
+            const answer = await this.client.ask("tell", { words: shownWords(learning) }, "tell");
+            if (answer !== null && answer.status <= 1) told = { lines: linesOf(answer.lines), records: null };
+        }
+        const filled = this.resultOf(column);
+        if (told === null || turn !== this.#turn || filled?.learning !== learning) return;
+        const { refusals, rule, notes } = toldIn(told.lines);
+        const places = told.records;
+        const known = places ? new Map([...refusals].map(([at, reason]) => [places[at], reason])) : refusals;
+        const better = { ...filled, refusals: known, rule, notes };
+        this.#results.set(column, better);
+        this.calls.onTold(better);
+    }
+
+    /** Finds the row to look at next. */
+    async #suggest(turn, learning) {
+        const filled = this.resultOf(learning.fill.column);
+        if (turn !== this.#turn || filled?.learning !== learning || !filled.isWhole) return;
+        const doubtful = [];
+        for (let record = learning.header ? 1 : 0; record < filled.states.length && doubtful.length <= MOST_DOUBTS; record++) if (isDoubtful(filled.states[record])) doubtful.push(record);
+        if (doubtful.length < 2 || doubtful.length > MOST_DOUBTS) return;
+        const told = await this.tellOf(learning, doubtful, [], "suggest");
+        const now = this.resultOf(learning.fill.column);
+        if (told === null || turn !== this.#turn || now.learning !== learning) return;
+        const at = nextIn(told.lines);
+        const better = { ...now, next: at === null ? null : told.records[at] };
+        this.#results.set(learning.fill.column, better);
+        this.calls.onTold(better);
     }
 
     /** Runs a program with words of its own; files of one request alone can be handed along. */
     run(program, words, more = null) {
         return this.client.ask("run", { program, words, more });
     }
+
+    /** The result's bytes, by these steps. */
+    result(steps, format) {
+        return this.client.ask("result", { steps, format });
+    }
 }
 
-/** The bytes of a sheet's file. */
-export const sheetBytes = (sheet) => new TextEncoder().encode(textOf(sheet.records));
+/** These records with the header and all given ones, from the top down; null where there are more examples than a part can have. */
+function recordsWith(learning, more) {
+    const given = learning.allGiven().map(([record]) => record);
+    if (given.length > MOST_EXAMPLES) return null;
+    return [...new Set([...(learning.header ? [0] : []), ...given, ...more])].sort((a, b) => a - b);
+}
 
-/** The request that fills a part of a sheet. */
-function partRequest({ sheet, choices }) {
-    const more = [[fileWord(sheet.name), sheetBytes(sheet)]];
-    return { words: shownWords(sheet, choices), column: choices.place(sheet), header: choices.header, more };
+/** A filled column; what was told before stays until it is told anew. `fresh` are the records that are up to date where not all are. */
+function filledOf(answer, learning, { refusals = new Map(), rule = [], notes = [], took = 0 }) {
+    const isWhole = answer.status <= 1;
+    const counts = isWhole ? countsOf(answer.states, learning.header) : [0, 0, 0, 0, 0];
+    const stillGiven = new Map([...refusals].filter(([record]) => learning.fill.given(learning.sheet, record) !== null));
+    return { isWhole, texts: answer.texts, states: answer.states, counts, refusals: stillGiven, rule, notes, next: null, learning, fresh: null, took };
 }

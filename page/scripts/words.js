@@ -1,16 +1,19 @@
-// The words of `fillcsv` for what was chosen. What the page fills and the line that it copies are made of the same words.
+// The words of `fillcsv` for what was chosen. What the page fills and the lines that it copies are made of the same words.
 
 /** The word that names a file; one that begins with a hyphen would be an option. */
 export const fileWord = (name) => (name.startsWith("-") ? `./${name}` : name);
 
+/** So many columns can be named. */
+const MOST_NAMED = 1000;
+
 /** The word that names a column: its name where that is plain and names no other column, else its number. */
-function columnWord(sheet, header, column) {
-    const names = header ? sheet.records[0].slice(0, 1000) : [];
-    const name = names[column - 1] ?? "";
+function columnWord(names, column) {
+    const known = names.slice(0, MOST_NAMED);
+    const name = known[column - 1] ?? "";
     const isPlain = name !== "" && name === name.trim() && !/[,\r\n]/.test(name) && !/^\d+$/.test(name);
-    if (isPlain && names.filter((it) => it === name).length === 1) return name;
+    if (isPlain && known.filter((it) => it === name).length === 1) return name;
     const number = String(column);
-    if (names.includes(number) && names[column - 1] !== number) throw new Error(`column ${number} cannot be named, since another column is called “${number}”`);
+    if (known.includes(number) && known[column - 1] !== number) throw new Error(`column ${number} cannot be named, since another column is called “${number}”`);
     return number;
 }
 
@@ -18,7 +21,7 @@ function columnWord(sheet, header, column) {
 const option = (name, value) => (value.startsWith("-") || value === "" ? [`${name}=${value}`] : [name, value]);
 
 /** The options for lookup tables. */
-function tableWords(tables, depth) {
+function tableWords({ tables, depth }) {
     const words = [];
     for (const { name, file, keys } of tables) {
         words.push(...option("--table", `${name}=${file}`));
@@ -27,39 +30,80 @@ function tableWords(tables, depth) {
     return tables.length > 0 && depth !== 1 ? [...words, "--depth", String(depth)] : words;
 }
 
-/** The words for what is shown: all texts, and their states. */
-export const shownWords = (sheet, choices) => [...fillWords(sheet, choices), "--state"];
-
-/** The words for the result, as it is downloaded. */
-export function resultWords(sheet, choices) {
-    const words = fillWords(sheet, choices);
-    if (choices.onlySure) words.push("--only", "sure");
-    if (choices.withStates) words.push("--state");
+/**
+ * The words that fill a column of a file. `names` are its column names, none where it has no header; `column` and `sources`
+ * are numbers in it, and the column null where it is new. `given` are all its examples, which are asked for where the
+ * column's own texts are replaced.
+ */
+function fillWords(file, names, { column, sources, fill, header, tables, depth }, given) {
+    const words = [file];
+    words.push(...(column === null ? option("--new", fill.newName) : option("--to", columnWord(names, column))));
+    words.push(...option("--from", sources.map((it) => columnWord(names, it)).join(",")));
+    if (!header) words.push("--no-header");
+    const isReplaced = fill.cleared.size > 0;
+    if (isReplaced) words.push("--replace");
+    const examples = isReplaced ? given() : [...fill.typed].filter(([record]) => !header || record > 0);
+    for (const [record, text] of examples.sort(([a], [b]) => a - b)) words.push(...option("--example", `${record + 1}=${text}`));
+    words.push(...tableWords({ tables, depth }));
     return words;
 }
+
+const namesOf = (sheet, header) => (header ? (sheet.records[0] ?? []) : []);
+
+/** The words that fill one column of the sheet that it reads. */
+const learningWords = (learning) => fillWords(fileWord(learning.sheet.name), namesOf(learning.sheet, learning.header), learning, () => learning.allGiven());
+
+/** The words for what is shown: all texts, and their states. With `isQuiet` nothing is told beside them. */
+export const shownWords = (learning, isQuiet = false) => [...learningWords(learning), "--state", ...(isQuiet ? ["--quiet"] : [])];
 
 /** The words that save the rule under a name, and those that run it. */
-export function ruleWords(sheet, choices, name) {
+export function ruleWords(learning, name) {
     const file = fileWord(name);
-    return { words: [...fillWords(sheet, choices), "--save", file], run: ["--rule", file] };
+    return { words: [...learningWords(learning), "--save", file], run: ["--rule", file] };
 }
 
-function fillWords(sheet, choices) {
-    const { header, column, newName, sources, typed, cleared, tables, depth } = choices;
-    const words = [fileWord(sheet.name)];
-    words.push(...(column === null ? option("--new", newName) : option("--to", columnWord(sheet, header, column))));
-    words.push(...option("--from", sources.map((it) => columnWord(sheet, header, it)).join(",")));
-    if (!header) words.push("--no-header");
-    const isReplaced = cleared.size > 0;
-    if (isReplaced) words.push("--replace");
-    const examples = isReplaced ? choices.allGiven(sheet) : [...typed].filter(([record]) => !header || record > 0);
-    for (const [record, text] of examples.sort(([a], [b]) => a - b)) words.push(...option("--example", `${record + 1}=${text}`));
-    words.push(...tableWords(tables, depth));
-    return words;
+const baseOf = (name) => name.replace(/\.(csv|txt|tsv|tab)$/i, "");
+
+/** The name under which the result of a sheet is handed out. */
+export const filledName = (name) => `${baseOf(name)}-filled${/\.(?:tsv|tab)$/i.exec(name)?.[0] ?? ".csv"}`;
+
+/**
+ * The runs of `fillcsv` that make the result, one for each column that is filled: the words of each, the file that it reads
+ * and the one that it writes. Each reads what the one before wrote.
+ */
+export function resultSteps(sheet, choices) {
+    const { header, fills, onlySure, withStates, tables, depth } = choices;
+    const shown = fills.filter((it) => fills.length === 1 || it.allGiven(sheet, header).length > 0);
+    const names = namesOf(sheet, header).slice();
+    let width = sheet.width;
+    const numbers = new Map();
+    let reads = sheet.name;
+    return shown.map((fill, at) => {
+        const isLast = at === shown.length - 1;
+        const column = fill.isNew ? null : fill.column;
+        const sources = fill.sources.map((it) => numbers.get(it) ?? it);
+        const words = fillWords(fileWord(reads), names.slice(), { column, sources, fill, header, tables, depth }, () => fill.allGiven(sheet, header));
+        if (onlySure) words.push("--only", "sure");
+        if (withStates) words.push("--state");
+        const step = { words, reads, writes: isLast ? filledName(sheet.name) : `${baseOf(sheet.name)}-${at + 1}.csv` };
+        const title = fill.isNew ? fill.newName : (names[fill.column - 1] ?? "");
+        if (fill.isNew) numbers.set(fill.column, ++width);
+        if (header && fill.isNew) names[width - 1] = fill.newName;
+        if (withStates) width++;
+        if (withStates && header) names[width - 1] = `${title} state`;
+        reads = step.writes;
+        return step;
+    });
 }
 
 /** A word as a shell takes it. */
 export const shellWord = (word) => (/^[\w@%+=:,./-]+$/.test(word) ? word : `'${word.replaceAll("'", "'\\''")}'`);
 
-/** One line for a shell that writes the same bytes by the proved program. */
+/** One line for a shell that runs the proved program. */
 export const shellLine = (words) => ["./fillcsv", ...words].map(shellWord).join(" ");
+
+/** The lines for a shell that write the same bytes; of several, each writes a file that the next one reads. */
+export function shellLines(steps) {
+    if (steps.length === 1) return shellLine(steps[0].words);
+    return steps.map(({ words, writes }) => `${shellLine(words)} > ${shellWord(fileWord(writes))}`).join("\n");
+}

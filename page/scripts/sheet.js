@@ -1,0 +1,90 @@
+// A sheet as it was opened, and how it is read at first: whether it has a header, and which column is to be filled.
+
+/** A sheet as the engine reads it. Records are counted from 0, the header among them. `origin` is the sheet as it was opened. */
+export class Sheet {
+    /** `source` of a sheet that was opened: its `bytes` as the engine gets them, the `format` of its file, and `came`, the name of that. */
+    constructor(name, records, { origin = null, source = null } = {}) {
+        this.name = name;
+        this.records = records;
+        this.origin = origin ?? this;
+        this.source = source ?? origin?.source ?? null;
+        this.width = records.reduce((most, record) => Math.max(most, record.length), 0);
+    }
+
+    /** The text of a cell; columns are counted from 1. */
+    text(record, column) {
+        return this.records[record]?.[column - 1] ?? "";
+    }
+
+    /** The sheet with other texts in some cells: texts by column, by record. */
+    with(corrected) {
+        if (corrected.size === 0) return this;
+        const records = this.records.slice();
+        for (const [record, texts] of corrected) {
+            const cells = records[record].slice();
+            for (const [column, text] of texts) {
+                while (cells.length < column) cells.push("");
+                cells[column - 1] = text;
+            }
+            records[record] = cells;
+        }
+        return new Sheet(this.name, records, { origin: this.origin });
+    }
+
+    /** The sheet with whole columns replaced or added: pairs of a number and the texts of all records. */
+    withColumns(columns) {
+        const records = this.records.map((record, at) => {
+            const cells = record.slice();
+            for (const [column, texts] of columns) {
+                while (cells.length < column) cells.push("");
+                cells[column - 1] = texts[at];
+            }
+            return cells;
+        });
+        return new Sheet(this.name, records, { origin: this.origin });
+    }
+
+    /** What a column is called on the page. */
+    title(column, header) {
+        const name = header ? this.text(0, column).trim() : "";
+        return name || `Column ${column}`;
+    }
+}
+
+const isNumber = (text) => /^[\s$€£¥+-]*[\d.,]*\d[\d.,]*\s*%?$/.test(text);
+
+/** The kinds of characters of a text, a sign for each run: so texts that are built alike have one shape. */
+const shapeOf = (text) => text.trim().replace(/\p{Lu}\p{Ll}+|\p{L}+/gu, "a").replace(/\d+/g, "0");
+
+/** Whether the first text of a column is built like those below, and not from one word alone: so it is no name of the column. */
+function isLikeThoseBelow(records, column) {
+    const shape = shapeOf(records[0][column] ?? "");
+    if (/^a?$/.test(shape)) return false;
+    const below = records.slice(1, 101).map((it) => it[column] ?? "").filter((it) => it !== "");
+    return below.length > 0 && below.filter((it) => shapeOf(it) === shape).length >= 0.7 * below.length;
+}
+
+/**
+ * Whether a sheet's first record looks like names of columns: all different, none empty, no number, and no text is built
+ * like those below it.
+ */
+export function looksLikeHeader({ records, width }) {
+    const first = records[0] ?? [];
+    const names = first.map((it) => it.trim());
+    const isNamed = names.length === width && new Set(names).size === names.length && names.every((it) => it !== "" && !isNumber(it));
+    return records.length > 1 && isNamed && !names.some((_, column) => isLikeThoseBelow(records, column));
+}
+
+/** A column with more texts than this is not taken for one that is to be filled. */
+const MOST_EXAMPLES = 8;
+
+/** The last column that has few texts, or none at all; null where there is no such column. */
+export function columnToFill(sheet, header) {
+    if (sheet.width < 2) return null;
+    const rows = sheet.records.slice(header ? 1 : 0);
+    for (let column = sheet.width; column >= 1; column--) {
+        const filled = rows.filter((record) => (record[column - 1] ?? "") !== "").length;
+        if (filled < rows.length && filled <= MOST_EXAMPLES) return column;
+    }
+    return null;
+}
