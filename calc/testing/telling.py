@@ -14,7 +14,7 @@ def url(path):
 def check_the_bar_tells_all(it):
     sheet = it.example("people.csv").run("fill", "D3")
     assert sheet.told == 'Fill by Example: 3 filled, 2 to check, 1 left empty. Rule: Name after the first space, " (", City, ")". Row 5: “A Noether (Erlangen)” or “Noether (Erlangen)”?'
-    assert sheet.buttons == ["1: A Noether (Erlangen)", "2: Noether (Erlangen)", "Next to Check", "Columns...", "Row 1 Is No Header", "Clear Marks"]
+    assert sheet.buttons == ["1: A Noether (Erlangen)", "2: Noether (Erlangen)", "Next to Check", "Columns", "Row 1 Is No Header", "Clear Marks"]
     sheet.run("second#bar", "A1")  # the bar's buttons mean its column, wherever the selection is
     assert sheet.texts("D5:D5") == ["Noether (Erlangen)"]
 
