@@ -41,11 +41,14 @@ def follows_typing(trial):
     trial.start()
     trial.open_file(EXAMPLES / "people.csv")
     trial.pick(4, [1, 3])
-    before = trial.shown()
     trial.go_to(4)
+    trial.browser.press("Delete")  # row 2 is the one example then, and may have any text
+    trial.settle()
+    before = trial.shown()
+    trial.go_to(2)
     trial.browser.press("F2")
     trial.browser.press("Control+a")
-    trial.browser.type("Meitner")
+    trial.browser.type("Byron")
     trial.settle()
     during = trial.shown()
     assert during[3][0] != before[3][0], during
