@@ -119,7 +119,7 @@ def filled(random):
     words += ["--from", random.choice(COLUMNS)] if random.random() < 0.5 else []
     words += [it for it in ("--state", "--no-header", "--only=sure", "--profile=2", "--explain", "--help", "--what") if random.random() < 0.2]
     words += random.choice([[]] * 2 + [["--table=months=months.csv", "--key=months:1"], ["--table=m=gone.csv"], ["--key=m:1,1"], ["--key=m:2"]])
-    words += [f"--save={SAVED}"] if random.random() < 0.4 else []
+    words += [f"--save-rule={SAVED}"] if random.random() < 0.4 else []
     files = dict(EXAMPLES)
     if random.random() < 0.5:
         files["people.csv"] = damaged(random, files["people.csv"], random.randrange(1, 5))
@@ -168,7 +168,7 @@ def random_request(random):
 def main(programs, number, seed):
     made = random.Random(seed)
     requests = [engine.request_of("flashfill", ["replay", it], EXAMPLES) for it in SESSIONS]
-    requests += [engine.request_of("fillcsv", ["people.csv", "--to=Label", f"--save={SAVED}"], EXAMPLES)]
+    requests += [engine.request_of("fillcsv", ["people.csv", "--to=Label", f"--save-rule={SAVED}"], EXAMPLES)]
     requests += [random_request(made) for _ in range(number)]
 
     def differs(request):

@@ -11,7 +11,7 @@ sys.path.insert(0, os.path.dirname(os.path.dirname(os.path.realpath(__file__))))
 from release.told import help_of, text_at  # noqa: E402
 
 # How the values of options are completed, by the names that the help gives them
-KINDS = {"COLUMN": "column", "COLUMN,..": "columns", "RULE": "rule", "NAME=FILE": "table", "FILE": "sheet"}
+KINDS = {"COLUMN": "column", "COLUMN,..": "columns", "RULE": "rule", "FILE": "rule", "NAME=FILE": "table"}
 
 
 def kind(option):
@@ -50,7 +50,6 @@ def for_zsh(options):
         "columns": ":columns:{_fillcsv_columns several}",
         "rule": ':rule:_files -g "*.rule"',
         "table": ":table:_fillcsv_table",
-        "sheet": ':sheet:_files -g "*.csv"',
         "other": ":value: ",
     }
     lines = []
@@ -69,7 +68,6 @@ def for_fish(options):
         "columns": " -x -a '(__fish_complete_list , __fillcsv_columns)'",
         "rule": " -r -k -a '(__fish_complete_suffix .rule)'",
         "table": " -r -F",
-        "sheet": " -r -F",
         "other": " -x",
     }
     lines = []

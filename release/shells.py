@@ -15,7 +15,8 @@ COMP_WORDS=("$@") COMP_CWORD=$(($# - 1)) COMP_LINE="$*" COMP_POINT=${#COMP_LINE}
 _fillcsv
 printf '%s\\n' "${COMPREPLY[@]}"
 """
-# Each word that is offered is written to a file, beside what the shell does with it
+# Each word that is offered is written to a file, beside what the shell does with it. The shell says when it listens to keys;
+# the key behind Tab is read once all is completed, and says so.
 ZSH = """autoload -Uz compinit; compinit -u -D
 compdef _fillcsv fillcsv
 compadd() {
@@ -24,8 +25,12 @@ compadd() {
     print -rl -- "${(@)offered}" >>$TOLD
     builtin compadd "$@"
 }
+listens() { print -r -- ready }
+completed() { : >$TOLD.completed }
+zle -N zle-line-init listens
+zle -N completed
+bindkey '^G' completed
 PROMPT=''
-print -r -- ready
 """
 HAS_BASH = shutil.which("bash") is not None and os.path.exists("/usr/share/bash-completion/bash_completion")
 
@@ -48,28 +53,29 @@ def fish(script, words, folder):
 
 def zsh(script, words, folder):
     """What zsh completes for the last word: it is typed to a shell at a terminal of its own."""
-    told = f"{folder}/told"
+    told, completed = f"{folder}/told", f"{folder}/told.completed"
     with open(f"{folder}/.zshrc", "w", encoding="utf-8") as file:
         file.write(f"fpath=({os.path.dirname(script)} $fpath)\n{ZSH}")
     with open(told, "w", encoding="utf-8"):
         pass
+    if os.path.exists(completed):
+        os.remove(completed)
     terminal, end = pty.openpty()
     env = {**os.environ, "ZDOTDIR": folder, "HOME": folder, "TOLD": told, "TERM": "dumb"}
     shell = subprocess.Popen(["zsh", "-i"], cwd=folder, stdin=end, stdout=end, stderr=end, env=env, start_new_session=True)
     os.close(end)
     try:
         seen, until, is_typed = b"", time.monotonic() + 300, False
-        while time.monotonic() < until:
+        while not os.path.exists(completed):
+            if time.monotonic() > until:
+                raise TimeoutError(f"zsh has not ended to complete within five minutes: {seen[-500:]!r}")
             if select.select([terminal], [], [], 0.1)[0]:
                 seen += os.read(terminal, 4096)
             if not is_typed and b"ready" in seen:
-                os.write(terminal, (" ".join(words) + "\t").encode())
+                os.write(terminal, (" ".join(words) + "\t\x07").encode())
                 is_typed = True
-            with open(told, encoding="utf-8") as file:
-                offered = [it for it in file.read().split("\n")[:-1] if it]
-            if offered:
-                return offered
-        raise TimeoutError("zsh offered nothing within five minutes")
+        with open(told, encoding="utf-8") as file:
+            return [it for it in file.read().split("\n")[:-1] if it]
     finally:
         shell.kill()
         shell.wait()

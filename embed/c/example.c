@@ -20,7 +20,7 @@ static void show(const struct flashfill_answer *answer) {
 }
 
 static int fill_both(int is_shown) {
-    const char *fill[] = {"people.csv", "--to", "Label", "--state", "--save", "label.rule"};
+    const char *fill[] = {"people.csv", "--to", "Label", "--state", "--save-rule", "label.rule"};
     const char *run[] = {"--rule", "label.rule"};
     struct flashfill_file people = {"people.csv", sheet, strlen(sheet)};
     struct flashfill_answer filled, others;

@@ -1,16 +1,17 @@
 // Asks the engine for filled columns. Three workers: one fills whole sheets; one fills the rows in view, so that they follow in a
-// large sheet while one types; one finds reasons.
+// large sheet while one types; one finds reasons. Where a large sheet comes, some more help to fill it.
 import { countsOf, isDoubtful, linesOf, nextIn, problemOf, toldIn } from "./answers.js";
 import { Client } from "./client.js";
 import { textOf } from "./csv.js";
 import { learningOf } from "./learning.js";
 import { loadModule } from "./parts.js";
+import { joined, recordsWith, sharesOf } from "./shares.js";
 import { fileWord, shownWords } from "./words.js";
 
 /** Of a sheet with more records the rows in view are filled first. */
 const LARGE = 400;
-/** With more given cells a part of the sheet has not the same examples. */
-export const MOST_EXAMPLES = 64;
+/** So many workers fill a large sheet, if the machine has as many processors. */
+const MOST_WORKERS = 4;
 /** Where the whole sheet takes longer than this, it waits until typing pauses for so many milliseconds; so does what is told. */
 const SLOW = 150;
 const PAUSE = 250;
@@ -35,14 +36,21 @@ export class Filling {
      */
     constructor(calls) {
         this.calls = calls;
-        const module = loadModule();
-        this.client = new Client(module);
-        this.quick = new Client(module);
-        this.reasons = new Client(module);
+        this.module = loadModule();
+        this.client = new Client(this.module);
+        this.quick = new Client(this.module);
+        this.reasons = new Client(this.module);
+        this.crew = [this.client];
     }
 
+    /** Stops the filling of whole sheets. */
     stop() {
-        this.client.stop();
+        for (const it of this.crew) if (it.isBusy) it.stop();
+    }
+
+    /** Whether whole sheets are being filled. */
+    get isBusy() {
+        return this.crew.some((it) => it.isBusy);
     }
 
     /** Opens a file as a sheet: how it came, its records, or why it is none. */
@@ -61,7 +69,7 @@ export class Filling {
     hold(sheet, choices) {
         const tables = choices.tables.map(({ file, bytes }) => [file, bytes]);
         this.client.hold(new Map([[fileWord(sheet.name), this.bytesOf(sheet)], ...tables]));
-        for (const it of [this.quick, this.reasons]) it.hold(new Map(tables));
+        for (const it of [this.quick, this.reasons, ...this.crew.slice(1)]) it.hold(new Map(tables));
     }
 
     /** What is filled in a column, up to date or not; null where it was not filled yet. */
@@ -128,6 +136,22 @@ export class Filling {
         return client.ask("fill", { words: shownWords(learning, true), column: learning.place, header: learning.header, more }, lane);
     }
 
+    /** Asks for a column of a large sheet in shares; null where something newer was asked for. */
+    async #askShares(turn, learning, shares) {
+        while (this.crew.length < shares.length) this.crew.push(new Client(this.module));
+        for (const it of this.crew.slice(1)) it.hold(new Map(learning.tables.map(({ file, bytes }) => [file, bytes])));
+        const asked = [];
+        for (const [at, records] of shares.entries()) {
+            if (turn !== this.#turn) {
+                Promise.allSettled(asked); // nobody waits for these any more
+                return null;
+            }
+            asked.push(this.#askPart(this.crew[at], learning.part(records).learning, "fill"));
+            await pause(0); // what a person does meanwhile comes first
+        }
+        return joined(shares, await Promise.all(asked), learning.sheet.records.length);
+    }
+
     /** Fills a column that is not worked on, if it is not up to date; where `sources` are handed in, only if it is one of these. */
     async #others(turn, sheet, choices, at, sources) {
         const { column } = choices.fills[at];
@@ -143,7 +167,8 @@ export class Filling {
 
     async #fillAll(turn, learning, sheet) {
         const began = performance.now();
-        const answer = await this.#ask(this.client, learning, sheet, "fill");
+        const shares = sharesOf(learning, Math.min(MOST_WORKERS, navigator.hardwareConcurrency ?? 1));
+        const answer = await (shares === null ? this.#ask(this.client, learning, sheet, "fill") : this.#askShares(turn, learning, shares));
         if (answer === null || turn !== this.#turn) return;
         this.#took = performance.now() - began;
         const before = this.resultOf(learning.fill.column);
@@ -236,13 +261,6 @@ export class Filling {
     result(steps, format) {
         return this.client.ask("result", { steps, format });
     }
-}
-
-/** These records with the header and all given ones, from the top down; null where there are more examples than a part can have. */
-function recordsWith(learning, more) {
-    const given = learning.allGiven().map(([record]) => record);
-    if (given.length > MOST_EXAMPLES) return null;
-    return [...new Set([...(learning.header ? [0] : []), ...given, ...more])].sort((a, b) => a - b);
 }
 
 /** A filled column; what was told before stays until it is told anew. `fresh` are the records that are up to date where not all are. */

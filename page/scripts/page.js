@@ -90,7 +90,7 @@ export class Page {
     async during(promise) {
         this.#under++;
         document.body.dataset.rest = "false";
-        setTimeout(() => (byId("busy").hidden = this.#under === 0 || !this.filling.client.isBusy), BUSY_AFTER);
+        setTimeout(() => (byId("busy").hidden = this.#under === 0 || !this.filling.isBusy), BUSY_AFTER);
         try {
             return await promise;
         } finally {

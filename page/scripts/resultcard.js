@@ -19,9 +19,9 @@ function fileNote({ name, why }, onDownload) {
 
 /**
  * The card of the result. `lines` make the same result in a terminal from the file `file.name`; `file.why` says why that is
- * not the person's own file, or is null. `calls` has `choose(changes)`, `copy(text)`, `saveRule()` and `downloadSheet()`.
+ * not the person's own file, or is null; `hasFormulas` says that a spreadsheet may take a filled text for a formula. `calls` has `choose(changes)`, `copy(text)`, `saveRule()` and `downloadSheet()`.
  */
-export function showResult({ lines, file, choices, filled, isOpen }, calls) {
+export function showResult({ lines, file, choices, filled, isOpen, hasFormulas }, calls) {
     const { notes, isWhole, rule } = filled;
     const isLearned = isWhole && filled.counts[GIVEN] > 0;
     const terminal = element("details", { id: "terminal", open: isOpen },
@@ -40,6 +40,7 @@ export function showResult({ lines, file, choices, filled, isOpen }, calls) {
         element("h2", {}, "The filled sheet"),
         box("Leave guesses empty", choices.onlySure, (event) => calls.choose({ onlySure: event.target.checked })),
         box("Include a column with the states", choices.withStates, (event) => calls.choose({ withStates: event.target.checked })),
+        ...(hasFormulas ? [element("p", {}, "Some filled cells begin with =, +, - or @. They stand in the file as they are, and a spreadsheet may take them for formulas.")] : []),
         terminal,
     );
 }

@@ -6,6 +6,9 @@ import { showResult, showRule } from "./resultcard.js";
 import { savedRule } from "./rule.js";
 import { filledName, resultSteps, shellLines } from "./words.js";
 
+/** Whether a spreadsheet may take a text for a formula. */
+const isLikeFormula = (text) => /^[=+@-]/.test(text) && !/^[+-]?[\d.,\s%]*$/.test(text);
+
 export class Results {
     constructor(page) {
         this.page = page;
@@ -35,7 +38,8 @@ export class Results {
         const lines = shellLines(resultSteps(page.sheet, page.choices));
         const isOpen = byId("terminal")?.open ?? false;
         const file = { name: page.sheet.name, why: this.#why() };
-        showResult({ lines, file, choices: page.choices, filled: page.filled, isOpen }, {
+        const hasFormulas = page.filled.isWhole && page.filled.texts.some(isLikeFormula);
+        showResult({ lines, file, choices: page.choices, filled: page.filled, isOpen, hasFormulas }, {
             choose: (changes) => page.choose(page.choices.with(changes)),
             copy: (text) => this.copy(text),
             saveRule: () => this.saveRule(),

@@ -1,4 +1,4 @@
-// Rules as files: the one that is learned, as `fillcsv --save` writes it, and one that runs on a sheet, as by `fillcsv --rule`.
+// Rules as files: the one that is learned, as `fillcsv --save-rule` writes it, and one that runs on a sheet, as by `fillcsv --rule`.
 import { linesOf, problemOf } from "./answers.js";
 import { fileWord, filledName, ruleWords, shellLine, shellWord } from "./words.js";
 

@@ -59,7 +59,7 @@ export const shownWords = (learning, isQuiet = false) => [...learningWords(learn
 /** The words that save the rule under a name, and those that run it. */
 export function ruleWords(learning, name) {
     const file = fileWord(name);
-    return { words: [...learningWords(learning), "--save", file], run: ["--rule", file] };
+    return { words: [...learningWords(learning), "--save-rule", file], run: ["--rule", file] };
 }
 
 const baseOf = (name) => name.replace(/\.(csv|txt|tsv|tab)$/i, "");

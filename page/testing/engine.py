@@ -1,5 +1,8 @@
 """Checks: the engine in the browser answers as the programs do, byte for byte."""
 import base64
+import gzip
+import importlib.machinery
+import importlib.util
 import pathlib
 import random
 import subprocess
@@ -7,14 +10,20 @@ import tempfile
 
 from filling import EXAMPLES
 
+CASES = pathlib.Path(__file__).resolve().parent.parent.parent / "tests" / "cases"
+# so many cases go to the browser at once
+SOME = 20
+
 RUN = """const { Engine } = await import(args[0] + '/scripts/engine.js');
 const { loadModule } = await import(args[0] + '/scripts/parts.js');
 window.testEngine ??= new Engine(await loadModule());
-const bytes = (text) => Uint8Array.from(atob(text), (it) => it.charCodeAt(0));
+const bytes = async (text) => new Uint8Array(await new Response(new Blob([Uint8Array.from(atob(text), (it) => it.charCodeAt(0))]).stream().pipeThrough(new DecompressionStream('gzip'))).arrayBuffer());
 const text = (them) => { let made = ''; for (const it of them) made += String.fromCharCode(it); return btoa(made); };
 const answers = [];
 for (const { program, words, files } of args[1]) {
-    const answer = window.testEngine.run(program, words, new Map(Object.entries(files).map(([name, it]) => [name, typeof it === 'number' ? new Uint8Array(it).fill(97) : bytes(it)])));
+    const held = new Map();
+    for (const [name, it] of Object.entries(files)) held.set(name, await bytes(it));
+    const answer = window.testEngine.run(program, words, held);
     answers.push([answer.status, text(answer.out), text(answer.err)]);
 }
 return answers;"""
@@ -27,7 +36,7 @@ def engine_answers(trial, requests):
 
 
 def request(words, files):
-    return {"program": "flashfill", "words": words, "files": {name: it if isinstance(it, int) else base64.b64encode(it).decode() for name, it in files.items()}}
+    return {"program": "flashfill", "words": words, "files": {name: base64.b64encode(gzip.compress(it, 1)).decode() for name, it in files.items()}}
 
 
 def reports(trial):
@@ -60,27 +69,33 @@ def reports(trial):
     return f"{len(sessions)} reports and {len(asked)} changed sessions"
 
 
-def outside_cases(trial):
-    """The outside cases of flashfill, where they are at hand, as they are written down."""
-    if trial.cases is None or not trial.cases.is_dir():
-        return "not at hand"
+def sections_of(case):
+    """The sections of a case, as the script beside the cases reads them."""
+    loader = importlib.machinery.SourceFileLoader("cases", str(CASES / "run"))
+    module = importlib.util.module_from_spec(importlib.util.spec_from_loader("cases", loader))
+    loader.exec_module(module)
+    return module.sections(case)
+
+
+def known_cases(trial):
+    """The known cases of flashfill, as they are written down."""
     trial.start()
-    named, asked, wanted = [], [], []
-    for folder in sorted(it for it in trial.cases.iterdir() if it.is_dir()):
-        try:
-            words = (folder / "args").read_bytes().decode().splitlines()
-        except UnicodeDecodeError:
-            continue  # no words of a request
-        if len((folder / "stage").read_text().split()) > 1:
-            continue  # of an earlier stage
-        kept = ("args", "stdout", "stderr", "status", "stage", "MAKE_BIG")
-        files = {it.name: it.read_bytes() for it in folder.iterdir() if it.is_file() and it.name not in kept}
-        if (folder / "MAKE_BIG").exists():
-            files["BIG"] = int((folder / "MAKE_BIG").read_text())
-        named.append(folder.name)
-        asked.append(request(words, files))
-        wanted.append((int((folder / "status").read_text()), (folder / "stdout").read_bytes(), (folder / "stderr").read_bytes()))
-    answers = engine_answers(trial, asked)
-    wrong = [name for name, answer, want in zip(named, answers, wanted) if answer != want]
-    assert not wrong, f"{len(wrong)} of {len(named)} differ: {wrong}"
-    return f"{len(named)} cases"
+    wrong, count = [], 0
+    paths = sorted(CASES.glob("*.txtar"))
+    for at in range(0, len(paths), SOME):
+        named, asked, wanted = [], [], []
+        for path in paths[at:at + SOME]:
+            files = sections_of(path)
+            expected = [files.pop(it, b"") for it in ("status", "output", "line")]
+            try:
+                words = files.pop("words").decode().split("\n")[:-1]
+            except UnicodeDecodeError:
+                continue  # no words of a request
+            named.append(path.stem)
+            asked.append(request(words, files))
+            wanted.append((int(expected[0]), *expected[1:]))
+        answers = engine_answers(trial, asked)
+        wrong += [name for name, answer, want in zip(named, answers, wanted) if answer != want]
+        count += len(named)
+    assert not wrong, f"{len(wrong)} of {count} differ: {wrong}"
+    return f"{count} cases"

@@ -163,10 +163,10 @@ def kept(trial):
 
 
 def rule_like_the_program(trial, path):
-    """Saves the rule of a sheet, which must be the file of `fillcsv --save`. Its bytes and what is told; no bytes where it is told why not."""
+    """Saves the rule of a sheet, which must be the file of `fillcsv --save-rule`. Its bytes and what is told; no bytes where it is told why not."""
     saved = trial.folder / "saved.rule"
     saved.unlink(missing_ok=True)
-    ran = subprocess.run([trial.programs["fillcsv"], *shlex.split(trial.lines()[0])[1:], "--save", saved], cwd=path.parent, stdin=subprocess.DEVNULL, capture_output=True, text=True, timeout=120)
+    ran = subprocess.run([trial.programs["fillcsv"], *shlex.split(trial.lines()[0])[1:], "--save-rule", saved], cwd=path.parent, stdin=subprocess.DEVNULL, capture_output=True, text=True, timeout=120)
     rule = trial.downloaded(lambda: trial.press("Save the rule")) if saved.exists() else trial.press("Save the rule") and None
     told = trial.browser.run("return document.querySelector('#rule').textContent;")
     assert rule == saved.read_bytes() if saved.exists() else " ".join(told.split()) in " ".join(ran.stderr.split()), (rule, told, ran)
@@ -174,7 +174,7 @@ def rule_like_the_program(trial, path):
 
 
 def saved_rule(trial):
-    """The saved rule is the file of `fillcsv --save`; dropped on another sheet it fills that as `fillcsv --rule` does, with a table too."""
+    """The saved rule is the file of `fillcsv --save-rule`; dropped on another sheet it fills that as `fillcsv --rule` does, with a table too."""
     trial.start()
     path = EXAMPLES / "people.csv"
     trial.open_file(path)

@@ -24,7 +24,6 @@ def fills(trial):
 def engine_of_32_bits(trial):
     """The engine with addresses of 32 bits, which older browsers take, fills as the program does."""
     trial = Trial(trial.browser, f"{trial.address}#32", trial.programs)
-    trial.browser.open("about:blank")
     trial.start()
     size = fills(trial)
     loaded = trial.browser.run("return performance.getEntriesByType('resource').map((it) => it.name.split('/').pop()).filter((it) => it.endsWith('.wasm'));")

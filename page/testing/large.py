@@ -1,4 +1,6 @@
 """Checks: large sheets follow what is typed, scroll to their end, and are filled as the program does it. The times are told."""
+import csv
+import io
 import random
 
 # From a key until the page has shown what follows: the time of each of the letters of a text that is typed into row 5
@@ -76,6 +78,12 @@ def many_rows(trial):
     trial.browser.press("Control+Down")
     assert max(trial.shown()) == 20000, max(trial.shown())
     trial.compare(path)
+    # it is filled in shares: what is shown at several places is what the program writes there
+    wanted = list(csv.reader(io.StringIO(trial.by_program(trial.folder).decode())))
+    for place in (0, 0.25, 0.5, 0.75, 1):
+        trial.browser.run("const grid = document.getElementById('grid'); grid.scrollTop = grid.scrollHeight * args[0]; await new Promise(requestAnimationFrame); await new Promise(requestAnimationFrame);", place)
+        shown = trial.shown()
+        assert len(shown) > 10 and all(text == wanted[row - 1][3] for row, (text, _) in shown.items()), (place, shown)
     trial.is_clean()
     return f"{told}; a frame of scrolling {frames[len(frames) // 2]:.0f} ms (middle), {frames[-2]:.0f} ms; {rows} rows in the document"
 

@@ -18,6 +18,10 @@ PRESS = """const found = [...document.querySelectorAll(args[0] + ' button')].fin
 if (!found) throw new Error('no button ' + args[1]);
 found.click();"""
 
+# Writes down the text of the next event of the clipboard, once the page has seen to it
+HEARS = """delete document.body.dataset.heard;
+addEventListener('%s', (event) => { document.body.dataset.heard = event.clipboardData.getData('text/plain'); }, { once: true });"""
+
 SHOWN = """return [...document.querySelectorAll('.body .row:not([hidden])')].map((row) => {
     const cell = row.querySelector(`.cell[data-column="${args[0] ?? document.querySelector('.title.fills .edge').dataset.column}"]`);
     const state = [...cell.classList].filter((it) => !['cell', 'fills', 'filled', 'active', 'picked'].includes(it)).join(' ');
@@ -28,8 +32,8 @@ SHOWN = """return [...document.querySelectorAll('.body .row:not([hidden])')].map
 class Trial:
     """A browser with the page at an address, and what it is compared with."""
 
-    def __init__(self, browser, address, programs, cases=None):
-        self.browser, self.address, self.programs, self.cases = browser, address, programs, cases
+    def __init__(self, browser, address, programs):
+        self.browser, self.address, self.programs = browser, address, programs
         self.room = tempfile.TemporaryDirectory(prefix="page-trial-", ignore_cleanup_errors=True)
         self.folder = pathlib.Path(self.room.name)
 
@@ -37,6 +41,7 @@ class Trial:
         """Opens the page, and waits until its example is filled."""
         self.browser.requests()
         self.browser.errors()  # those of the page before
+        self.browser.open("about:blank")  # an address that differs from the last one behind `#` alone would load nothing anew
         self.browser.open(self.address)
         self.browser.wait("Number(document.body.dataset.filled ?? 0) > 0 || !document.getElementById('problem').hidden", "the example is filled")
         assert self.problem() is None, self.problem()
@@ -109,17 +114,26 @@ class Trial:
         return self.settle()
 
     def paste(self, text):
-        """Pastes a text into the chosen cell."""
-        self.browser.run("""const data = new DataTransfer();
-            data.setData('text/plain', args[0]);
-            document.getElementById('grid').dispatchEvent(new ClipboardEvent('paste', { clipboardData: data, bubbles: true, cancelable: true }));""", text)
+        """Pastes a text into the chosen cell, by keys: it is copied out of a field that is there for that alone."""
+        browser = self.browser
+        browser.run("""const field = document.createElement('textarea');
+            field.value = args[0];
+            field.id = 'carrier';
+            document.body.append(field);
+            field.focus();
+            field.select();""", text)
+        browser.press("Control+c")
+        browser.run("document.getElementById('carrier').remove(); document.getElementById('grid').focus({ preventScroll: true });" + HEARS % "paste")
+        browser.press("Control+v")
+        browser.wait("document.body.dataset.heard !== undefined", "cells are pasted")
         return self.settle()
 
     def copied(self):
-        """What is copied of the cells that are picked."""
-        return self.browser.run("""const data = new DataTransfer();
-            document.getElementById('grid').dispatchEvent(new ClipboardEvent('copy', { clipboardData: data, bubbles: true, cancelable: true }));
-            return data.getData('text/plain');""")
+        """What is copied of the cells that are picked, by keys."""
+        self.browser.run("document.getElementById('grid').focus({ preventScroll: true });" + HEARS % "copy")
+        self.browser.press("Control+c")
+        self.browser.wait("document.body.dataset.heard !== undefined", "cells are copied")
+        return self.browser.run("return document.body.dataset.heard;")
 
     def shown(self, column=None):
         """The texts and states of the rows in view in the column that is worked on, or in another one, by record."""
@@ -134,12 +148,15 @@ class Trial:
         for old in self.browser.downloads.glob("*"):
             old.unlink()
         act()
-        end = time.monotonic() + PATIENCE
+        end, size = time.monotonic() + PATIENCE, 0
         while time.monotonic() < end:
             files = list(self.browser.downloads.glob("*"))
             if len(files) == 1 and not files[0].name.startswith(".") and files[0].suffix not in (".crdownload", ".part", ".tmp"):
-                self.settle()
-                return files[0].read_bytes()
+                # an empty file of its name may stand there before it, and it may still grow
+                before, size = size, files[0].stat().st_size
+                if size == before > 0:
+                    self.settle()
+                    return files[0].read_bytes()
             time.sleep(0.05)
         raise Failed("nothing was downloaded")
 

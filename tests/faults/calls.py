@@ -40,7 +40,7 @@ def commands(flashfill, fillcsv, files):
     yield flashfill, ["made", "20"], b""
     yield fillcsv, ["people.csv", "--to", "Label", "--from", "Name,City", "--state"], b""
     yield fillcsv, ["-", "--new", "Initials", "--example", "2=AB", "--explain"], files["people.csv"]
-    yield fillcsv, ["sales.csv", "--to", "Month", "--table", "months=months.csv", "--key", "months:1", "--save", "new.rule"], b""
+    yield fillcsv, ["sales.csv", "--to", "Month", "--table", "months=months.csv", "--key", "months:1", "--save-rule", "new.rule"], b""
     yield fillcsv, ["people.csv", "--to", "Label", "--from", "Name,City", "--ask", "--state"], b"2\n\n"
     yield fillcsv, ["--rule", "label.rule"], files["more-people.csv"]
     yield fillcsv, ["--rule", "month.rule"], files["more-sales.csv"]

@@ -36,7 +36,7 @@ def inputs():
     yield "fill", made("fillcsv", ["people.csv", "--to", "Label", "--from", "Name,City", "--state", "--explain"], people)
     yield "fill-new", made("fillcsv", ["people.csv", "--new", "I", "--example", "2=AB", "--only", "sure", "--strict", "--profile", "2"], people)
     yield "ask", made("fillcsv", ["people.csv", "--to", "Label", "--ask"], {**people, "-": b"2\n\nu\ns\n-\n=2\nq\n"})
-    words = ["sales.csv", "--to", "Month", "--table", "months=months.csv", "--key", "months:1", "--save", "r"]
+    words = ["sales.csv", "--to", "Month", "--table", "months=months.csv", "--key", "months:1", "--save-rule", "r"]
     yield "fill-table", made("fillcsv", words, {it: example(it) for it in ("sales.csv", "months.csv")})
     yield "rule", made("fillcsv", ["--rule", "label.rule"], {"label.rule": example("label.rule"), "-": example("more-people.csv")})
     files = {"month.rule": example("month.rule"), "months.csv": example("months.csv"), "-": example("more-sales.csv")}

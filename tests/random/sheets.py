@@ -54,11 +54,11 @@ def case(seed):
         else:
             made.keys.append((line[1], [int(it) for it in line[2:]]))
     made.files = {it["name"] + ".csv": maker.csv(it["raw"]) for it in world.tables}
-    made.replace = not new and maker.chance(0.1)
     made.state, made.only_sure, made.strict = maker.chance(0.5), maker.chance(0.2), maker.chance(0.2)
     made.explain, made.save = maker.chance(0.2), maker.chance(0.4)
     kind = maker.random.random()
     made.ask, made.quiet, made.piped = kind < 0.35, 0.35 <= kind < 0.5, 0.45 <= kind < 0.6
+    made.replace = not new and bool(made.typed or made.ask) and maker.chance(0.15)
     if made.ask:
         replies = [maker.pick("", "", "", "2", "2", "2", "-", "s", "u", "q", "=2", "=", maker.word(3), maker.wanted(maker.random.randrange(len(rows)))) for _ in range(maker.random.randint(0, 7))]
         made.replies = [it.encode() + maker.pick(b"", b"", b"", b"\r") for it in replies]
@@ -102,4 +102,4 @@ def words(maker, made, names):
     ]:
         said += [word] if asked else []
     said += ["--only", "sure"] if made.only_sure else []
-    return said + (["--save", "saved.rule"] if made.save else [])
+    return said + ([maker.pick("--save-rule", "--save"), "saved.rule"] if made.save else [])

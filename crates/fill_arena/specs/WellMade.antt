@@ -11,7 +11,7 @@ use Rattle.fill_tree.specs.Grammar.{source_depth}
 use Rattle.fill_arena.specs.Contents.{In, EachIn, IsPlaceSet, IsSourceSet, IsAtomSet}
 use Rattle.fill_arena.specs.Order.{IsTopological}
 use Rattle.fill_arena.specs.Stands.{SourceFits}
-use Rattle.fill_arena.specs.declared.entry.TheConstants.{MOST_CHARACTERS}
+use Rattle.fill_tree.specs.declared.user.TheConstants.{MOST_CHARACTERS}
 use Rattle.fill_arena.specs.declared.entry.Entry.{Entry}
 use Rattle.fill_arena.specs.declared.entry.Entry.TheVariants.{Places, Sources, Atoms, Graph}
 use Rattle.fill_arena.specs.declared.entry.SourceItem.{SourceItem}

@@ -48,6 +48,11 @@ impl Arena {
         }
     }
 
+    /// The allocator that the arena was made with.
+    pub(crate) fn alloc(&self) -> Global {
+        self.entries.alloc()
+    }
+
     /// The number of a set of these places.
     pub fn intern_places(&mut self, places: &[Place]) -> Result<PlaceSet, NoMemory>
         requires { AreInOrder places.now }

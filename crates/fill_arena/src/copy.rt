@@ -19,7 +19,7 @@ impl Arena {
     ///
     /// Each listed number is replaced by the one under which the same programs stand there. The work is linear in what
     /// this arena lists. It takes no step.
-    pub fn copy(&self, alloc: Global, live: &mut [GraphId]) -> Result<Arena, NoMemory>
+    pub fn copy(&self, live: &mut [GraphId]) -> Result<Arena, NoMemory>
         requires { EachIn (IsGraph self.now) live.old }
         ensures length { length live.new ≡ length live.old }
         ensures graphs { IfOk result (λ made. EachIn (IsGraph made) live.new) }
@@ -27,6 +27,7 @@ impl Arena {
         ensures named { IfOk result (λ made. (n : ℕ) → n < length made → IsNamed made live.new n) }
         ensures err { OnErr result (live.new ≡ live.old) }
     {
+        let alloc = self.alloc();
         let marks = named_marks(alloc, self, live)?;
         let mut made = Arena::new(alloc);
         let table = copy_marked(alloc, self, marks.as_slice(), &mut made)?;

@@ -3,9 +3,6 @@ use crate::numbers::{AtomSet, PlaceSet, SourceSet};
 use fill_text::{List, Text};
 use fill_tokens::Place;
 
-/// The most characters of an example's text. No constant has more, and no walk more edges.
-pub const MOST_CHARACTERS: usize = 100;
-
 /// A set of conditions of a lookup: the constant, and the atoms of the set that are no constants.
 #[derive(Debug, Drop)]
 pub struct ConditionItem {

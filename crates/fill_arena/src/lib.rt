@@ -23,6 +23,6 @@ mod same;
 mod sized;
 
 pub use arena::Arena;
-pub use entry::{AtomItem, ConditionItem, Edge, Entry, MOST_CHARACTERS, SelectItem, SourceItem};
+pub use entry::{AtomItem, ConditionItem, Edge, Entry, SelectItem, SourceItem};
 pub use hash::{hash_place, mix};
 pub use numbers::{AtomSet, GraphId, Mark, PlaceSet, SourceSet};

@@ -17,9 +17,10 @@ use crate::first::put;
 use crate::memo::{Memo, Shortlist};
 use crate::plain::PlainAtom;
 use crate::sets::scan_parts;
-use fill_arena::{Arena, AtomItem, AtomSet, MOST_CHARACTERS};
+use fill_arena::{Arena, AtomItem, AtomSet};
 use fill_text::{NoMemory, Text};
 use fill_tokens::Prices;
+use fill_tree::MOST_CHARACTERS;
 use std::alloc::Global;
 use std::rc::Rc;
 

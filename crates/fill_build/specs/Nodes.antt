@@ -1,6 +1,6 @@
 -- The nodes of an example's graph.
 use Rattle.std.specs.Prelude.{ℕ, ◌<◌, ◌≤◌, List, length, drop}
-use Rattle.fill_arena.specs.declared.entry.TheConstants.{MOST_CHARACTERS}
+use Rattle.fill_tree.specs.declared.user.TheConstants.{MOST_CHARACTERS}
 use Rattle.fill_build.specs.Hits.{BeginAlike}
 use Rattle.fill_build.specs.declared.node.Node.{Node}
 use Rattle.fill_build.specs.declared.node.Twin.{Twin}

@@ -10,7 +10,7 @@ use Rattle.fill_arena.specs.Stands.{AtomFits}
 use Rattle.fill_arena.specs.WellMade.{IsAtomItem}
 use Rattle.fill_arena.specs.declared.entry.AtomItem.{AtomItem}
 use Rattle.fill_arena.specs.declared.entry.Entry.{Entry}
-use Rattle.fill_arena.specs.declared.entry.TheConstants.{MOST_CHARACTERS}
+use Rattle.fill_tree.specs.declared.user.TheConstants.{MOST_CHARACTERS}
 use Rattle.fill_sources.specs.declared.row.OnRow.{OnRow}
 use Rattle.fill_build.specs.declared.piece.Piece.{Piece}
 

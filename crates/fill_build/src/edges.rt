@@ -15,9 +15,10 @@ use crate::constants::constant_width;
 use crate::hits::{Hit, find_hits, narrow};
 use crate::node::{Node, find_twin};
 use crate::piece::Piece;
-use fill_arena::{Arena, AtomSet, Edge, MOST_CHARACTERS};
+use fill_arena::{Arena, AtomSet, Edge};
 use fill_sources::{OnRow, RowTexts};
 use fill_text::{List, NoMemory, Text};
+use fill_tree::MOST_CHARACTERS;
 use std::alloc::Global;
 
 /// An edge for each piece of the text that some atom gives on the row, in the order of their first nodes and then of

@@ -6,13 +6,13 @@ ghost use Rattle.fill_sources.specs.Found.{PlacesStand};
 ghost use Rattle.fill_build.specs.Build.{IsGraphOfExample, NoneExplains};
 
 use crate::uncut::build_uncut;
-use fill_arena::{Arena, GraphId, MOST_CHARACTERS};
+use fill_arena::{Arena, GraphId};
 use fill_edge::{Ledger, Steps};
 use fill_sheet::Sheet;
 use fill_sources::{OnRow, PlaceMemory};
 use fill_tables::Tables;
 use fill_text::{NoMemory, Text};
-use fill_tree::Settings;
+use fill_tree::{MOST_CHARACTERS, Settings};
 use std::alloc::Global;
 
 /// The graph of the programs that explain the example of the row with this text, or none where there are none.

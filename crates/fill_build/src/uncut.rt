@@ -7,10 +7,11 @@ ghost use Rattle.fill_build.specs.Build.{IsGraphOfExample, NoneExplains};
 ghost use Rattle.fill_build.specs.Edges.{AreWalks};
 
 use crate::edges::piece_edges;
-use fill_arena::{Arena, GraphId, MOST_CHARACTERS};
+use fill_arena::{Arena, GraphId};
 use fill_edge::{Ledger, Steps};
 use fill_sources::{OnRow, PlaceMemory, RowTexts};
 use fill_text::{NoMemory, Text};
+use fill_tree::MOST_CHARACTERS;
 use fill_trim::trim::{Trimmed, trim};
 use std::alloc::Global;
 

@@ -3,15 +3,15 @@ use Rattle.std.proofs.Common.{◌≡◌, ◌∙◌, ◌≤◌, ◌⊎◌, ℕ, L
 use Rattle.std.specs.Prelude.{◌↔◌, encode_utf8_all, IfOk, IsErrOf, IsTrue, string_bytes}
 use Rattle.fill_edge.specs.Outside.{Files, Rose}
 use Rattle.fill_open.specs.Command.{CommandData, made}
-use Rattle.fill_open.specs.Opened.{Held, Told, Opened, Opening, Passed, Refused, Unread, further}
+use Rattle.fill_opening.specs.Opened.{Held, Told, Opened, Opening, Passed, Refused, Unread, further}
 use Rattle.fill_open.specs.Refusal.{RefusalData}
 use Rattle.fill_open.specs.Made.{made_session, made_sheet}
 use Rattle.fill_open.specs.Steps.{made_name, made_opens, script_in, sheet_in}
 use Rattle.fill_open.specs.declared.session.Ready.{Ready}
-use Rattle.fill_open.specs.declared.stop.Stop.{Stop}
-use Rattle.fill_open.specs.declared.stop.Stop.TheVariants as stop
+use Rattle.fill_opening.specs.declared.stop.Stop.{Stop}
+use Rattle.fill_opening.specs.declared.stop.Stop.TheVariants as stop
 use Rattle.fill_open.proofs.Applies.{IsOne}
-use Rattle.fill_open.proofs.Binds.{told_one}
+use Rattle.fill_opening.proofs.Binds.{told_one}
 use Rattle.fill_report.specs.Output.{Writes, WritesPart, WritesRecords}
 use Rattle.fill_output.specs.declared.halt.Halt.{Halt}
 use Rattle.fill_output.specs.declared.halt.Halt.TheVariants as halt

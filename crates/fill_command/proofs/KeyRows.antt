@@ -4,9 +4,9 @@ use Rattle.std.specs.Io.KnownBytes.{Appends}
 use Rattle.std.proofs.lemmas.List.{take_more}
 use Rattle.fill_edge.specs.Outside.{AppendsPart}
 use Rattle.fill_sheet.specs.Report.{record_text}
-use Rattle.fill_report.specs.Output.{report_text}
-use Rattle.fill_report.specs.Records.{Fields}
-use Rattle.fill_report.proofs.Bytes.{part_more}
+use Rattle.fill_output.specs.Fields.{report_text}
+use Rattle.fill_output.specs.Fields.{Fields}
+use Rattle.fill_output.proofs.Bytes.{part_more}
 use Rattle.fill_command.specs.Output.{key_record, keys_text}
 
 records-append : (xs ys : List (List ℕ)) → map key_record (xs ++ ys) ≡ map key_record xs ++ map key_record ys

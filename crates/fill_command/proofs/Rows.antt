@@ -6,9 +6,9 @@ use Rattle.fill_edge.specs.Outside.{AppendsPart}
 use Rattle.fill_sheet.specs.Report.{record_text}
 use Rattle.fill_apply.specs.Applied.{IsAppliedRecord}
 use Rattle.fill_open.specs.Apply.{Applied}
-use Rattle.fill_report.specs.Records.{Fields}
-use Rattle.fill_report.proofs.Bytes.{appends_more, part_more}
-use Rattle.fill_report.proofs.Numbered.{rows_more}
+use Rattle.fill_output.specs.Fields.{Fields}
+use Rattle.fill_output.proofs.Bytes.{appends_more, part_more}
+use Rattle.fill_output.proofs.Numbered.{rows_more}
 use Rattle.fill_command.specs.Output.{WritesPartOfRows, WritesRows}
 
 module _ (a : Applied) (old : Option (List ℕ)) where

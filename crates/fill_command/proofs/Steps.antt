@@ -5,15 +5,15 @@ use Rattle.fill_text.specs.Data.{TableData}
 use Rattle.fill_edge.specs.Outside.{Files}
 use Rattle.fill_open.specs.Apply.{Applied, AppliedIs, ApplyStops, ApplyUnread, Names, apply_opens}
 use Rattle.fill_open.specs.Command.{CommandData, apply, keys, made, replay}
-use Rattle.fill_open.specs.Opened.{Held, Told, Opened, Opening, Passed, Refused}
+use Rattle.fill_opening.specs.Opened.{Held, Told, Opened, Opening, Passed, Refused}
 use Rattle.fill_open.specs.Refusal.{RefusalData}
 use Rattle.fill_open.specs.Steps.{made_opens}
-use Rattle.fill_open.specs.Stops.{Counts, IsUnread, ReadFails, Refuses, Stops}
+use Rattle.fill_opening.specs.Stops.{Counts, IsUnread, ReadFails, Refuses, Stops}
 use Rattle.fill_open.specs.declared.session.Ready.{Ready}
-use Rattle.fill_open.specs.declared.stop.Stop.{Stop}
-use Rattle.fill_open.specs.declared.stop.Stop.TheVariants as stop
+use Rattle.fill_opening.specs.declared.stop.Stop.{Stop}
+use Rattle.fill_opening.specs.declared.stop.Stop.TheVariants as stop
 use Rattle.fill_open.proofs.Applies.{IsOne, applied_one}
-use Rattle.fill_open.proofs.Binds.{told_one}
+use Rattle.fill_opening.proofs.Binds.{told_one}
 use Rattle.fill_command.specs.Asked.{AreSteps, Asked, Misses, StepsEnd, files_of}
 
 -- the steps of an application, where they end

@@ -5,10 +5,10 @@ use Rattle.fill_edge.specs.Outside.{Files, Rose}
 use Rattle.fill_open.specs.Apply.{Applied, IsReading, Reading, apply_opens}
 use Rattle.fill_open.specs.Command.{CommandData, apply, keys, made, replay}
 use Rattle.fill_open.specs.Keys.{keys_opens}
-use Rattle.fill_open.specs.Opened.{Held, Told, Opened, Opening, Passed, Refused, Unread}
+use Rattle.fill_opening.specs.Opened.{Held, Told, Opened, Opening, Passed, Refused, Unread}
 use Rattle.fill_open.specs.Refusal.{RefusalData}
 use Rattle.fill_open.specs.Steps.{made_opens, replay_opens}
-use Rattle.fill_open.specs.Stops.{Counts}
+use Rattle.fill_opening.specs.Stops.{Counts}
 use Rattle.fill_open.specs.declared.session.Ready.{Ready}
 
 -- what a command opens: a session, a saved program with a sheet, or the one table whose keys are listed

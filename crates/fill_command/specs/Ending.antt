@@ -6,9 +6,9 @@ use Rattle.std.specs.declared.string.String.{String}
 use Rattle.fill_edge.specs.Outside.{AppendsPart, Rose}
 use Rattle.fill_open.specs.Lines.{memory_line}
 use Rattle.fill_open.specs.Refusal.{RefusalData}
-use Rattle.fill_open.specs.Stops.{stop_line}
-use Rattle.fill_open.specs.declared.stop.Stop.{Stop}
-use Rattle.fill_open.specs.declared.stop.Stop.TheVariants as stop
+use Rattle.fill_open.specs.Lines.{stop_line}
+use Rattle.fill_opening.specs.declared.stop.Stop.{Stop}
+use Rattle.fill_opening.specs.declared.stop.Stop.TheVariants as stop
 use Rattle.fill_output.specs.declared.halt.Halt.{Halt}
 use Rattle.fill_output.specs.declared.halt.Halt.TheVariants as halt
 use Rattle.fill_command.specs.declared.ending.Ending.{Ending}

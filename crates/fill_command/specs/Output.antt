@@ -8,8 +8,8 @@ use Rattle.fill_open.specs.Apply.{Applied}
 use Rattle.fill_open.specs.Command.{CommandData, apply, keys, made, replay}
 use Rattle.fill_open.specs.Keys.{AreKeys}
 use Rattle.fill_open.specs.declared.session.Ready.{Ready}
-use Rattle.fill_report.specs.Output.{report_text}
-use Rattle.fill_report.specs.Records.{Fields}
+use Rattle.fill_output.specs.Fields.{report_text}
+use Rattle.fill_output.specs.Fields.{Fields}
 use Rattle.fill_report.specs.Report.{BeginsReport, IsReport}
 use Rattle.fill_report.specs.Runs.{Written}
 use Rattle.fill_space.specs.declared.ground.Ground.{Ground}

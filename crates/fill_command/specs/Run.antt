@@ -4,9 +4,9 @@ use Rattle.std.specs.Io.KnownBytes.{Keeps}
 use Rattle.fill_edge.specs.Outside.{Files, Rose}
 use Rattle.fill_open.specs.Command.{CommandData, apply, keys, made, replay}
 use Rattle.fill_open.specs.Lines.{refusal_line, unread_line}
-use Rattle.fill_open.specs.Opened.{Told, Opened, Passed, Refused, Unread}
+use Rattle.fill_opening.specs.Opened.{Told, Opened, Passed, Refused, Unread}
 use Rattle.fill_open.specs.Refusal.{RefusalData}
-use Rattle.fill_open.specs.Stops.{Counts}
+use Rattle.fill_opening.specs.Stops.{Counts}
 use Rattle.fill_report.specs.Output.{Writes, WritesPart, WritesRecords}
 use Rattle.fill_command.specs.Asked.{Asked, IsRefused, Misses, Opens, StepsEnd, files_of}
 use Rattle.fill_command.specs.Output.{WritesAll, WritesFirst}

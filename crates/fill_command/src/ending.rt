@@ -3,7 +3,7 @@ ghost use Rattle.std.specs.Prelude.{◌≡◌, option_map};
 ghost use Rattle.fill_command.specs.Ending.{IsOfStop, Says, halt_ending, line_of, status_of};
 
 use fill_edge::{Sink, write_all};
-use fill_open::Stop;
+use fill_open::{Stop, line_of};
 use fill_output::Halt;
 use std::alloc::Global;
 
@@ -38,7 +38,7 @@ impl Ending {
     pub(crate) fn of_stop(alloc: Global, stop: &Stop) -> Ending
         ensures { IsOfStop stop.now result }
     {
-        let Ok(line) = stop.line(alloc) else {
+        let Ok(line) = line_of(alloc, stop) else {
             return Ending::NoMemory;
         };
         match stop {

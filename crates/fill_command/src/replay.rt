@@ -4,7 +4,7 @@ ghost use Rattle.std.specs.Io.KnownBytes.{Keeps};
 ghost use Rattle.fill_edge.specs.Outside.{Files, Rose};
 ghost use Rattle.fill_script.specs.Script.{IsScript};
 ghost use Rattle.fill_open.specs.Command.{made, replay};
-ghost use Rattle.fill_open.specs.Stops.{Counts};
+ghost use Rattle.fill_opening.specs.Stops.{Counts};
 ghost use Rattle.fill_report.specs.Report.{Reports, ReportsPart, ReportsRecords};
 ghost use Rattle.fill_command.specs.Ending.{report_ending};
 ghost use Rattle.fill_command.specs.Output.{ground_of};

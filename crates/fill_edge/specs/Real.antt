@@ -34,3 +34,7 @@ abbrev pub GivesFrom : Option ℕ → Option (List ℕ) → ℕ → ℕ → List
 GivesFrom None bytes at n buf = ⊤
 GivesFrom (Some _) None at n buf = ⊤
 GivesFrom (Some _) (Some xs) at n buf = IsPieceOf (Some xs) at n buf
+
+-- the buffer begins with n bytes of some file of this type from this place on, where that file's position and its bytes are known
+abbrev pub GivesOfFile : {F : Type 0} → (F → Option ℕ) → (F → Option (List ℕ)) → ℕ → ℕ → List ℕ → Type 0
+GivesOfFile {F = F} position bytes at n buf = (file : F) × GivesFrom (position file) (bytes file) at n buf

@@ -3,11 +3,12 @@ ghost use Rattle.std.specs.Prelude.{◌≡◌, ◌≢◌, ◌<◌, ◌≤◌, le
 ghost use Rattle.std.specs.IoError.{error_kind};
 ghost use Rattle.std.specs.Io.Cursor.{cursor_inner};
 ghost use Rattle.fill_edge.specs.Outside.{IsPieceOf};
-ghost use Rattle.fill_edge.specs.Real.{counts_after, IsPlaced, GivesFrom};
+ghost use Rattle.fill_edge.specs.Real.{counts_after, IsPlaced, GivesFrom, GivesOfFile};
 
 use crate::interruption::is_interrupted;
 use crate::outside::LAST_PLACE;
 use crate::{Cabinet, ReadRefusal};
+use std::alloc::Global;
 use std::io::{ErrorKind, Read, Seek, SeekFrom};
 use std::marker::Model;
 use std::rt::Files;
@@ -15,12 +16,12 @@ use std::{fs, io};
 
 /// The files of the system, a name being a path from the current folder on.
 ///
-/// Each read opens the file. Whatever the system refuses is a counted fault, also a file that is
-/// not there, so that no read answers `Missing`; only where it is interrupted is a read made again,
-/// from the opening on.
+/// The file that was read last stays open until another name is read or a read fails. Whatever the
+/// system refuses is a counted fault, also a file that is not there, so that no read answers
+/// `Missing`; only where it is interrupted is a read made again, from the opening on.
 #[derive(Drop)]
 pub struct FolderCabinet<R: Files + Drop> {
-    rt: R,
+    files: OpenFiles<R>,
     faults: u64,
     given: u64,
 }
@@ -35,11 +36,15 @@ impl<R: Files + Drop> Model for FolderCabinet<R> {
 
 impl<R: Files + Drop> FolderCabinet<R> {
     /// The files that this runtime opens.
-    pub fn new(rt: R) -> FolderCabinet<R>
+    pub fn new(alloc: Global, rt: R) -> FolderCabinet<R>
         ensures { result ≡ record { faults = 0; given = 0 } }
     {
         FolderCabinet {
-            rt,
+            files: OpenFiles {
+                alloc,
+                rt,
+                last: None,
+            },
             faults: 0,
             given: 0,
         }
@@ -86,32 +91,77 @@ impl<R: Files + Drop> Cabinet for FolderCabinet<R> {
         ensures grew { self.old.given ≤ self.new.given }
         ensures later { self.old.faults ≤ self.new.faults }
     {
-        let answer = read_at(&self.rt, name, at, buf);
+        let answer = self.files.read_at(name, at, buf);
         self.count(answer)
     }
 }
 
-/// The real read, from a place of the file on, made again as long as it is interrupted.
-fn read_at<R: Files>(rt: &R, name: &str, at: u64, buf: &mut [u8]) -> io::Result<usize>
-    requires { 0 < length buf.old }
-    ensures bound { IfOk result (λ n. n ≤ length buf.old) }
-    ensures again { IfErr result (λ e. error_kind e ≢ ErrorKind.Interrupted) }
-{
-    for _ in 0..u64::MAX {
-        match open_and_read(rt, name, at, buf) {
-            Err(e) if is_interrupted(&e) => {}
-            answer => return answer,
-        }
-    }
-    Err(io::Error::from(ErrorKind::TimedOut))
+/// The system's files, of which the one that was read last stays open.
+#[derive(Drop)]
+struct OpenFiles<R: Files + Drop> {
+    alloc: Global,
+    rt: R,
+    last: Option<OpenFile<R::File>>,
 }
 
-fn open_and_read<R: Files>(rt: &R, name: &str, at: u64, buf: &mut [u8]) -> io::Result<usize>
-    requires { 0 < length buf.old }
-    ensures { IfOk result (λ n. n ≤ length buf.old) }
-{
-    let mut file = fs::open(rt, name)?;
-    read_from(&mut file, at, buf)
+/// An open file, and the name that it was opened by, if there was memory for it.
+#[derive(Drop)]
+struct OpenFile<F: Drop> {
+    name: Option<String>,
+    file: F,
+}
+
+impl<F: Drop> OpenFile<F> {
+    fn is_named(&self, name: &str) -> bool {
+        match &self.name {
+            Some(own) => own.as_str() == name,
+            None => false,
+        }
+    }
+}
+
+impl<R: Files + Drop> OpenFiles<R> {
+    /// The real read, from a place of the file on, made again as long as it is interrupted.
+    fn read_at(&mut self, name: &str, at: u64, buf: &mut [u8]) -> io::Result<usize>
+        requires { 0 < length buf.old }
+        ensures bound { IfOk result (λ n. n ≤ length buf.old) }
+        ensures again { IfErr result (λ e. error_kind e ≢ ErrorKind.Interrupted) }
+        ensures piece { IsPlaced R.File.remaining R.File.stream_position R.File.stream_bytes → IfOk result (λ n. GivesOfFile R.File.stream_position R.File.stream_bytes at n buf.new) }
+    {
+        for _ in 0..u64::MAX {
+            match self.open_and_read(name, at, buf) {
+                Err(e) if is_interrupted(&e) => {}
+                answer => return answer,
+            }
+        }
+        Err(io::Error::from(ErrorKind::TimedOut))
+    }
+
+    /// One read. The file stays open if it does not fail.
+    fn open_and_read(&mut self, name: &str, at: u64, buf: &mut [u8]) -> io::Result<usize>
+        requires { 0 < length buf.old }
+        ensures bound { IfOk result (λ n. n ≤ length buf.old) }
+        ensures piece { IsPlaced R.File.remaining R.File.stream_position R.File.stream_bytes → IfOk result (λ n. GivesOfFile R.File.stream_position R.File.stream_bytes at n buf.new) }
+    {
+        let mut open = self.take(name)?;
+        let count = read_from(&mut open.file, at, buf)?;
+        self.last = Some(open);
+        Ok(count)
+    }
+
+    /// The file of this name: the open one, or else one that is opened now. No other stays open.
+    fn take(&mut self, name: &str) -> io::Result<OpenFile<R::File>> {
+        if let Some(open) = self.last.take() {
+            if open.is_named(name) {
+                return Ok(open);
+            }
+        }
+        let file = fs::open(&self.rt, name)?;
+        Ok(OpenFile {
+            name: String::from_str(self.alloc, name).ok(),
+            file,
+        })
+    }
 }
 
 /// One read of an open file, from a place on.

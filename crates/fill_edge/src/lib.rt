@@ -3,6 +3,7 @@
 
 mod folder;
 mod interruption;
+pub mod laws;
 mod memory_cabinet;
 mod memory_sink;
 mod outside;

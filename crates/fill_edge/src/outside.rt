@@ -1,5 +1,5 @@
 //! What files and output are to all code above.
-ghost use Rattle.std.specs.Prelude.{◌≡◌, ℕ, ◌<◌, ◌≤◌, List, Option, length, take, IfOk, OnErr, IsErrOf};
+ghost use Rattle.std.specs.Prelude.{◌≡◌, ℕ, ◌<◌, ◌≤◌, List, Option, length, take, IfOk, OnOk, OnErr, IsErrOf};
 ghost use Rattle.std.specs.Io.KnownBytes.{Appends, Keeps};
 ghost use Rattle.fill_edge.specs.Outside.{Files, Rose, counted, NoneFell, NoneChanged, GivesPiece, IsMissing};
 
@@ -56,6 +56,7 @@ pub trait Cabinet {
         ensures grew { given self.old ≤ given self.new }
 
         ensures later { NoneFell (faults self.old) (faults self.new) }
+        ensures taken { OnOk result (NoneChanged (faults self.old) (faults self.new)) }
         ensures failed { IsErrOf result ReadRefusal.Failed → Rose (faults self.old name.now) (faults self.new name.now) }
         ensures missing { IsErrOf result ReadRefusal.Missing → IsMissing (files self.old) name.now }
         ensures unchanged { IsErrOf result ReadRefusal.Missing → NoneChanged (faults self.old) (faults self.new) };
@@ -80,5 +81,6 @@ pub trait Sink {
         ensures kept { OnErr result (Keeps (written self.old) (written self.new)) }
 
         ensures later { faults self.old ≤ faults self.new }
+        ensures taken { OnOk result (faults self.new ≡ faults self.old) }
         ensures failed { OnErr result (Rose (faults self.old) (faults self.new)) };
 }

@@ -69,6 +69,7 @@ pub fn read_all<C: Cabinet>(
     ensures later { NoneFell (C.faults cabinet.old) (C.faults cabinet.new) }
     ensures grew { C.given cabinet.old ≤ C.given cabinet.new }
 
+    ensures unfailed { ¬ IsErrOf result ReadError.ReadFault → NoneChanged (C.faults cabinet.old) (C.faults cabinet.new) }
     ensures fault { IsErrOf result ReadError.ReadFault → Rose (C.faults cabinet.old name.now) (C.faults cabinet.new name.now) }
     ensures missing { IsErrOf result ReadError.Missing → IsMissing (C.files cabinet.old) name.now }
     ensures unchanged { IsErrOf result ReadError.Missing → NoneChanged (C.faults cabinet.old) (C.faults cabinet.new) × (C.given cabinet.new ≡ C.given cabinet.old) }

@@ -31,7 +31,7 @@ fn reads(
     (name, limit): (&str, usize),
     expected: &[u8],
 ) -> bool {
-    if limit > 16_777_216 {
+    if limit > LARGEST_FILE {
         return false;
     }
     match read_all(alloc, cabinet, name, limit) {
@@ -47,7 +47,7 @@ fn refuses(
     (name, limit): (&str, usize),
     reason: ReadError,
 ) -> bool {
-    if limit > 16_777_216 {
+    if limit > LARGEST_FILE {
         return false;
     }
     read_all(alloc, cabinet, name, limit).err() == Some(reason)
@@ -55,7 +55,7 @@ fn refuses(
 
 /// Whether the file of five bytes is read within each limit that it fits, and refused by the others.
 fn keeps_to_limits(alloc: Global, cabinet: &mut MemoryCabinet) -> bool {
-    for limit in [5, 6, 16_777_216] {
+    for limit in [5, 6, LARGEST_FILE] {
         if !reads(alloc, cabinet, ("five.csv", limit), b"abcde") {
             return false;
         }
@@ -196,7 +196,7 @@ fn folder_refuses(
     (name, limit): (&str, usize),
     reason: ReadError,
 ) -> bool {
-    if limit > 16_777_216 {
+    if limit > LARGEST_FILE {
         return false;
     }
     read_all(alloc, cabinet, name, limit).err() == Some(reason)
@@ -225,16 +225,32 @@ fn gives_nothing(alloc: Global, cabinet: &mut FolderCabinet<HostRuntime>, name: 
 fn the_folder_gives_its_files(rt: HostRuntime) -> Result<(), Fail> {
     let name = "fill_edge größe.csv";
     fs::write(&rt, name, b"abcde".as_slice())?;
-    let mut cabinet = FolderCabinet::new(rt);
+    let mut cabinet = FolderCabinet::new(rt.alloc(), rt);
     assert!(rt; gives_five(rt.alloc(), &mut cabinet, name));
     fs::remove_file(&rt, name)?;
-    // A file that is not there, and the folder itself.
-    for refused in [name, "."] {
+    // The folder itself, and a file that is not there.
+    for refused in [".", name] {
         assert!(rt;
             gives_nothing(rt.alloc(), &mut cabinet, refused),
             "{refused}"
         );
     }
+    Ok(())
+}
+
+/// The file that was read last stays open, also where it is removed, until another name is read.
+#[test]
+fn the_folder_keeps_its_last_file_open(rt: HostRuntime) -> Result<(), Fail> {
+    let (name, other) = ("fill_edge last.csv", "fill_edge other.csv");
+    fs::write(&rt, name, b"abcde".as_slice())?;
+    fs::write(&rt, other, b"fghij".as_slice())?;
+    let mut cabinet = FolderCabinet::new(rt.alloc(), rt);
+    assert!(rt; comes_to(&mut cabinet, name, 3, Ok(2), *b"de\0\0"));
+    fs::remove_file(&rt, name)?;
+    assert!(rt; comes_to(&mut cabinet, name, 1, Ok(4), *b"bcde"));
+    assert!(rt; comes_to(&mut cabinet, other, 1, Ok(4), *b"ghij"));
+    assert!(rt; comes_to(&mut cabinet, name, 3, Err(ReadRefusal::Failed), [0; 4]));
+    fs::remove_file(&rt, other)?;
     Ok(())
 }
 
@@ -291,8 +307,11 @@ fn an_interrupted_write_is_made_again(rt: HostRuntime) {
 }
 
 /// Whether the first read over files that refuse so answers this, and the second gives two bytes.
-fn first_read_is(refusals: &[Refusal], answer: Result<usize, ReadRefusal>) -> bool {
-    let mut cabinet = FolderCabinet::new(RefusingFiles::new(refusals));
+fn first_read_is(alloc: Global, refusals: &[Refusal], answer: Result<usize, ReadRefusal>) -> bool {
+    let Ok(refusals) = refusals.to_vec(alloc) else {
+        return false;
+    };
+    let mut cabinet = FolderCabinet::new(alloc, RefusingFiles::new(refusals));
     let mut buf = [0u8; 4];
     cabinet.read("five.csv", 3, &mut buf) == answer
         && cabinet.read("five.csv", 3, &mut buf) == Ok(2)
@@ -326,7 +345,7 @@ fn a_read_of_a_file_begins_at_its_place_or_fails(rt: HostRuntime) {
         ),
     ];
     for (refusals, answer) in rows {
-        assert!(rt; first_read_is(refusals, answer));
+        assert!(rt; first_read_is(rt.alloc(), refusals, answer));
     }
 }
 

@@ -16,6 +16,7 @@ pub fn write_all<O: Sink>(sink: &mut O, piece: &[u8]) -> Result<(), WriteFault>
     ensures whole { OnOk result (Appends (O.written sink.old) (O.written sink.new) piece.now) }
     ensures part { OnErr result (AppendsPart (O.written sink.old) (O.written sink.new) piece.now) }
     ensures later { O.faults sink.old ≤ O.faults sink.new }
+    ensures taken { OnOk result (O.faults sink.new ≡ O.faults sink.old) }
     ensures fault { OnErr result (Rose (O.faults sink.old) (O.faults sink.new)) }
     ensures empty { piece.now ≡ [] → sink.new ≡ sink.old }
 {

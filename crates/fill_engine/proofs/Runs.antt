@@ -2,16 +2,16 @@
 use Rattle.std.proofs.Common.{◌≡◌, ◌∙◌, ◌⊎◌, ◌≤◌, ℕ, List, [], Option, None, Some, true, inl, inr, ap, arith, refl, subst, sym}
 use Rattle.fill_edge.specs.Outside.{Files, Rose}
 use Rattle.fill_open.specs.Command.{CommandData, command_in, made}
-use Rattle.fill_words.specs.Words.{AskedData, Asks, Runs, SavedData, Shows, Wrong, asked_in}
+use Rattle.fillcsv_options.specs.Words.{AskedData, Asks, Runs, SavedData, Shows, Wrong, asked_in}
 use Rattle.fill_command.specs.Ending.{Says, line_of, status_of}
 use Rattle.fill_command.specs.Run.{Gives, RunEnds, World, world}
 use Rattle.fill_command.specs.declared.ending.Ending.{Ending}
 use Rattle.fill_command.specs.declared.ending.Ending.TheVariants as ending
-use Rattle.fill_filter.specs.RuleFile.{RanFile}
-use Rattle.fill_csv.specs.Asking.{SaysAfter, heard}
-use Rattle.fill_csv.specs.Ends.{EndsFilled, EndsShown, EndsWrong, OutBefore}
-use Rattle.fill_csv.specs.Saved.{StoreAt}
-use Rattle.fill_csv.specs.Said.{Says as SaysFilled}
+use Rattle.fillcsv_rule_runs.specs.RuleFile.{RanFile}
+use Rattle.fillcsv_run.specs.Asking.{SaysAfter, heard}
+use Rattle.fillcsv_run.specs.Ends.{EndsFilled, EndsShown, EndsWrong, OutBefore}
+use Rattle.fillcsv_run.specs.Saved.{StoreAt}
+use Rattle.fillcsv_run.specs.Said.{Says as SaysFilled}
 use Rattle.fill_engine.specs.Answer.{AnswerData}
 use Rattle.fill_engine.specs.Programs.{EndsFillcsv, EndsFlashfill, Stores, files_of, no_faults, nothing_stored}
 use Rattle.fill_engine.specs.Input.{input_in}

@@ -3,17 +3,17 @@ use Rattle.std.specs.Prelude.{◌≡◌, ◌≢◌, ◌⊎◌, ◌≤◌, ℕ, L
 use Rattle.fill_edge.specs.Memory.{held}
 use Rattle.fill_edge.specs.Outside.{Files, Rose}
 use Rattle.fill_open.specs.Command.{command_in, made}
-use Rattle.fill_open.specs.Stops.{Counts}
-use Rattle.fill_words.specs.Words.{AskedData, Asks, Runs, SavedData, Shows, Wrong, asked_in}
+use Rattle.fill_opening.specs.Stops.{Counts}
+use Rattle.fillcsv_options.specs.Words.{AskedData, Asks, Runs, SavedData, Shows, Wrong, asked_in}
 use Rattle.fill_files.specs.Saves.{SavedFiles, last_bytes}
-use Rattle.fill_filter.specs.RuleFile.{RanFile}
-use Rattle.fill_csv.specs.Saved.{StoreAt}
+use Rattle.fillcsv_rule_runs.specs.RuleFile.{RanFile}
+use Rattle.fillcsv_run.specs.Saved.{StoreAt}
 use Rattle.fill_command.specs.Ending.{Says, line_of, status_of}
 use Rattle.fill_command.specs.Run.{Gives, RunEnds, world}
 use Rattle.fill_command.specs.declared.ending.Ending.{Ending}
-use Rattle.fill_csv.specs.Asking.{SaysAfter, heard}
-use Rattle.fill_csv.specs.Ends.{EndsFilled, EndsShown, EndsWrong, OutBefore}
-use Rattle.fill_csv.specs.Said.{Says as SaysFilled}
+use Rattle.fillcsv_run.specs.Asking.{SaysAfter, heard}
+use Rattle.fillcsv_run.specs.Ends.{EndsFilled, EndsShown, EndsWrong, OutBefore}
+use Rattle.fillcsv_run.specs.Said.{Says as SaysFilled}
 use Rattle.fill_engine.specs.declared.request.Program.{Program}
 use Rattle.fill_engine.specs.declared.request.Program.TheVariants.{Flashfill, Fillcsv}
 use Rattle.fill_engine.specs.Answer.{AnswerData, malformed, no_memory}

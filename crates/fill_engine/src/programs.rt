@@ -8,10 +8,10 @@ use crate::files::NamedFiles;
 use crate::input::Input;
 use crate::page::Page;
 use crate::request::Program;
-use fill_csv::Folder;
 use fill_edge::{Ledger, Steps};
 use fill_files::MemoryStore;
 use fill_text::NoMemory;
+use fillcsv_run::Folder;
 use std::alloc::Global;
 use std::marker::Brand;
 use std::sync::ledger::Blank;
@@ -58,7 +58,7 @@ fn run_fillcsv(alloc: Global, words: &[String], files: NamedFiles) -> Result<Ans
     let folder = folder_of(alloc, files);
     let mut out = Page::new(alloc);
     let mut err = Page::new(alloc);
-    let ran = fill_csv::run(alloc, words, folder, input, &mut out, &mut err);
+    let ran = fillcsv_run::run(alloc, words, folder, input, &mut out, &mut err);
     let saved = saved_by(alloc, &ran.folder.store)?;
     whole(ran.status, out, err, saved)
 }

@@ -2,16 +2,18 @@
 ghost use Rattle.std.specs.Prelude.{◌≡◌};
 
 use crate::Store;
+use crate::replacing::save_whole;
 use fill_edge::Failed;
-use std::fs;
+use std::alloc::Global;
 use std::marker::Model;
 use std::rt::Files;
 
 /// The files of the system, a name being a path from the current folder on.
 ///
-/// Whatever the system refuses is a counted failure. It can leave a part of the bytes in the file.
+/// Whatever the system refuses is a counted failure, and then the file that was there is whole.
 #[derive(Drop)]
 pub struct FolderStore<R: Files + Drop> {
+    alloc: Global,
     rt: R,
     faults: u64,
 }
@@ -26,10 +28,14 @@ impl<R: Files + Drop> Model for FolderStore<R> {
 
 impl<R: Files + Drop> FolderStore<R> {
     /// The files that this runtime writes.
-    pub fn new(rt: R) -> FolderStore<R>
+    pub fn new(alloc: Global, rt: R) -> FolderStore<R>
         ensures { result ≡ record { faults = 0 } }
     {
-        FolderStore { rt, faults: 0 }
+        FolderStore {
+            alloc,
+            rt,
+            faults: 0,
+        }
     }
 }
 
@@ -41,7 +47,7 @@ impl<R: Files + Drop> Store for FolderStore<R> {
     ghost faults = { λ store. store.faults };
 
     fn save(&mut self, name: &str, bytes: &[u8]) -> Result<(), Failed> {
-        match fs::write(&self.rt, name, bytes) {
+        match save_whole(self.alloc, &self.rt, name, bytes) {
             Ok(()) => Ok(()),
             Err(_) => {
                 self.faults = self.faults.saturating_add(1);

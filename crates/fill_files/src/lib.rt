@@ -4,6 +4,7 @@
 mod folder;
 mod input;
 mod memory;
+mod replacing;
 mod store;
 
 pub use folder::FolderStore;

@@ -10,13 +10,13 @@ use Rattle.fill_apply.specs.Saved.{SavedIs}
 use Rattle.fill_apply.specs.declared.error.ApplyError.{ApplyError}
 use Rattle.fill_apply.specs.declared.error.ApplyError.TheVariants as error
 use Rattle.fill_open.specs.Apply.{Applied, AppliedIs, ApplyStops, ApplyUnread, IsReading, Names, ProgramRefuses, Reading, apply_opens, program_in, with_program, with_report, with_script, with_sheet}
-use Rattle.fill_open.specs.Opened.{Held, Told, Opened, Unread, Refused, Passed, at_once, further}
+use Rattle.fill_opening.specs.Opened.{Held, Told, Opened, Unread, Refused, Passed, at_once, further}
 use Rattle.fill_open.specs.Refusal.{RefusalData}
 use Rattle.fill_open.specs.Steps.{file_opens, script_opens, sheet_opens, tables_open}
-use Rattle.fill_open.specs.Stops.{Counts, IsUnread, ReadFails, Stops}
-use Rattle.fill_open.specs.declared.stop.Stop.{Stop}
-use Rattle.fill_open.specs.declared.stop.Stop.TheVariants as stop
-use Rattle.fill_open.proofs.Binds.{Continues, continues_both, goes_on, refused_first, stops_first, stops_later, told_both, told_one, unread_first}
+use Rattle.fill_opening.specs.Stops.{Counts, IsUnread, ReadFails, Stops}
+use Rattle.fill_opening.specs.declared.stop.Stop.{Stop}
+use Rattle.fill_opening.specs.declared.stop.Stop.TheVariants as stop
+use Rattle.fill_opening.proofs.Binds.{Continues, continues_both, goes_on, refused_first, stops_first, stops_later, told_both, told_one, unread_first}
 
 same_passed : {A : Type 0} (o : Opened RefusalData A) (x y : A) → o ≡ Passed x → o ≡ Passed y → x ≡ y
 same_passed o x y p q = let e : Passed x ≡ Passed y = sym p ∙ q in cc

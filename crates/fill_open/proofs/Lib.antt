@@ -1,5 +1,4 @@
 pub mod Applies
-pub mod Binds
 pub mod MadeLines
 pub mod MadeOpens
 pub mod MadeRecords

@@ -12,14 +12,14 @@ use Rattle.csv.proofs.OnLiterals.{csv_on_literals}
 use Rattle.fill_records.specs.Records.{records_of}
 use Rattle.fill_records.specs.Texts.{first_bad}
 use Rattle.fill_sheet.specs.Sheet.{read_sheet, read_up_to, row_of, row_records, sheet_of}
-use Rattle.fill_script.specs.Line.{between}
-use Rattle.fill_script.specs.Number.{number_in}
+use Rattle.fill_numbers.specs.Columns.{between}
+use Rattle.fill_numbers.specs.Number.{number_in}
 use Rattle.fill_script.specs.Script.{read_script}
 use Rattle.fill_open.specs.Apply.{Names, named}
 use Rattle.fill_open.specs.Command.{apply, command_in, keys, made, made_of, replay, with_name}
 use Rattle.fill_open.specs.Made.{character, pattern, first_letter, made_cell, made_output, made_session, made_sheet}
 use Rattle.fill_open.specs.MadeReady.{made_row, made_rows, made_script, made_ready}
-use Rattle.fill_open.specs.Opened.{Passed}
+use Rattle.fill_opening.specs.Opened.{Passed}
 use Rattle.fill_open.specs.Steps.{made_opens}
 use Rattle.fill_open.specs.declared.generator.Sign.{Sign}
 use Rattle.fill_open.specs.declared.generator.Sign.TheVariants.{Capital, Small, Space}

@@ -7,15 +7,12 @@ use Rattle.fill_text.specs.Data.{SheetData, TableData}
 use Rattle.fill_edge.specs.Outside.{Files, NoneFell}
 use Rattle.fill_script.specs.declared.script.Script.{Script}
 use Rattle.fill_script.specs.declared.script.TableLine.{TableLine}
-use Rattle.fill_open.specs.Opened.{Held, Told, Opening, Passed, at_once, and_then}
+use Rattle.fill_opening.specs.Opened.{Held, Told, Opening, Passed, at_once, and_then}
 use Rattle.fill_open.specs.Steps.{script_opens, sheet_opens, line_opens, tables_open, from_script, from_sheet, replay_opens}
 use Rattle.fill_open.specs.Refusal.{RefusalData}
-use Rattle.fill_open.specs.Stops.{Counts, Stops}
-use Rattle.fill_open.specs.declared.stop.Stop.{Stop}
-use Rattle.fill_open.proofs.Binds.{Continues, continues_both, told_one, told_both, stops_later, stops_first, all_go_on}
-
-pub none_fell_both : (a b c : Counts) → NoneFell a b → NoneFell b c → NoneFell a c
-none_fell_both a b c h k name = let first = h name in let second = k name in omega arith
+use Rattle.fill_opening.specs.Stops.{Counts, Stops}
+use Rattle.fill_opening.specs.declared.stop.Stop.{Stop}
+use Rattle.fill_opening.proofs.Binds.{none_fell_both, Continues, continues_both, told_one, told_both, stops_later, stops_first, all_go_on}
 
 module _ (files : Files) (session : List ℕ) (lines : List TableLine) (tables : List TableData) (i : ℕ)
     (rest : Told files (λ held. Continues (tables_open held session [] lines) (tables_open held session tables (drop i lines)))) where

@@ -6,14 +6,14 @@ use Rattle.fill_tree.specs.Switch.{SwitchTree, switch_tree}
 use Rattle.fill_script.specs.declared.script.Script.{Script}
 use Rattle.fill_apply.specs.Saved.{SavedIs}
 use Rattle.fill_apply.specs.declared.error.ApplyError.{ApplyError}
-use Rattle.fill_open.specs.Opened.{Held, Told, Opened, Opening, Unread, Refused, Passed, at_once, and_then, checked}
+use Rattle.fill_opening.specs.Opened.{Held, Told, Opened, Opening, Unread, Refused, Passed, at_once, and_then, checked}
 use Rattle.fill_open.specs.Refusal.{RefusalData, refusal}
 use Rattle.fill_open.specs.Steps.{file_opens, script_opens, sheet_opens, tables_open}
-use Rattle.fill_open.specs.Stops.{Counts}
+use Rattle.fill_opening.specs.Stops.{Counts}
 use Rattle.fill_open.specs.declared.apply.Application.{Application}
 use Rattle.fill_open.specs.declared.fault.Fault.TheVariants as fault
-use Rattle.fill_open.specs.declared.stop.Stop.{Stop}
-use Rattle.fill_open.specs.declared.stop.Stop.TheVariants as stop
+use Rattle.fill_opening.specs.declared.stop.Stop.{Stop}
+use Rattle.fill_opening.specs.declared.stop.Stop.TheVariants as stop
 
 -- the names of the session, of the report with the program, and of the sheet
 pub record Names : Type 0 where

@@ -1,7 +1,7 @@
 -- The commands, and which words are one.
 use Rattle.std.specs.Prelude.{ℕ, ◌==◌, ◌||◌, ◌≤◌, List, [], ◌∷◌, length, Option, Some, None, if◌then◌else◌, codes, option_map, ⊤}
 use Rattle.std.specs.Str.{bytes_eq}
-use Rattle.fill_script.specs.Line.{number_between}
+use Rattle.fill_numbers.specs.Columns.{number_between}
 use Rattle.fill_open.specs.Apply.{Names, named}
 use Rattle.fill_open.specs.declared.command.TheConstants.{MOST_MADE_LINES}
 use Rattle.fill_open.specs.declared.command.Command.{Command}

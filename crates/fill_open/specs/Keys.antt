@@ -6,7 +6,7 @@ use Rattle.fill_text.specs.Lists.{Lists}
 use Rattle.fill_edge.specs.Outside.{Files}
 use Rattle.fill_tables.specs.Tables.{add_table_to, column_count}
 use Rattle.fill_keys.specs.Keys.{IsMinimalKey, keys_cmp}
-use Rattle.fill_open.specs.Opened.{Held, Told, Opened, Opening, Refused, Passed, at_once, and_then, checked}
+use Rattle.fill_opening.specs.Opened.{Held, Told, Opened, Opening, Refused, Passed, at_once, and_then, checked}
 use Rattle.fill_open.specs.Refusal.{RefusalData, refusal}
 use Rattle.fill_open.specs.Steps.{file_opens}
 use Rattle.fill_open.specs.declared.fault.Fault.TheVariants as fault

@@ -1,9 +1,7 @@
 pub mod Made
 pub mod MadeReady
-pub mod Opened
 pub mod Refusal
 pub mod Lines
-pub mod Stops
 pub mod Steps
 pub mod Apply
 pub mod Keys

@@ -1,5 +1,5 @@
 -- The lines that say why a file can't be read or is refused.
-use Rattle.std.specs.Prelude.{ℕ, List, ◌++◌, codes}
+use Rattle.std.specs.Prelude.{ℕ, List, ◌++◌, codes, string_bytes}
 use Rattle.std.specs.Fmt.{decimal}
 use Rattle.fill_apply.specs.declared.error.ApplyError.{ApplyError}
 use Rattle.fill_apply.specs.declared.error.ApplyError.TheVariants as apply
@@ -12,6 +12,8 @@ use Rattle.fill_tables.specs.declared.error.TableError.TheVariants as table
 use Rattle.fill_open.specs.Refusal.{RefusalData}
 use Rattle.fill_open.specs.declared.fault.Fault.{Fault}
 use Rattle.fill_open.specs.declared.fault.Fault.TheVariants as fault
+use Rattle.fill_opening.specs.declared.stop.Stop.{Stop}
+use Rattle.fill_opening.specs.declared.stop.Stop.TheVariants as stop
 
 -- a text about a record, by its number
 abbrev pub record_text : ℕ → List ℕ → List ℕ
@@ -75,3 +77,9 @@ unread_line name = line_of name (codes "cannot be read")
 
 abbrev pub memory_line : List ℕ
 memory_line = codes "flashfill: out of memory\n"
+
+-- the line of a stop
+abbrev pub stop_line : Stop RefusalData → List ℕ
+stop_line (stop.Unread name) = unread_line (string_bytes name)
+stop_line (stop.Refused r) = refusal_line r
+stop_line stop.NoMemory = memory_line

@@ -1,4 +1,5 @@
 -- The steps of a session: which files it reads, in what order they are checked, and what they open.
+use Rattle.fill_edge.specs.declared.outside.TheConstants.{LARGEST_FILE}
 use Rattle.std.specs.Prelude.{ℕ, nat_lt, Bool, if◌then◌else◌, List, [], ◌∷◌, length, codes, Option, Some, None, encode_utf8_all}
 use Rattle.fill_text.specs.Data.{SheetData, TableData}
 use Rattle.fill_sheet.specs.Sheet.{read_sheet}
@@ -8,14 +9,14 @@ use Rattle.fill_script.specs.declared.script.Script.{Script}
 use Rattle.fill_script.specs.declared.script.TableLine.{TableLine}
 use Rattle.fill_script.specs.declared.script.TableLine.TheVariants.{Table, Key}
 use Rattle.fill_open.specs.Made.{made_session, made_sheet}
-use Rattle.fill_open.specs.Opened.{Held, Opened, Opening, Unread, Refused, Passed, at_once, and_then, checked}
+use Rattle.fill_opening.specs.Opened.{Held, Opened, Opening, Unread, Refused, Passed, at_once, and_then, checked}
 use Rattle.fill_open.specs.Refusal.{RefusalData, key_refusal, refusal, table_refusal}
 use Rattle.fill_open.specs.declared.fault.Fault.TheVariants as fault
 use Rattle.fill_open.specs.declared.session.Ready.{Ready}
 
 -- a file has more bytes than one may have
 abbrev pub is_too_long : List ℕ → Bool
-is_too_long bytes = nat_lt 16777216 (length bytes)
+is_too_long bytes = nat_lt LARGEST_FILE (length bytes)
 
 -- the bytes of a file that is there and not too long
 abbrev pub bytes_of : List ℕ → Option (List ℕ) → Opened RefusalData (List ℕ)

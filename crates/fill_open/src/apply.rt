@@ -4,11 +4,12 @@ ghost use Rattle.fill_edge.specs.Outside.{NoneFell};
 ghost use Rattle.fill_apply.specs.Saved.{SavedIs, columns_read};
 ghost use Rattle.fill_tree.specs.Switch.{switch_tree};
 ghost use Rattle.fill_open.specs.Apply.{AppliedIs, ApplyStops, ProgramRefuses, application_data, named};
-ghost use Rattle.fill_open.specs.Opened.{Told, Passed};
+ghost use Rattle.fill_opening.specs.Opened.{Told, Passed};
 
 use crate::file::open_file;
 use crate::script::open_script;
 use crate::sheet::open_sheet;
+use crate::stop::refused;
 use crate::tables::open_tables;
 use crate::{Fault, Stop};
 use fill_apply::{ApplyError, open_switch, saved_programs_are_one};
@@ -83,6 +84,6 @@ fn program_in(alloc: Global, script: &Script, program: &str, bytes: &[u8]) -> Re
     match open_switch(alloc, bytes, script.inputs.as_slice()) {
         Ok(switch) => Ok(switch),
         Err(ApplyError::NoMemory) => Err(Stop::NoMemory),
-        Err(e) => Err(Stop::refused(alloc, program, Fault::Program(e))),
+        Err(e) => Err(refused(alloc, program, Fault::Program(e))),
     }
 }

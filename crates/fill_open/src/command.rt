@@ -1,9 +1,9 @@
 //! Commands.
 ghost use Rattle.std.specs.Prelude.{◌≡◌, IfSome, map, option_map, string_bytes};
-ghost use Rattle.fill_script.specs.Line.{number_between};
+ghost use Rattle.fill_numbers.specs.Columns.{number_between};
 ghost use Rattle.fill_open.specs.Command.{IsCommand, command_data, command_in, with_argument, with_names};
 
-use fill_script::number_in;
+use fill_numbers::number_in;
 
 /// What the words of a command line ask for.
 #[derive(Clone, Copy, Debug, PartialEq, Eq)]

@@ -1,10 +1,11 @@
 //! Reading a file.
 ghost use Rattle.std.specs.Prelude.{◌≡◌, IfOk, IfErr};
 ghost use Rattle.fill_edge.specs.Outside.{NoneFell};
-ghost use Rattle.fill_open.specs.Opened.{Told, Passed};
+ghost use Rattle.fill_opening.specs.Opened.{Told, Passed};
 ghost use Rattle.fill_open.specs.Steps.{file_opens};
-ghost use Rattle.fill_open.specs.Stops.{Stops};
+ghost use Rattle.fill_opening.specs.Stops.{Stops};
 
+use crate::stop::refused;
 use crate::{Fault, Stop};
 use fill_edge::{Cabinet, LARGEST_FILE, ReadError, read_all};
 use fill_text::List;
@@ -24,7 +25,7 @@ pub(crate) fn open_file<C: Cabinet>(
     match read_all(alloc, cabinet, name, LARGEST_FILE) {
         Ok(bytes) => Ok(bytes),
         Err(ReadError::NoMemory) => Err(Stop::NoMemory),
-        Err(ReadError::TooLong { .. }) => Err(Stop::refused(alloc, name, Fault::TooLong)),
+        Err(ReadError::TooLong { .. }) => Err(refused(alloc, name, Fault::TooLong)),
         Err(_) => match String::from_str(alloc, name) {
             Ok(name) => Err(Stop::Unread(name)),
             Err(_) => Err(Stop::NoMemory),

@@ -3,10 +3,11 @@ ghost use Rattle.std.specs.Prelude.{◌≡◌, IfErr, IfOk, List, length};
 ghost use Rattle.fill_edge.specs.Outside.{NoneFell};
 ghost use Rattle.fill_text.specs.Data.{TableData};
 ghost use Rattle.fill_open.specs.Keys.{AreKeys, OpensKeys, keys_opens, narrow_table_opens, unless_wide};
-ghost use Rattle.fill_open.specs.Opened.{Passed};
-ghost use Rattle.fill_open.specs.Stops.{Refuses, Stops};
+ghost use Rattle.fill_opening.specs.Opened.{Passed};
+ghost use Rattle.fill_opening.specs.Stops.{Refuses, Stops};
 
 use crate::file::open_file;
+use crate::stop::refused;
 use crate::{Fault, Stop};
 use fill_edge::Cabinet;
 use fill_keys::{KeysError, keys_of};
@@ -43,7 +44,7 @@ fn keys_in(alloc: Global, file: &str, bytes: &[u8]) -> Result<List<List<u32>>, S
     match tables.add_table(file, bytes) {
         Ok(()) => table_keys(alloc, file, &tables),
         Err(TableError::NoMemory) => Err(Stop::NoMemory),
-        Err(e) => Err(Stop::refused(alloc, file, Fault::Table(e))),
+        Err(e) => Err(refused(alloc, file, Fault::Table(e))),
     }
 }
 
@@ -56,7 +57,7 @@ fn table_keys(alloc: Global, file: &str, tables: &Tables) -> Result<List<List<u3
 {
     match keys_of(alloc, tables, 1) {
         Ok(keys) => Ok(keys),
-        Err(KeysError::TooWide { .. }) => Err(Stop::refused(alloc, file, Fault::TooWide)),
+        Err(KeysError::TooWide { .. }) => Err(refused(alloc, file, Fault::TooWide)),
         Err(KeysError::NoMemory) => Err(Stop::NoMemory),
     }
 }

@@ -2,11 +2,12 @@
 ghost use Rattle.std.specs.Prelude.{◌≡◌, IfOk, IfErr};
 ghost use Rattle.fill_edge.specs.Outside.{NoneFell};
 ghost use Rattle.fill_script.specs.Script.{IsScript};
-ghost use Rattle.fill_open.specs.Opened.{Told, Passed};
+ghost use Rattle.fill_opening.specs.Opened.{Told, Passed};
 ghost use Rattle.fill_open.specs.Steps.{script_in, script_opens};
-ghost use Rattle.fill_open.specs.Stops.{Refuses, Stops};
+ghost use Rattle.fill_opening.specs.Stops.{Refuses, Stops};
 
 use crate::file::open_file;
+use crate::stop::refused;
 use crate::{Fault, Stop};
 use fill_edge::Cabinet;
 use fill_script::{Script, ScriptError};
@@ -39,6 +40,6 @@ pub(crate) fn script_in(alloc: Global, session: &str, bytes: &[u8]) -> Result<Sc
     match Script::read(alloc, bytes) {
         Ok(script) => Ok(script),
         Err(ScriptError::NoMemory) => Err(Stop::NoMemory),
-        Err(e) => Err(Stop::refused(alloc, session, Fault::Script(e))),
+        Err(e) => Err(refused(alloc, session, Fault::Script(e))),
     }
 }

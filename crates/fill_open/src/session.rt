@@ -2,9 +2,9 @@
 ghost use Rattle.std.specs.Prelude.{◌≡◌, ◌≤◌, IfOk, IfErr};
 ghost use Rattle.fill_edge.specs.Outside.{NoneFell};
 ghost use Rattle.fill_script.specs.Script.{IsScript};
-ghost use Rattle.fill_open.specs.Opened.{Told, Passed};
+ghost use Rattle.fill_opening.specs.Opened.{Told, Passed};
 ghost use Rattle.fill_open.specs.Steps.{made_opens, replay_opens};
-ghost use Rattle.fill_open.specs.Stops.{Refuses, Stops};
+ghost use Rattle.fill_opening.specs.Stops.{Refuses, Stops};
 
 use crate::script::{open_script, script_in};
 use crate::sheet::{open_sheet, sheet_in};

@@ -4,11 +4,12 @@ ghost use Rattle.std.specs.List.Sorted.{IsPermutation};
 ghost use Rattle.fill_edge.specs.Outside.{NoneFell};
 ghost use Rattle.fill_sheet.specs.Columns.{IsOutput};
 ghost use Rattle.fill_script.specs.Script.{IsScript};
-ghost use Rattle.fill_open.specs.Opened.{Told, Passed};
+ghost use Rattle.fill_opening.specs.Opened.{Told, Passed};
 ghost use Rattle.fill_open.specs.Steps.{sheet_in, sheet_opens};
-ghost use Rattle.fill_open.specs.Stops.{Refuses, Stops};
+ghost use Rattle.fill_opening.specs.Stops.{Refuses, Stops};
 
 use crate::file::open_file;
+use crate::stop::refused;
 use crate::{Fault, Stop};
 use fill_edge::Cabinet;
 use fill_script::Script;
@@ -55,6 +56,6 @@ pub(crate) fn sheet_in(
     match Sheet::read(alloc, bytes, script.header, inputs, output) {
         Ok(sheet) => Ok(sheet),
         Err(SheetError::NoMemory) => Err(Stop::NoMemory),
-        Err(e) => Err(Stop::refused(alloc, name, Fault::Sheet(e))),
+        Err(e) => Err(refused(alloc, name, Fault::Sheet(e))),
     }
 }

@@ -5,12 +5,13 @@ ghost use Rattle.fill_edge.specs.Outside.{NoneFell};
 ghost use Rattle.fill_script.specs.Script.{IsTableLine};
 ghost use Rattle.fill_tables.specs.Keys.{AreKeyColumns};
 ghost use Rattle.fill_tables.specs.Tables.{add_key_to};
-ghost use Rattle.fill_open.specs.Opened.{Told, Passed, checked};
+ghost use Rattle.fill_opening.specs.Opened.{Told, Passed, checked};
 ghost use Rattle.fill_open.specs.Refusal.{key_refusal};
 ghost use Rattle.fill_open.specs.Steps.{line_opens, table_in, tables_open};
-ghost use Rattle.fill_open.specs.Stops.{Refuses, Stops};
+ghost use Rattle.fill_opening.specs.Stops.{Refuses, Stops};
 
 use crate::file::open_file;
+use crate::stop::refused;
 use crate::{Fault, Stop};
 use fill_edge::Cabinet;
 use fill_script::TableLine;
@@ -103,9 +104,9 @@ fn add_table(
         Err(TableError::NoMemory) => Err(Stop::NoMemory),
         Err(error) => match error {
             TableError::TooManyRows { .. } | TableError::NotUtf8 { .. } => {
-                Err(Stop::refused(alloc, file, Fault::Table(error)))
+                Err(refused(alloc, file, Fault::Table(error)))
             }
-            _ => Err(Stop::refused(alloc, session, Fault::Line { number, error })),
+            _ => Err(refused(alloc, session, Fault::Line { number, error })),
         },
     }
 }
@@ -126,6 +127,6 @@ fn add_key(
     match tables.add_key(name, columns) {
         Ok(()) => Ok(()),
         Err(TableError::NoMemory) => Err(Stop::NoMemory),
-        Err(error) => Err(Stop::refused(alloc, session, Fault::Line { number, error })),
+        Err(error) => Err(refused(alloc, session, Fault::Line { number, error })),
     }
 }

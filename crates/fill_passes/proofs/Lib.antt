@@ -1,2 +1,3 @@
 pub mod Known
 mod Pieces
+mod Aheads

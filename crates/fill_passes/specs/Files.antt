@@ -1,6 +1,6 @@
 -- A file of a cabinet that is read more than once.
-use Rattle.std.specs.Prelude.{◌≡◌, ℕ, ◌≤◌, List, drop, length, Bool, true, ⊤, Option, None, Some, option_map}
-use Rattle.fill_edge.specs.Outside.{Files, Rose, NoneFell}
+use Rattle.std.specs.Prelude.{◌≡◌, ℕ, ◌≤◌, List, drop, length, Bool, true, false, ⊤, Option, None, Some, option_map}
+use Rattle.fill_edge.specs.Outside.{Files, Rose, NoneFell, NoneChanged}
 
 -- the bytes of the file of this name, where they are told
 abbrev pub told_bytes : Files → List ℕ → Option (List ℕ)
@@ -28,13 +28,19 @@ pub record ReaderData (C : Type 0) : Type 0 where
   pub at : ℕ
   pub failed : Bool
 
+-- a reader, and the bytes that were read ahead of it and not given yet
+pub record AheadData (R : Type 0) : Type 0 where
+  pub reader : R
+  pub ahead : List ℕ
+
 -- how a cabinet stands to what it was before its file was read: it holds the same files, the file is there and can be read to
--- its end, no count of faults fell, and where a read failed the name's count rose
+-- its end, no count of faults fell, and where a read failed the name's count rose, else none changed
 pub record IsSince (files : Files) (name : List ℕ) (before : List ℕ → ℕ) (most : ℕ) (now_files : Files) (now_name : List ℕ) (now : List ℕ → ℕ) (failed : Bool) : Type 0 where
   pub same : now_files ≡ files
   pub named : now_name ≡ name
   pub there : IsThere files name most
   pub later : NoneFell before now
+  pub unchanged : failed ≡ false → NoneChanged before now
   pub rose : failed ≡ true → Rose (before name) (now name)
 
 -- these bytes are told of the file of this name

@@ -2,7 +2,7 @@
 ghost use Rattle.std.specs.Prelude.{◌≡◌, ℕ, List, Option, string_bytes, true, false};
 ghost use Rattle.std.specs.Io.{ReadsAtMost};
 ghost use Rattle.std.specs.Io.KnownBytes.{ReadConsumes};
-ghost use Rattle.fill_edge.specs.Outside.{Files, NoneFell, Rose};
+ghost use Rattle.fill_edge.specs.Outside.{Files, NoneChanged, NoneFell, Rose};
 ghost use Rattle.fill_passes.specs.Files.{IsThere, told_from};
 
 use fill_edge::{Cabinet, LAST_PLACE};
@@ -82,6 +82,7 @@ impl<C: Cabinet + Drop, B: Origin> FileReader<C, B> {
     /// Whether a read failed.
     pub fn failed(&self) -> bool
         ensures value { result ≡ self.now.failed }
+        ensures same { result ≡ false → NoneChanged B.before (C.faults self.now.cabinet) }
         ensures rose { result ≡ true → Rose (B.before B.name) (C.faults self.now.cabinet B.name) }
     {
         self.failed
@@ -92,6 +93,7 @@ impl<C: Cabinet + Drop, B: Origin> FileReader<C, B> {
         ensures value { result ≡ self.cabinet }
         ensures files { C.files result ≡ B.files }
         ensures later { NoneFell B.before (C.faults result) }
+        ensures same { self.failed ≡ false → NoneChanged B.before (C.faults result) }
         ensures rose { self.failed ≡ true → Rose (B.before B.name) (C.faults result B.name) }
     {
         self.cabinet

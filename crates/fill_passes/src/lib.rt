@@ -4,7 +4,9 @@
 mod file_reader;
 mod measuring;
 mod pass;
+mod read_ahead;
 
 pub use file_reader::{FileReader, Origin};
 pub use measuring::measure;
 pub use pass::Pass;
+pub use read_ahead::ReadAhead;

@@ -25,6 +25,7 @@ pub fn measure<C: Cabinet>(
     ensures files { C.files cabinet.new ≡ C.files cabinet.old }
     ensures later { NoneFell (C.faults cabinet.old) (C.faults cabinet.new) }
 
+    ensures unfailed { ¬ IsErrOf result ReadError.ReadFault → NoneChanged (C.faults cabinet.old) (C.faults cabinet.new) }
     ensures fault { IsErrOf result ReadError.ReadFault → Rose (C.faults cabinet.old name.now) (C.faults cabinet.new name.now) }
     ensures missing { IsErrOf result ReadError.Missing → IsMissing (C.files cabinet.old) name.now }
     ensures too_long { (n : ℕ) → IsErrOf result (ReadError.TooLong n) → (n ≡ limit) × IsTooLong (C.files cabinet.old) name.now limit }
@@ -45,7 +46,7 @@ pub fn measure<C: Cabinet>(
 }
 
 /// A buffer of this many bytes, on the heap.
-fn zeros(alloc: Global, size: usize) -> Result<Vec<u8>, NoMemory>
+pub(crate) fn zeros(alloc: Global, size: usize) -> Result<Vec<u8>, NoMemory>
     ensures items { IfOk result (λ buffer. buffer.items ≡ replicate size 0) }
     ensures size { IfOk result (λ buffer. length buffer.items ≡ size) }
 {

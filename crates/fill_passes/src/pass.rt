@@ -1,10 +1,10 @@
 //! A pass over the records of a file.
-ghost use Rattle.std.specs.Prelude.{◌≡◌, IfOk, IfSome, OnOk, Some, drop, option_map, slice_get, true};
+ghost use Rattle.std.specs.Prelude.{◌≡◌, IfOk, IfSome, OnOk, Some, drop, false, option_map, slice_get, true};
 ghost use Rattle.fill_records.specs.Records.{records_of};
-ghost use Rattle.fill_edge.specs.Outside.{NoneFell, Rose};
+ghost use Rattle.fill_edge.specs.Outside.{NoneChanged, NoneFell, Rose};
 ghost use Rattle.fill_passes.specs.Files.{told_bytes};
 
-use crate::{FileReader, Origin};
+use crate::{FileReader, Origin, ReadAhead};
 use fill_edge::Cabinet;
 use fill_records::Record;
 use fill_stream::{Broken, RecordStream};
@@ -18,7 +18,7 @@ use std::marker::Model;
 /// is given back.
 #[derive(Drop)]
 pub struct Pass<C: Cabinet + Drop, B: Origin> {
-    stream: RecordStream<FileReader<C, B>>,
+    stream: RecordStream<ReadAhead<FileReader<C, B>>>,
     ended: bool,
 }
 
@@ -39,7 +39,7 @@ impl<C: Cabinet + Drop, B: Origin> Pass<C, B> {
     {
         reader.rewind();
         Pass {
-            stream: RecordStream::new(alloc, reader),
+            stream: RecordStream::new(alloc, ReadAhead::new(alloc, reader)),
             ended: false,
         }
     }
@@ -48,7 +48,7 @@ impl<C: Cabinet + Drop, B: Origin> Pass<C, B> {
     pub fn again(self, alloc: Global) -> Pass<C, B>
         ensures { result ≡ option_map records_of (told_bytes B.files B.name) }
     {
-        Pass::new(alloc, self.stream.into_inner())
+        Pass::new(alloc, self.stream.into_inner().into_inner())
     }
 
     /// The next record; none after the last one.
@@ -73,9 +73,10 @@ impl<C: Cabinet + Drop, B: Origin> Pass<C, B> {
     pub fn into_cabinet(self) -> (C, bool)
         ensures files { C.files result.0 ≡ B.files }
         ensures later { NoneFell B.before (C.faults result.0) }
+        ensures same { result.1 ≡ false → NoneChanged B.before (C.faults result.0) }
         ensures rose { result.1 ≡ true → Rose (B.before B.name) (C.faults result.0 B.name) }
     {
-        let reader = self.stream.into_inner();
+        let reader = self.stream.into_inner().into_inner();
         let failed = reader.failed();
         (reader.into_cabinet(), failed)
     }

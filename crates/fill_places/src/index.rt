@@ -21,6 +21,7 @@ use std::marker::Model;
 /// It keeps each sequence of up to three tokens of the set that ends or begins somewhere in the text, with a flag for each position.
 #[derive(Drop)]
 pub struct PlaceIndex {
+    alloc: Global,
     text: Text,
     token_set: TokenSet,
     lefts: Vec<Entry>,
@@ -49,6 +50,7 @@ impl PlaceIndex {
         let lefts = lefts(alloc, &spans, &text, token_set)?;
         let rights = rights(alloc, &spans, &text, token_set)?;
         Ok(PlaceIndex {
+            alloc,
             text,
             token_set,
             lefts,
@@ -57,12 +59,12 @@ impl PlaceIndex {
     }
 
     /// All places of the grammar by tokens of the set whose value in the text is `k`, in their order and each once.
-    pub fn places_at(&self, alloc: Global, k: usize) -> Result<List<Place>, NoMemory>
+    pub fn places_at(&self, k: usize) -> Result<List<Place>, NoMemory>
         requires { k ≤ length self.now.text }
         ensures { IfOk result (Lists place_cmp (λ p. IsPlaceOf self.now.token_set p × HasValue p self.now.text k)) }
     {
         list_places(
-            alloc,
+            self.alloc,
             &self.lefts,
             &self.rights,
             &self.text,
@@ -85,5 +87,5 @@ pub fn places_of(
     ensures { IfOk result (Lists place_cmp (λ p. IsPlaceOf token_set p × HasValue p t.now k)) }
 {
     let index = PlaceIndex::new(alloc, t, token_set)?;
-    index.places_at(alloc, k)
+    index.places_at(k)
 }

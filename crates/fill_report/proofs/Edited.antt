@@ -8,7 +8,8 @@ use Rattle.fill_session.specs.Timeline.{Timeline, edited}
 use Rattle.fill_session.specs.declared.error.EditError.{EditError}
 use Rattle.fill_report.specs.Entries.{EditWrites, TaskBegins, edit_told, refusal, told}
 use Rattle.fill_report.specs.Output.{Leaves, WritesRecords}
-use Rattle.fill_report.specs.Records.{Fields, ok_record, refused_record}
+use Rattle.fill_output.specs.Fields.{Fields}
+use Rattle.fill_report.specs.Records.{ok_record, refused_record}
 use Rattle.fill_report.specs.Runs.{Written}
 use Rattle.fill_report.specs.Tasks.{change}
 use Rattle.fill_report.specs.Writing.{LeavesOne}

@@ -16,7 +16,8 @@ use Rattle.fill_session.specs.State.{AreShown, IsBranch, Shows}
 use Rattle.fill_session.specs.declared.branch.Branch.{Branch}
 use Rattle.fill_report.specs.Entries.{BestOf, QueryBegins, QueryWrites, refusal, told}
 use Rattle.fill_report.specs.Output.{Leaves, WritesRecords}
-use Rattle.fill_report.specs.Records.{Fields, best_record, best_records, no_branch_record}
+use Rattle.fill_output.specs.Fields.{Fields}
+use Rattle.fill_report.specs.Records.{best_record, best_records, no_branch_record}
 use Rattle.fill_report.specs.Writing.{LeavesFirst, LeavesOne}
 use Rattle.fill_output.specs.declared.halt.Halt.{Halt}
 use Rattle.fill_report.specs.declared.tasks.Query.TheVariants as query

@@ -14,7 +14,7 @@ use Rattle.fill_session.specs.Timeline.{Timeline, forgotten}
 use Rattle.fill_report.specs.Entries.{BestOf, EditWrites, EntryBegins, EntryWrites, FillBegins, MoveWrites, QueryBegins, QueryWrites, RowWrites, TaskBegins, TaskWrites, edit_told, told}
 use Rattle.fill_report.specs.Laws.{IsFrontOf}
 use Rattle.fill_report.specs.Objections.{IsObjectRecord}
-use Rattle.fill_report.specs.Records.{Fields}
+use Rattle.fill_output.specs.Fields.{Fields}
 use Rattle.fill_report.specs.Report.{BeginsReport, EntriesBegin, EntriesWrite, IsReport, additions, start}
 use Rattle.fill_report.specs.Rows.{IsRowRecord}
 use Rattle.fill_report.specs.Runs.{Begins, FirstOf, Runs, Written, first_of, followed, nothing}

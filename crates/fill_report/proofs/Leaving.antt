@@ -10,8 +10,9 @@ use Rattle.fill_text.specs.declared.error.NoMemory.{NoMemory}
 use Rattle.fill_tree.specs.declared.user.Example.{Example}
 use Rattle.fill_space.specs.declared.ground.Ground.{Ground}
 use Rattle.fill_report.specs.Entries.{FillBegins, QueryBegins, QueryWrites, told}
-use Rattle.fill_report.specs.Output.{Leaves, WritesRecords, report_text}
-use Rattle.fill_report.specs.Records.{Fields}
+use Rattle.fill_output.specs.Fields.{report_text}
+use Rattle.fill_report.specs.Output.{Leaves, WritesRecords}
+use Rattle.fill_output.specs.Fields.{Fields}
 use Rattle.fill_report.specs.Rows.{AreRowRecords, IsRowRecord}
 use Rattle.fill_report.specs.Runs.{FirstOf, Written, nothing}
 use Rattle.fill_report.specs.Writing.{LeavesFirst, LeavesOne}
@@ -19,8 +20,8 @@ use Rattle.fill_output.specs.declared.halt.Halt.{Halt}
 use Rattle.fill_output.specs.declared.halt.Halt.TheVariants as halt
 use Rattle.fill_report.specs.declared.tasks.Query.{Query}
 use Rattle.fill_report.specs.declared.tasks.Query.TheVariants as query
-use Rattle.fill_report.proofs.Bytes.{appends_more, appends_one, part_more, part_one}
-use Rattle.fill_report.proofs.Numbered.{rows_more}
+use Rattle.fill_output.proofs.Bytes.{appends_more, appends_one, part_more, part_one}
+use Rattle.fill_output.proofs.Numbered.{rows_more}
 
 -- the flag of what has no refusal, and of what has one
 pub none_refused : (flag : Bool) → flag ≡ false → IsTrue flag ↔ (1 ≤ 0)

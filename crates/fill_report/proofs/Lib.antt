@@ -1,4 +1,3 @@
-pub mod Bytes
 pub mod Edited
 pub mod Firsts
 pub mod Fronts

@@ -10,7 +10,8 @@ use Rattle.fill_session.specs.Timeline.{Timeline}
 use Rattle.fill_session.proofs.GoingBack.{redo_is_one, undo_is_one}
 use Rattle.fill_report.specs.Entries.{GoesTo, MoveWrites, TaskBegins, missing, moved}
 use Rattle.fill_report.specs.Output.{Leaves}
-use Rattle.fill_report.specs.Records.{Fields, move_record}
+use Rattle.fill_output.specs.Fields.{Fields}
+use Rattle.fill_report.specs.Records.{move_record}
 use Rattle.fill_report.specs.Runs.{Written}
 use Rattle.fill_report.specs.Tasks.{go}
 use Rattle.fill_report.specs.Writing.{LeavesOne}

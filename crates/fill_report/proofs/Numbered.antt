@@ -13,13 +13,15 @@ use Rattle.fill_script.specs.declared.script.Entry.{Entry}
 use Rattle.fill_session.specs.Branches.{BranchData}
 use Rattle.fill_session.specs.State.{Shows}
 use Rattle.fill_session.specs.declared.branch.Branch.{Branch}
+use Rattle.fill_output.proofs.Numbered.{range_more}
 use Rattle.fill_report.specs.Counts.{AreCounts, IsWithin}
-use Rattle.fill_report.specs.Records.{Fields, branch_record, branch_records, shown_record, shown_records}
+use Rattle.fill_output.specs.Fields.{Fields}
+use Rattle.fill_report.specs.Records.{branch_record, branch_records, shown_record, shown_records}
 use Rattle.fill_report.specs.Report.{addition_at, additions}
 use Rattle.fill_report.specs.Rows.{is_state}
 use Rattle.fill_report.specs.declared.rows.Counts.{Counts}
-use Rattle.fill_report.specs.declared.rows.RowState.{RowState}
-use Rattle.fill_report.specs.declared.rows.RowState.TheVariants as state
+use Rattle.fill_states.specs.declared.row_state.RowState.{RowState}
+use Rattle.fill_states.specs.declared.row_state.RowState.TheVariants as state
 
 -- the record of a branch stands at its place
 pub shown_at : (n : ℕ) (bs : List Branch) (i : ℕ) (b : Branch) → slice_get bs i ≡ Some b → slice_get (shown_records n bs) i ≡ Some (shown_record (n + i) b)
@@ -55,30 +57,6 @@ shown_all n (x ∷ xs) (b ∷ bs) h =
     ap (λ (r : Fields). r ∷ shown_records (n + 1) xs)
     (ap (λ (y : Option Guard). branch_record n y (program_tree x.program)) h.0.guard ∙ ap (λ (p : Atoms). branch_record n b.guard p) h.0.program)
     ∙ ap (λ (l : List Fields). branch_record n b.guard b.program ∷ l) (shown_all (n + 1) xs bs h.1)
-
-range_suc : (a n : ℕ) → range_with_len a (suc n) ≡ range_with_len a n ++ (a + n) ∷ []
-range_suc a zero = let e : a ≡ a + 0 = omega arith in ap (λ (k : ℕ). k ∷ []) e
-range_suc a (suc n) =
-    let e : a + 1 + n ≡ a + suc n = omega arith in
-    ap (λ (l : List ℕ). a ∷ l) (range_suc (a + 1) n) ∙ ap (λ (k : ℕ). a ∷ (range_with_len (a + 1) n ++ k ∷ [])) e
-
--- the numbers from 1 on, and one more
-pub range_more : (n : ℕ) → range_with_len 1 (n + 1) ≡ range_with_len 1 n ++ (n + 1) ∷ []
-range_more n =
-    let s : n + 1 ≡ suc n = omega arith in
-    let e : 1 + n ≡ n + 1 = omega arith in
-    ap (range_with_len 1) s ∙ range_suc 1 n ∙ ap (λ (k : ℕ). range_with_len 1 n ++ k ∷ []) e
-
-zip_push : {A B : Type 0} (R : A → B → Type 0) (xs : List A) (ys : List B) (x : A) (y : B) → AllZip R xs ys → R x y → AllZip R (xs ++ x ∷ []) (ys ++ y ∷ [])
-zip_push R [] [] x y h r = (r, tt)
-zip_push R [] (b ∷ ys) x y h r = absurd h
-zip_push R (a ∷ xs) [] x y h r = absurd h
-zip_push R (a ∷ xs) (b ∷ ys) x y h r = (h.0, zip_push R xs ys x y h.1 r)
-
--- what holds of the first rows, and of the next one
-pub rows_more : {B : Type 0} (R : ℕ → B → Type 0) (n : ℕ) (ys : List B) (y : B) → AllZip R (range_with_len 1 n) ys → R (n + 1) y → AllZip R (range_with_len 1 (n + 1)) (ys ++ y ∷ [])
-rows_more R n ys y h r =
-    subst (λ (l : List ℕ). AllZip R l (ys ++ y ∷ [])) (sym (range_more n)) (zip_push R (range_with_len 1 n) ys (n + 1) y h r)
 
 -- as many as rows at most have one state
 pub within : (R : ℕ → RowState → Type 0) (c : Counts) (n : ℕ) (states : List RowState) → AllZip R (range_with_len 1 n) states → AreCounts c states → IsWithin c n

@@ -14,7 +14,8 @@ use Rattle.fill_session.specs.Timeline.{Timeline}
 use Rattle.fill_session.specs.declared.branch.Branch.{Branch}
 use Rattle.fill_report.specs.Entries.{EntryBegins, EntryWrites, IsCountRecord, IsSwitchRecord, QueryBegins, QueryWrites, RowWrites, TaskBegins, TaskWrites, refusal, told}
 use Rattle.fill_report.specs.Output.{Leaves}
-use Rattle.fill_report.specs.Records.{Fields, no_row_record, shown_records}
+use Rattle.fill_output.specs.Fields.{Fields}
+use Rattle.fill_report.specs.Records.{no_row_record, shown_records}
 use Rattle.fill_report.specs.Counts.{AreCounts}
 use Rattle.fill_report.specs.Rows.{count_record}
 use Rattle.fill_report.specs.Runs.{FirstOf, Written, nothing}
@@ -22,7 +23,7 @@ use Rattle.fill_report.specs.Tasks.{TaskData, ask, task_in}
 use Rattle.fill_report.specs.Writing.{LeavesFirst, LeavesOne}
 use Rattle.fill_output.specs.declared.halt.Halt.{Halt}
 use Rattle.fill_report.specs.declared.rows.Counts.{Counts}
-use Rattle.fill_report.specs.declared.rows.RowState.{RowState}
+use Rattle.fill_states.specs.declared.row_state.RowState.{RowState}
 use Rattle.fill_report.specs.declared.tasks.Query.{Query}
 use Rattle.fill_report.specs.declared.tasks.Query.TheVariants as query
 use Rattle.fill_report.proofs.Leaving.{leaves_answer, leaves_first, leaves_map, leaves_on, none_refused, one_refused, query_none}

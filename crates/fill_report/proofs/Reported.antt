@@ -17,7 +17,7 @@ use Rattle.fill_report.specs.Report.{BeginsReport, EntriesBegin, EntriesWrite, I
 use Rattle.fill_report.specs.Runs.{Written, followed, nothing}
 use Rattle.fill_output.specs.declared.halt.Halt.{Halt}
 use Rattle.fill_output.specs.declared.halt.Halt.TheVariants as halt
-use Rattle.fill_report.proofs.Bytes.{appends_then, part_then}
+use Rattle.fill_output.proofs.Bytes.{appends_then, part_then}
 use Rattle.fill_report.proofs.Leaving.{leaves_map, stops_map}
 use Rattle.fill_report.proofs.Numbered.{additions_before, additions_more}
 use Rattle.fill_report.proofs.Walk.{Wrote, either, runs_one, stops_before, stops_then, wrote_then}

@@ -22,12 +22,14 @@ use Rattle.fill_session.proofs.OneFate.{branches_are_one}
 use Rattle.fill_session.proofs.OneOutcome.{outcome_is_one}
 use Rattle.fill_report.specs.Entries.{BestOf, BestWrites, EditWrites, EntryWrites, QueryWrites, RowWrites, TaskWrites, edit_told, refusal, told}
 use Rattle.fill_report.specs.Objections.{IsObjectRecord, object_record}
-use Rattle.fill_report.specs.Records.{Fields, best_records, branch_records, refused_record, switch_record}
+use Rattle.fill_output.specs.Fields.{Fields}
+use Rattle.fill_report.specs.Records.{best_records, branch_records, refused_record, switch_record}
 use Rattle.fill_report.specs.Report.{EntriesWrite, IsReport, additions, start}
-use Rattle.fill_report.specs.Rows.{IsRowRecord, IsRowState, count_record, row_record, row_state}
+use Rattle.fill_states.specs.States.{row_state}
+use Rattle.fill_report.specs.Rows.{IsRowRecord, IsRowState, count_record, row_record}
 use Rattle.fill_report.specs.Runs.{Runs, Written, followed}
 use Rattle.fill_report.specs.Tasks.{TaskData, ask, change, go, task_in}
-use Rattle.fill_report.specs.declared.rows.RowState.{RowState}
+use Rattle.fill_states.specs.declared.row_state.RowState.{RowState}
 use Rattle.fill_report.specs.declared.tasks.Query.{Query}
 use Rattle.fill_report.specs.declared.tasks.Query.TheVariants as query
 use Rattle.fill_report.proofs.Moved.{move_writes_one}

@@ -13,7 +13,7 @@ use Rattle.fill_report.specs.Report.{EntriesBegin, EntriesWrite}
 use Rattle.fill_report.specs.Runs.{Begins, Runs, Written, followed, nothing}
 use Rattle.fill_output.specs.declared.halt.Halt.{Halt}
 use Rattle.fill_output.specs.declared.halt.Halt.TheVariants as halt
-use Rattle.fill_report.proofs.Bytes.{appends_then, part_then}
+use Rattle.fill_output.proofs.Bytes.{appends_then, part_then}
 use Rattle.fill_report.proofs.Leaving.{none_refused}
 
 followed_assoc : (a b c : Written) → followed (followed a b) c ≡ followed a (followed b c)

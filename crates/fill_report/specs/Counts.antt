@@ -4,8 +4,8 @@ use Rattle.fill_tree.specs.declared.user.Example.{Example}
 use Rattle.fill_space.specs.declared.ground.Ground.{Ground}
 use Rattle.fill_report.specs.Rows.{AreRowStates, count_of}
 use Rattle.fill_report.specs.declared.rows.Counts.{Counts}
-use Rattle.fill_report.specs.declared.rows.RowState.{RowState}
-use Rattle.fill_report.specs.declared.rows.RowState.TheVariants as state
+use Rattle.fill_states.specs.declared.row_state.RowState.{RowState}
+use Rattle.fill_states.specs.declared.row_state.RowState.TheVariants as state
 
 -- these are the numbers of the states
 pub record AreCounts (c : Counts) (states : List RowState) : Type 0 where

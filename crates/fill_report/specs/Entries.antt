@@ -14,11 +14,12 @@ use Rattle.fill_session.specs.Outcome.{OutcomeIs, is_row, term}
 use Rattle.fill_session.specs.Timeline.{RedoIs, Timeline, UndoIs, edited}
 use Rattle.fill_session.specs.declared.error.EditError.{EditError}
 use Rattle.fill_report.specs.Objections.{IsObjectRecord}
-use Rattle.fill_report.specs.Records.{Fields, best_records, branch_records, move_record, no_branch_record, no_row_record, ok_record, refused_record, switch_record}
+use Rattle.fill_output.specs.Fields.{Fields}
+use Rattle.fill_report.specs.Records.{best_records, branch_records, move_record, no_branch_record, no_row_record, ok_record, refused_record, switch_record}
 use Rattle.fill_report.specs.Rows.{AreRowRecords, AreRowStates, IsRowRecord, count_record}
 use Rattle.fill_report.specs.Runs.{FirstOf, Written, nothing}
 use Rattle.fill_report.specs.Tasks.{TaskData, ask, change, go, task_in}
-use Rattle.fill_report.specs.declared.rows.RowState.{RowState}
+use Rattle.fill_states.specs.declared.row_state.RowState.{RowState}
 use Rattle.fill_report.specs.declared.tasks.Query.{Query}
 use Rattle.fill_report.specs.declared.tasks.Query.TheVariants as query
 use Rattle.fill_report.specs.declared.tasks.Way.{Way}

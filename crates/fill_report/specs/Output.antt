@@ -1,17 +1,12 @@
 -- What a sink got and a counter counted, of what is to be written.
 use Rattle.std.specs.Prelude.{◌↔◌, ℕ, ◌+◌, ◌≤◌, List, Bool, IsTrue, Option, Result, Ok, Err}
-use Rattle.std.specs.List.{flat_map}
 use Rattle.std.specs.Io.KnownBytes.{Appends}
 use Rattle.fill_edge.specs.Outside.{AppendsPart}
-use Rattle.fill_sheet.specs.Report.{record_text}
-use Rattle.fill_report.specs.Records.{Fields}
+use Rattle.fill_output.specs.Fields.{report_text}
+use Rattle.fill_output.specs.Fields.{Fields}
 use Rattle.fill_report.specs.Runs.{Written}
 use Rattle.fill_output.specs.declared.halt.Halt.{Halt}
 use Rattle.fill_output.specs.declared.halt.Halt.TheVariants as halt
-
--- the bytes of records
-abbrev pub report_text : List Fields → List ℕ
-report_text records = flat_map record_text records
 
 -- something of this kind was written whole, with no more steps than it may take; the flag tells whether a refusal is in it
 abbrev pub Writes : (Written → Type 0) → Bool → Option (List ℕ) → Option (List ℕ) → ℕ → ℕ → Type 0

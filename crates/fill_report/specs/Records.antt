@@ -1,7 +1,7 @@
 -- The fields of records.
 use Rattle.std.specs.Prelude.{ℕ, ◌+◌, List, [], ◌∷◌, ◌++◌, Option, None, Some, codes}
 use Rattle.std.specs.Fmt.{decimal}
-pub use Rattle.fill_output.specs.Fields.{Fields}
+use Rattle.fill_output.specs.Fields.{Fields}
 use Rattle.fill_tree.specs.Meaning.{program_tree}
 use Rattle.fill_tree.specs.Switch.{SwitchTree}
 use Rattle.fill_tree.specs.Tree.{Atoms}

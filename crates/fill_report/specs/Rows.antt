@@ -3,34 +3,14 @@ use Rattle.std.specs.Prelude.{◌≡◌, ℕ, List, [], ◌∷◌, count_by, Boo
 use Rattle.std.specs.Fmt.{decimal}
 use Rattle.std.specs.List.{AllZip, range_with_len}
 use Rattle.fill_output.specs.Fields.{Fields}
-pub use Rattle.fill_output.specs.Fields.{answer_field}
+use Rattle.fill_output.specs.Fields.{answer_field}
 use Rattle.fill_tree.specs.declared.user.Example.{Example}
 use Rattle.fill_space.specs.declared.ground.Ground.{Ground}
 use Rattle.fill_session.specs.Answers.{AnswerIs}
 use Rattle.fill_session.specs.declared.answer.Answer.{Answer}
-use Rattle.fill_session.specs.declared.answer.State.{State}
-use Rattle.fill_session.specs.declared.answer.State.TheVariants as memo
-use Rattle.fill_report.specs.declared.rows.RowState.{RowState}
-use Rattle.fill_report.specs.declared.rows.RowState.TheVariants as state
-
--- what is told of a row whose answer is known so and has this text
-abbrev pub told_state : State → Option (List ℕ) → RowState
-told_state memo.Given text = state.Given
-told_state memo.Sure None = state.Nothing
-told_state memo.Sure (Some text) = state.Sure
-told_state memo.Doubt None = state.NothingInDoubt
-told_state memo.Doubt (Some text) = state.Doubt
-
--- the state of the row of an answer
-abbrev pub row_state : Answer → RowState
-row_state a = told_state a.state a.text
-
-abbrev pub state_name : RowState → List ℕ
-state_name state.Given = codes "given"
-state_name state.Sure = codes "sure"
-state_name state.Doubt = codes "doubt"
-state_name state.Nothing = codes "none"
-state_name state.NothingInDoubt = codes "none doubt"
+use Rattle.fill_states.specs.States.{row_state, state_name}
+use Rattle.fill_states.specs.declared.row_state.RowState.{RowState}
+use Rattle.fill_states.specs.declared.row_state.RowState.TheVariants as state
 
 -- the record of a row with this answer
 abbrev pub row_record : ℕ → Answer → Fields

@@ -15,9 +15,7 @@ mod report;
 mod rows;
 mod tasks;
 
-pub use fill_output::{Halt, answer_field};
 pub use report::write_report;
-pub use rows::RowState;
 
 #[cfg(test)]
 mod tests;

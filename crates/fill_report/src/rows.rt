@@ -4,60 +4,16 @@ ghost use Rattle.fill_doubt.specs.Shapes.{ShapesStand};
 ghost use Rattle.fill_session.specs.Answers.{AnswerIs};
 ghost use Rattle.fill_report.specs.Counts.{AreCounts, IsMemoOf, CountRows, IsWithin};
 ghost use Rattle.fill_report.specs.Entries.{IsCountRecord};
-ghost use Rattle.fill_report.specs.Rows.{IsRowRecord, row_record, row_state, state_name};
-ghost use Rattle.fill_report.specs.declared.rows.RowState.{RowState};
+ghost use Rattle.fill_states.specs.States.{row_state};
+ghost use Rattle.fill_report.specs.Rows.{IsRowRecord, row_record};
+ghost use Rattle.fill_states.specs.declared.row_state.RowState.{RowState};
 
 use fill_output::{Record, answer_field};
-use fill_session::{Answer, Session, Shapes, State};
+use fill_session::{Answer, Session, Shapes};
+use fill_sheet::MOST_ROWS;
+use fill_states::RowState;
 use fill_text::NoMemory;
 use std::alloc::Global;
-
-/// What is told of a row.
-#[derive(Clone, Copy, Debug, PartialEq, Eq)]
-pub enum RowState {
-    /// The row has an example.
-    Given,
-    /// All programs agree on a text.
-    Sure,
-    /// There is a text, and some programs differ.
-    Doubt,
-    /// There is no text.
-    Nothing,
-    /// There is no text, and some programs differ.
-    NothingInDoubt,
-}
-
-impl RowState {
-    /// The state of the row of an answer.
-    pub fn of(answer: &Answer) -> RowState
-        ensures { result ≡ row_state answer.now }
-    {
-        match answer.state {
-            State::Given => RowState::Given,
-            State::Sure => match answer.text {
-                Some(_) => RowState::Sure,
-                None => RowState::Nothing,
-            },
-            State::Doubt => match answer.text {
-                Some(_) => RowState::Doubt,
-                None => RowState::NothingInDoubt,
-            },
-        }
-    }
-
-    /// The word for the state.
-    pub fn name(self) -> &'static [u8]
-        ensures { result.now ≡ state_name self }
-    {
-        match self {
-            RowState::Given => b"given",
-            RowState::Sure => b"sure",
-            RowState::Doubt => b"doubt",
-            RowState::Nothing => b"none",
-            RowState::NothingInDoubt => b"none doubt",
-        }
-    }
-}
 
 /// The record of a row with an answer.
 fn record_of(alloc: Global, row: u32, answer: &Answer) -> Result<Record, NoMemory>
@@ -101,7 +57,7 @@ impl Counts {
 
     /// Counts one more row.
     fn add(&mut self, state: RowState)
-        requires { IsWithin self.old 16777216 }
+        requires { IsWithin self.old MOST_ROWS }
         ensures { (states : List RowState) → AreCounts self.old states → AreCounts self.new (states ++ state ∷ []) }
     {
         match state {
@@ -122,7 +78,7 @@ fn counted_answer(
     counts: &mut Counts,
 ) -> Result<Answer, NoMemory>
     requires there { above < length session.now.spaces.ground.sheet.rows }
-    requires few { above < 16777216 }
+    requires few { above < MOST_ROWS }
     requires shapes { ShapesStand session.now.spaces.arena shapes.old }
     requires counts { CountRows session.now.spaces.ground session.now.examples above counts.old }
     ensures shapes { ShapesStand session.now.spaces.arena shapes.new }
@@ -143,7 +99,7 @@ pub(crate) fn counted_record(
     counts: &mut Counts,
 ) -> Result<Record, NoMemory>
     requires there { above < length session.now.spaces.ground.sheet.rows }
-    requires few { above < 16777216 }
+    requires few { above < MOST_ROWS }
     requires shapes { ShapesStand session.now.spaces.arena shapes.old }
     requires counts { CountRows session.now.spaces.ground session.now.examples above counts.old }
     ensures shapes { ShapesStand session.now.spaces.arena shapes.new }

@@ -11,7 +11,7 @@ use Rattle.fill_script.specs.declared.error.ScriptError.{ScriptError}
 use Rattle.fill_script.specs.declared.error.ScriptError.TheVariants as error
 use Rattle.fill_script.specs.declared.script.Entry.{Entry}
 use Rattle.fill_script.specs.declared.script.Entry.TheVariants as entry
-use Rattle.fill_script.proofs.Lines.{if_some, map_some, number-within}
+use Rattle.fill_numbers.proofs.Spelled.{if_some, map_some, number-within}
 
 -- what a further step was made from
 pub onward_ok : {A B : Type 0} (f : A → Result B ScriptError) (r : Result A ScriptError) (y : B) → onward f r ≡ Ok y → (x : A) × (r ≡ Ok x) × (f x ≡ Ok y)

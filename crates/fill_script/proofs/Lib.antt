@@ -1,6 +1,5 @@
 pub mod Asked
 pub mod Later
 pub mod Lines
-pub mod Numbers
 pub mod Proper
 pub mod Runs

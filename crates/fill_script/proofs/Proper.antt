@@ -13,7 +13,8 @@ use Rattle.fill_tree.specs.declared.profile.Profile.{Profile}
 use Rattle.fill_tree.specs.declared.profile.TheConstants.Profile as named
 use Rattle.fill_tree.specs.declared.user.Constants.{Constants}
 use Rattle.fill_tree.specs.declared.user.Constants.TheVariants.{Any}
-use Rattle.fill_script.specs.Line.{columns_in, constants_in, constants_of, depth_in, header_in, inputs_in, is_begin, is_text, key_from, key_in, name_in, number_between, output_in, profile_in, sheet_in, statement_in, table_from, table_in}
+use Rattle.fill_numbers.specs.Columns.{columns_in, number_between}
+use Rattle.fill_script.specs.Line.{constants_in, constants_of, depth_in, header_in, inputs_in, is_begin, is_text, key_from, key_in, name_in, output_in, profile_in, sheet_in, statement_in, table_from, table_in}
 use Rattle.fill_script.specs.Opening.{after_line, after_lines, after_statement, clashes, is_said, is_understood, is_wide, unset, with_statement}
 use Rattle.fill_script.specs.Entries.{IsEntry, entries_from}
 use Rattle.fill_tree.specs.Grammar.{AreSettings}
@@ -27,7 +28,7 @@ use Rattle.fill_script.specs.declared.script.TableLine.TheVariants.{Table, Key}
 use Rattle.fill_script.specs.declared.statement.Statement.{Statement}
 use Rattle.fill_script.specs.declared.statement.Statement.TheVariants as says
 use Rattle.fill_script.proofs.Asked.{entries-proper, ok_same, onward_ok}
-use Rattle.fill_script.proofs.Lines.{columns-within, if_some, map_some, not_true, number-within}
+use Rattle.fill_numbers.proofs.Spelled.{columns-within, if_some, map_some, not_true, number-within}
 
 -- what is true of what a line says
 abbrev IsStatement : Statement → Type 0

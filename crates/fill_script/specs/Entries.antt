@@ -4,8 +4,9 @@ use Rattle.std.specs.Str.{chars}
 use Rattle.fill_records.specs.Records.{field_of}
 use Rattle.fill_tree.specs.declared.user.Edit.TheVariants.{Add, Correct, Retract, Clear}
 use Rattle.fill_tree.specs.declared.user.TheConstants.{MOST_PROGRAMS}
-use Rattle.fill_script.specs.Line.{is_text, is_word, number_between}
-use Rattle.fill_script.specs.Number.{number_in}
+use Rattle.fill_numbers.specs.Columns.{is_word, number_between}
+use Rattle.fill_script.specs.Line.{is_text}
+use Rattle.fill_numbers.specs.Number.{number_in}
 use Rattle.fill_script.specs.Opening.{onward}
 use Rattle.fill_script.specs.declared.error.ScriptError.{ScriptError}
 use Rattle.fill_script.specs.declared.error.ScriptError.TheVariants as error

@@ -3,9 +3,9 @@ ghost use Rattle.std.specs.Prelude.{◌≡◌, ◌≢◌, ◌+◌, ◌<◌, ◌^
 ghost use Rattle.fill_script.specs.Entries.{alone, best_in, entries_from, entry_at, entry_in, question_in, row_in, row_text_in};
 ghost use Rattle.fill_script.specs.Line.{is_text};
 
-use crate::line::{is_word, number_between};
-use crate::number::number_in;
+use crate::line::is_word;
 use crate::{Entry, ScriptError};
+use fill_numbers::{number_between, number_in};
 use fill_records::Record;
 use fill_text::{List, NoMemory, Text};
 use fill_tree::{Edit, MOST_PROGRAMS};

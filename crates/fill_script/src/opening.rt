@@ -2,10 +2,10 @@
 ghost use Rattle.std.specs.Prelude.{◌≡◌, ◌≢◌, ◌≤◌, length, Ok, Err, IfOk, IfErr, OnOk};
 ghost use Rattle.fill_script.specs.Opening.{after_line, after_lines, is_said, is_understood, is_wide, unset, with_statement};
 
-use crate::line::is_among;
 use crate::script::MOST_LINES;
 use crate::statement::{Statement, statement_in};
 use crate::{ScriptError, TableLine};
+use fill_numbers::is_among;
 use fill_records::Record;
 use fill_text::{List, Name, NoMemory};
 use fill_tree::Constants;

@@ -3,7 +3,8 @@ ghost use Rattle.std.specs.Prelude.{◌≡◌, IfOk, IsTrue};
 ghost use Rattle.fill_script.specs.Line.{constants_in, constants_of, depth_in, header_in, inputs_in, is_text, key_in, output_in, profile_in, sheet_in, statement_in, table_in};
 
 use crate::TableLine;
-use crate::line::{columns_in, is_word, name_in, number_between};
+use crate::line::{is_word, name_in};
+use fill_numbers::{columns_in, number_between};
 use fill_records::Record;
 use fill_sheet::{LAST_COLUMN, MOST_INPUTS};
 use fill_text::{List, Name, NoMemory};

@@ -13,10 +13,10 @@ use Rattle.fill_tree.specs.Value.{IsValue, ProgramIs}
 use Rattle.fill_tree.specs.declared.tree.Program.{Program}
 use Rattle.fill_tree.specs.declared.user.Example.{Example}
 use Rattle.fill_tree.proofs.ProgramOrder.{before_not_after, before_trans, not_before_itself}
-use Rattle.fill_arena.specs.Stands.{ProgramStands}
 use Rattle.fill_object.specs.Objector.{Answers}
 use Rattle.fill_object.specs.declared.graph.Objection.{Objection}
 use Rattle.fill_space.specs.Best.{AreBestOn}
+use Rattle.fill_space.specs.Ground.{ExplainsOn}
 use Rattle.fill_space.specs.declared.ground.Ground.{Ground}
 use Rattle.fill_space.specs.Objector.{IsObjectionOn, ObjectsOn, objection_tree}
 use Rattle.fill_space.specs.Spaces.{SpacesData, SpaceStands}
@@ -90,7 +90,7 @@ module _ (g : Ground) (examples : List Example) (k : ℕ) (ps : List Program) (f
 
 -- the first programs of a space cost numbers of 64 bits, where all of its programs do
 pub few_first : (s : SpacesData) (space : ℕ) (l : List Example) (k : ℕ) (ps : List Program) → SpaceStands s space l → AreBestOn s.ground l k (map program_tree ps)
-    → ((p : Atoms) → ProgramStands s.arena space p → program_cost s.ground.settings.profile.prices p < 2 ^ 64) → All (λ p. program_cost s.ground.settings.profile.prices (program_tree p) < 2 ^ 64) ps
+    → ((p : Atoms) → ExplainsOn s.ground l p → program_cost s.ground.settings.profile.prices p < 2 ^ 64) → All (λ p. program_cost s.ground.settings.profile.prices (program_tree p) < 2 ^ 64) ps
 few_first s space l k ps stands first cheap = λ i d lt.
     let p = program_tree (get_or ps i d) in
-    cheap p ((stands.exact p).1 (first.have p (i, (let size = length-map {A = Program} {B = Atoms} ps program_tree in omega arith), get_or-map program_tree ps i d p lt)))
+    cheap p (first.have p (i, (let size = length-map {A = Program} {B = Atoms} ps program_tree in omega arith), get_or-map program_tree ps i d p lt))

@@ -7,7 +7,7 @@ use Rattle.fill_tree.specs.declared.user.Edit.{Edit}
 use Rattle.fill_tree.specs.declared.user.Edit.TheVariants.{Add, Correct, Retract, Clear}
 use Rattle.fill_tree.specs.declared.user.Example.{Example}
 use Rattle.fill_tree.specs.declared.user.TheConstants.{MOST_EXAMPLES}
-use Rattle.fill_arena.specs.declared.entry.TheConstants.{MOST_CHARACTERS}
+use Rattle.fill_tree.specs.declared.user.TheConstants.{MOST_CHARACTERS}
 use Rattle.fill_split.specs.declared.place.TheConstants.{MOST_BRANCHES}
 use Rattle.fill_space.specs.declared.ground.Ground.{Ground}
 use Rattle.fill_session.specs.Edits.{changed}

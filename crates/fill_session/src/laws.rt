@@ -24,6 +24,8 @@ ghost use Rattle.fill_session.specs.declared.error.EditError.{EditError};
 ghost use Rattle.fill_session.specs.declared.moves.Move.{Move};
 ghost use Rattle.fill_session.specs.declared.moves.Reply.{Reply};
 
+use crate::reasons::MOST_INPUT_CHARACTERS;
+
 /// Each example's row takes one of the branches, which reproduces the example; so the answer there is the example's
 /// text. Programs have one value where the keys of the tables distinguish their rows.
 pub fn examples_are_reproduced()
@@ -82,4 +84,9 @@ pub fn undo_goes_back()
         b ≡ edited a edit → UndoIs b o c → (o ≡ Some (done_of edit)) × (c.examples ≡ a.examples) }
     ensures redone { (a b c : Timeline) (done : Done) (o : Option Done) →
         UndoIs a (Some done) b → RedoIs b o c → (o ≡ Some done) × (c ≡ a) }
+{}
+
+/// How many characters the input cells of an example's row may have together.
+pub fn limits_are_as_specified()
+    ensures { MOST_INPUT_CHARACTERS ≡ 1000 }
 {}

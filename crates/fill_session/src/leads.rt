@@ -5,7 +5,6 @@ ghost use Rattle.fill_space.specs.Spaces.{SpaceStands};
 ghost use Rattle.fill_session.specs.Suggested.{LeadStands, LeadsStand};
 
 use crate::session::Session;
-use fill_arena::laws::costs_are_present;
 use fill_space::{Guide, Space, Spaces};
 use fill_text::{List, NoMemory};
 use fill_tree::{MOST_PROGRAMS, Program};
@@ -42,9 +41,7 @@ fn lead_of(spaces: &Spaces, space: Space) -> Result<Lead, NoMemory>
     ensures space { IfOk result (λ lead. lead.space ≡ space) }
     ensures stands { IfOk result (LeadStands spaces.now) }
 {
-    spaces.arena().keeps_made();
-    spaces.settings().profile.prices.keep_small();
-    costs_are_present();
+    spaces.keep_costs();
     let guide = spaces.guide(space)?;
     let candidates = spaces.best(space, MOST_PROGRAMS)?;
     Ok(Lead {

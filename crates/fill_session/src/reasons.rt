@@ -4,10 +4,9 @@ ghost use Rattle.fill_session.specs.Outcome.{first_reason, is_row, has_example, 
 ghost use Rattle.fill_tree.specs.declared.user.Edit.TheVariants.{Add, Correct, Retract};
 
 use crate::error::{EditError, Part};
-use fill_arena::MOST_CHARACTERS;
 use fill_sheet::Sheet;
 use fill_text::Text;
-use fill_tree::{Edit, Example, MOST_EXAMPLES};
+use fill_tree::{Edit, Example, MOST_CHARACTERS, MOST_EXAMPLES};
 
 /// The most characters that the input cells of an example's row have together.
 pub const MOST_INPUT_CHARACTERS: usize = 1_000;

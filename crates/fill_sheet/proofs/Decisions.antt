@@ -8,6 +8,7 @@ use Rattle.std.specs.Str.{is_utf8}
 use Rattle.fill_records.specs.Records.{field_of}
 use Rattle.fill_sheet.specs.Columns.{IsColumn, AreInputs, IsOutput, rising, used}
 use Rattle.fill_records.specs.Texts.{IsText, first_bad, text_in}
+use Rattle.fill_sheet.specs.declared.sheet.TheConstants.{MOST_ROWS}
 use Rattle.fill_sheet.specs.Sheet.{IsSheet, headers, row_records, row_of, sheet_of}
 use Rattle.fill_sheet.specs.declared.error.SheetError.TheVariants.{TooManyRows, NotUtf8}
 use Rattle.fill_sheet.proofs.Rising.{rising-permutation}
@@ -74,7 +75,7 @@ texts-of-rows most header inputs output records none k d lt =
     All-permutation (λ column. IsTrue (is_utf8 (field_of column (get_or (row_records most header records) k d)))) (used inputs output) (rising inputs ++ out) moved text
 
 -- the sheet that is made is one
-pub made-sheet : (most : ℕ) (header : Bool) (inputs : List ℕ) (output : Option ℕ) (records : List (List (List ℕ))) → most ≤ 16777216 → AreInputs inputs
+pub made-sheet : (most : ℕ) (header : Bool) (inputs : List ℕ) (output : Option ℕ) (records : List (List (List ℕ))) → most ≤ MOST_ROWS → AreInputs inputs
     → IsSheet (record { inputs = rising inputs; rows = map (row_of (rising inputs) output) (row_records most header records) })
 made-sheet most header inputs output records few are =
     let fewer = row_records-few most header records in

@@ -8,7 +8,7 @@ use Rattle.fill_sheet.specs.Columns.{IsColumn, rising, used}
 use Rattle.fill_sheet.specs.declared.columns.TheConstants.{MOST_INPUTS}
 use Rattle.fill_sheet.specs.declared.error.SheetError.{SheetError}
 use Rattle.fill_sheet.specs.declared.error.SheetError.TheVariants.{TooManyRows, NotUtf8}
-use Rattle.fill_sheet.specs.declared.sheet.TheConstants.{MOST_RECORDS}
+use Rattle.fill_sheet.specs.declared.sheet.TheConstants.{MOST_RECORDS, MOST_ROWS}
 
 -- a text, where it isn't empty
 abbrev pub unless_empty : List ℕ → Option (List ℕ)
@@ -59,7 +59,7 @@ pub record IsSheet (sheet : SheetData) : Type 0 where
   pub columns : All IsColumn sheet.inputs
   pub rises : IsStrictlyIncreasing sheet.inputs
   pub full : All (λ row. length row.cells ≡ length sheet.inputs) sheet.rows
-  pub limited : length sheet.rows ≤ 16777216
+  pub limited : length sheet.rows ≤ MOST_ROWS
 
 -- the sheet whose one row has these cells in the input columns, and no given text
 abbrev pub row_sheet : List ℕ → List (List ℕ) → SheetData

@@ -3,6 +3,7 @@
 
 mod columns;
 mod error;
+pub mod laws;
 mod reading;
 mod report;
 mod row;
@@ -12,5 +13,5 @@ mod text;
 pub use columns::{LAST_COLUMN, MOST_INPUTS};
 pub use error::SheetError;
 pub use report::put_record;
-pub use sheet::{MOST_RECORDS, Sheet};
+pub use sheet::{MOST_RECORDS, MOST_ROWS, Sheet};
 pub use text::{push_end, push_field, push_sep};

@@ -13,14 +13,14 @@ pub fn put_record(alloc: Global, to: &mut List<u8>, fields: &List<List<u8>>) -> 
     ensures err { OnErr result (to.new ≡ to.old) }
 {
     let text = record_bytes(alloc, fields.as_slice())?;
-    to.append(&text)
+    to.append(text.as_slice())
 }
 
 /// The bytes of a record.
-fn record_bytes(alloc: Global, fields: &[List<u8>]) -> Result<Vec<u8>, NoMemory>
-    ensures { IfOk result (λ text. text.items ≡ record_text fields.now) }
+fn record_bytes(alloc: Global, fields: &[List<u8>]) -> Result<List<u8>, NoMemory>
+    ensures { IfOk result (λ text. text ≡ record_text fields.now) }
 {
-    let mut text = Vec::new(alloc);
+    let mut text = List::new(alloc);
     for i in 0..fields.len() {
         push_sep(i, &mut text)?;
         push_field(fields[i].as_slice(), &mut text)?;

@@ -12,9 +12,12 @@ use crate::columns::{rising, used};
 use crate::reading::{first_number, row_of, row_records, rows_of};
 use crate::row::Row;
 use fill_records::{Record, first_bad, read_records};
-use fill_text::{NoMemory, Text};
+use fill_text::{List, NoMemory, Text};
 use std::alloc::Global;
 use std::marker::Model;
+
+/// The most rows of a sheet in memory.
+pub const MOST_ROWS: u32 = 16_777_216;
 
 /// How many records the file of a sheet may have where nothing else is said, the header among them.
 pub const MOST_RECORDS: u32 = 20_000;
@@ -68,7 +71,7 @@ impl Sheet {
         inputs: &[u32],
         output: Option<u32>,
     ) -> Result<Sheet, SheetError>
-        requires most { most ≤ 16777216 }
+        requires most { most ≤ MOST_ROWS }
         requires inputs { AreInputs inputs.now }
         requires output { IsOutput inputs.now output }
         ensures ok { IfOk result (λ sheet. read_up_to most header inputs.now output bytes.now ≡ Ok sheet) }
@@ -89,7 +92,7 @@ impl Sheet {
         inputs: &[u32],
         output: Option<u32>,
     ) -> Result<Sheet, SheetError>
-        requires most { most ≤ 16777216 }
+        requires most { most ≤ MOST_ROWS }
         requires inputs { AreInputs inputs.now }
         requires output { IsOutput inputs.now output }
         ensures ok { IfOk result (λ sheet. sheet_of most header inputs.now output records.now ≡ Ok sheet) }
@@ -112,12 +115,13 @@ impl Sheet {
     }
 
     /// The sheet whose one row has these cells in the input columns, and no given text.
-    pub fn of_row(alloc: Global, inputs: &[u32], cells: Vec<Text>) -> Result<Sheet, NoMemory>
-        requires { IsSheet (row_sheet inputs.now cells.items) }
-        ensures { IfOk result (λ sheet. sheet ≡ row_sheet inputs.now cells.items) }
+    pub fn of_row(alloc: Global, inputs: &[u32], cells: List<Text>) -> Result<Sheet, NoMemory>
+        requires { IsSheet (row_sheet inputs.now cells) }
+        ensures { IfOk result (λ sheet. sheet ≡ row_sheet inputs.now cells) }
     {
         let inputs = Vec::from_slice(alloc, inputs)?;
         let mut rows = Vec::new(alloc);
+        let cells = cells.into_vec();
         rows.push(Row { cells, given: None })?;
         Ok(Sheet { inputs, rows })
     }
@@ -134,18 +138,14 @@ impl Sheet {
     }
 
     /// Adds the row of a record after the last one; where the output is set, it may give a text.
-    pub fn add_row(
-        &mut self,
-        alloc: Global,
-        fields: &Record,
-        output: Option<u32>,
-    ) -> Result<(), NoMemory>
-        requires room { length self.old.rows < 16777216 }
+    pub fn add_row(&mut self, fields: &Record, output: Option<u32>) -> Result<(), NoMemory>
+        requires room { length self.old.rows < MOST_ROWS }
         requires output { ForSome output IsColumn }
         requires text { IsText (self.old.inputs ++ option_to_list output) fields.now }
         ensures ok { OnOk result (self.new ≡ record self.old { rows = self.old.rows ++ row_of self.old.inputs output fields.now ∷ [] }) }
         ensures err { OnErr result (self.new ≡ self.old) }
     {
+        let alloc = *self.inputs.allocator();
         let row = row_of(alloc, fields, &self.inputs, output)?;
         self.rows.push(row)?;
         Ok(())
@@ -154,7 +154,7 @@ impl Sheet {
     /// The number of rows.
     pub fn rows(&self) -> u32
         ensures count { result ≡ length self.now.rows }
-        ensures limited { result ≤ 16777216 }
+        ensures limited { result ≤ MOST_ROWS }
         ensures shape { IsSheet self.now }
     {
         self.rows.len() as u32

@@ -6,14 +6,14 @@ ghost use Rattle.std.specs.List.{list_any};
 ghost use Rattle.csv.specs.Quoting.{needs_byte};
 ghost use Rattle.csv.specs.Writing.{default_writer, escaped, field_text, next_sep, quoted};
 
-use fill_text::NoMemory;
+use fill_text::{List, NoMemory};
 
 /// The mark round fields that need it.
 const QUOTE: u8 = b'"';
 
 /// Puts what stands before the field at a place at the end.
-pub fn push_sep(i: usize, to: &mut Vec<u8>) -> Result<(), NoMemory>
-    ensures { OnOk result (to.new.items ≡ to.old.items ++ next_sep default_writer i) }
+pub fn push_sep(i: usize, to: &mut List<u8>) -> Result<(), NoMemory>
+    ensures { OnOk result (to.new ≡ to.old ++ next_sep default_writer i) }
 {
     if i == 0 {
         return Ok(());
@@ -23,13 +23,13 @@ pub fn push_sep(i: usize, to: &mut Vec<u8>) -> Result<(), NoMemory>
 }
 
 /// Puts the text of a field at the end.
-pub fn push_field(field: &[u8], to: &mut Vec<u8>) -> Result<(), NoMemory>
-    ensures { OnOk result (to.new.items ≡ to.old.items ++ field_text default_writer field.now) }
+pub fn push_field(field: &[u8], to: &mut List<u8>) -> Result<(), NoMemory>
+    ensures { OnOk result (to.new ≡ to.old ++ field_text default_writer field.now) }
 {
     if needs_quotes(field) {
         return push_quoted(field, to);
     }
-    to.extend_from_slice(field)?;
+    to.append(field)?;
     Ok(())
 }
 
@@ -63,8 +63,8 @@ fn needs_byte(byte: u8) -> bool
 
 /// Puts a field between quotes at the end.
 #[tactic(auto, using(crate::proofs::Texts::quoted_start, crate::proofs::Texts::quoted_more, crate::proofs::Texts::quoted_whole))]
-fn push_quoted(field: &[u8], to: &mut Vec<u8>) -> Result<(), NoMemory>
-    ensures { OnOk result (to.new.items ≡ to.old.items ++ quoted default_writer field.now) }
+fn push_quoted(field: &[u8], to: &mut List<u8>) -> Result<(), NoMemory>
+    ensures { OnOk result (to.new ≡ to.old ++ quoted default_writer field.now) }
 {
     to.push(QUOTE)?;
     for byte in field {
@@ -76,11 +76,11 @@ fn push_quoted(field: &[u8], to: &mut Vec<u8>) -> Result<(), NoMemory>
 
 /// Puts a byte of a field between quotes at the end.
 #[tactic(auto, unfolding(csv::specs::Writing::escaped))]
-fn push_byte(byte: u8, to: &mut Vec<u8>) -> Result<(), NoMemory>
-    ensures { OnOk result (to.new.items ≡ to.old.items ++ escaped default_writer (byte ∷ [])) }
+fn push_byte(byte: u8, to: &mut List<u8>) -> Result<(), NoMemory>
+    ensures { OnOk result (to.new ≡ to.old ++ escaped default_writer (byte ∷ [])) }
 {
     if byte == QUOTE {
-        to.extend_from_slice(b"\"\"")?;
+        to.append(b"\"\"")?;
         return Ok(());
     }
     to.push(byte)?;
@@ -88,11 +88,11 @@ fn push_byte(byte: u8, to: &mut Vec<u8>) -> Result<(), NoMemory>
 }
 
 /// Puts what ends a record at the end: where no byte of it is shown, two quotes stand for its one field.
-pub fn push_end(to: &mut Vec<u8>) -> Result<(), NoMemory>
-    ensures { OnOk result (to.new.items ≡ to.old.items ++ ((if length to.old.items == 0 then 34 ∷ 34 ∷ [] else []) ++ 10 ∷ [])) }
+pub fn push_end(to: &mut List<u8>) -> Result<(), NoMemory>
+    ensures { OnOk result (to.new ≡ to.old ++ ((if length to.old == 0 then 34 ∷ 34 ∷ [] else []) ++ 10 ∷ [])) }
 {
-    if to.is_empty() {
-        to.extend_from_slice(b"\"\"\n")?;
+    if to.len() == 0 {
+        to.append(b"\"\"\n")?;
         return Ok(());
     }
     to.push(b'\n')?;

@@ -31,11 +31,11 @@ fn list_places(look: &Look<'_, '_>, memo: &mut Memo<'_>, h: Spot) -> Result<List
     ensures memo { OnOk result ((c : Listed Entry) → IsRight look.now.on.now (texts_in look.now.texts.now) c memo.old → IsRight look.now.on.now (texts_in look.now.texts.now) c memo.new) }
 {
     if let Some(index) = memo.index(h.text) {
-        return index.places_at(look.alloc, h.at);
+        return index.places_at(h.at);
     }
     let text = look.texts.named[h.text].text;
     let index = PlaceIndex::new(look.alloc, text, look.on.settings.profile.tokens)?;
-    let places = index.places_at(look.alloc, h.at)?;
+    let places = index.places_at(h.at)?;
     memo.keep_index(h.text, index)?;
     Ok(places)
 }

@@ -4,7 +4,7 @@ use Rattle.fill_tree.specs.Chosen.{Explains, Fits, IsChosen}
 use Rattle.fill_tree.specs.Cost.{program_cost}
 use Rattle.fill_tree.specs.Tree.{Atoms}
 use Rattle.fill_tree.specs.declared.user.Example.{Example}
-use Rattle.fill_arena.specs.declared.entry.TheConstants.{MOST_CHARACTERS}
+use Rattle.fill_tree.specs.declared.user.TheConstants.{MOST_CHARACTERS}
 pub use Rattle.fill_space.specs.declared.ground.Ground.{Ground}
 
 -- the program explains the examples

@@ -6,6 +6,7 @@ ghost use Rattle.fill_arena.specs.Named.{IsNamed};
 ghost use Rattle.fill_tree.specs.Cost.{program_cost};
 ghost use Rattle.fill_tree.specs.Grammar.{AreSettings};
 ghost use Rattle.fill_tree.specs.Meaning.{program_tree};
+ghost use Rattle.fill_tree.specs.Tree.{Atoms};
 ghost use Rattle.fill_tree.specs.declared.user.Example.{Example};
 ghost use Rattle.fill_doubt.specs.Shapes.{ShapesStand};
 ghost use Rattle.fill_space.specs.Best.{AreBestOn};
@@ -20,6 +21,7 @@ use crate::ground::Ground;
 use crate::met::Met;
 use crate::space::{Space, graphs_of, put_graphs};
 use crate::weights::Weights;
+use fill_arena::laws::costs_are_present;
 use fill_arena::{Arena, GraphId};
 use fill_doubt::Shapes;
 use fill_object::{Guide, Objection, OnRow};
@@ -112,6 +114,17 @@ impl Spaces {
         ensures { result.now ≡ self.now.arena }
     {
         &self.arena
+    }
+
+    /// What a program costs that explains the examples of a space is a number of 64 bits. The call does nothing: what it
+    /// tells is its clause.
+    pub fn keep_costs(&self)
+        ensures { (k : ℕ) (l : Listed Example) → SpaceStands self.now k l → (p : Atoms) → ExplainsOn self.now.ground l p →
+            program_cost self.now.ground.settings.profile.prices p < 2 ^ 64 }
+    {
+        self.arena.keeps_made();
+        self.ground.settings.profile.prices.keep_small();
+        costs_are_present();
     }
 
     /// The graph of a space.
@@ -268,7 +281,7 @@ impl Spaces {
     {
         let listed = graphs_of(self.alloc, live)?;
         let mut graphs = graphs_of(self.alloc, live)?;
-        self.arena = self.arena.copy(self.alloc, graphs.as_mut_slice())?;
+        self.arena = self.arena.copy(graphs.as_mut_slice())?;
         let copies = graphs.as_slice();
         let new_numbers = known_copies(self.alloc, listed.as_slice(), copies);
         let renaming = Renaming::Copied(new_numbers);

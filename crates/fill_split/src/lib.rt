@@ -19,7 +19,7 @@ mod singles;
 
 pub use change::{Change, FoldError};
 pub use folds::{Fold, Folds};
-pub use laws::{folds_stay, placed_once, renewed_folds_stand};
+pub use laws::{folds_stay, limits_are_as_specified, placed_once, renewed_folds_stand};
 pub use maker::Maker;
 pub use place::MOST_BRANCHES;
 pub use rule::Placing;

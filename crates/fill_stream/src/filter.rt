@@ -1,5 +1,5 @@
 //! Records of a stream, filtered one after another.
-ghost use Rattle.std.specs.Prelude.{◌≡◌, ℕ, ◌≤◌, [], List, IfErr, OnErr, OnOk};
+ghost use Rattle.std.specs.Prelude.{◌≡◌, ◌≢◌, ℕ, ◌≤◌, [], List, IfErr, OnErr, OnOk};
 ghost use Rattle.std.specs.Io.KnownBytes.{Appends};
 ghost use Rattle.csv.specs.Records.{fields_of};
 ghost use Rattle.fill_edge.specs.Outside.{AppendsPart, Rose};
@@ -60,6 +60,7 @@ pub fn flush<K: Sink>(buffer: &mut Vec<u8>, sink: &mut K) -> Result<(), WriteFau
     ensures empty { OnOk result (buffer.new.items ≡ []) }
     ensures part { OnErr result (AppendsPart (K.written sink.old) (K.written sink.new) buffer.old.items) }
     ensures later { K.faults sink.old ≤ K.faults sink.new }
+    ensures taken { OnOk result (K.faults sink.new ≡ K.faults sink.old) }
     ensures fault { OnErr result (Rose (K.faults sink.old) (K.faults sink.new)) }
 {
     match write_all(sink, buffer.as_slice()) {
@@ -76,6 +77,7 @@ fn spill<K: Sink>(buffer: &mut Vec<u8>, sink: &mut K) -> Result<(), WriteFault>
     ensures held { OnOk result (Held (K.written sink.old) (K.written sink.new) buffer.new.items buffer.old.items) }
     ensures part { OnErr result (AppendsPart (K.written sink.old) (K.written sink.new) buffer.old.items) }
     ensures later { K.faults sink.old ≤ K.faults sink.new }
+    ensures taken { OnOk result (K.faults sink.new ≡ K.faults sink.old) }
     ensures fault { OnErr result (Rose (K.faults sink.old) (K.faults sink.new)) }
 {
     if buffer.as_slice().len() < FULL {
@@ -98,6 +100,7 @@ pub fn filter_records<R: Read + Drop, F: Filter, K: Sink, W: Watch>(
     ensures filtered { Filtered (F.makes filter.now) (F.refuses filter.now) result records.old.rest (K.written sink.old) (K.written sink.new) buffer.old.items buffer.new.items }
     ensures later { K.faults sink.old ≤ K.faults sink.new }
     ensures counted { IsCounted result }
+    ensures taken { result ≢ Ending.WriteFault → K.faults sink.new ≡ K.faults sink.old }
     ensures fault { result ≡ Ending.WriteFault → Rose (K.faults sink.old) (K.faults sink.new) }
 {
     for record in 0..u64::MAX {

@@ -5,7 +5,7 @@ use Rattle.fill_text.specs.Data.{TableData}
 use Rattle.fill_records.specs.Records.{records_of}
 use Rattle.fill_records.specs.Texts.{first_bad, text_in}
 use Rattle.fill_tables.specs.declared.error.TableError.{TableError}
-use Rattle.fill_tables.specs.declared.reading.TheConstants.{MOST_FIELDS, MOST_ROWS}
+use Rattle.fill_tables.specs.declared.reading.TheConstants.{MOST_FIELDS, MOST_TABLE_ROWS}
 use Rattle.fill_tables.specs.declared.error.TableError.TheVariants.{TooManyRows, NotUtf8}
 
 -- how many fields of a record are kept: those past the last are passed over
@@ -32,7 +32,7 @@ row_of columns fields = map (text_in fields) columns
 -- a bad field refuses the table, and else more records than a table may have do
 abbrev pub decided : Option (ℕ × ℕ) → Bool → TableData → Result TableData TableError
 decided (Some bad) more table = Err (NotUtf8 bad.0 bad.1)
-decided None true table = Err (TooManyRows MOST_ROWS)
+decided None true table = Err (TooManyRows MOST_TABLE_ROWS)
 decided None false table = Ok table
 
 -- the table of this name whose rows are these records, without a key
@@ -42,7 +42,7 @@ table_with name records = record { name = name; width = width_of records; rows =
 -- the table of this name and these records, of which as many are looked at as a table may have
 abbrev pub table_of : List ℕ → List (List (List ℕ)) → Result TableData TableError
 table_of name records =
-    decided (first_bad (columns_of (take MOST_ROWS records)) 1 (take MOST_ROWS records)) (nat_lt MOST_ROWS (length records)) (table_with name (take MOST_ROWS records))
+    decided (first_bad (columns_of (take MOST_TABLE_ROWS records)) 1 (take MOST_TABLE_ROWS records)) (nat_lt MOST_TABLE_ROWS (length records)) (table_with name (take MOST_TABLE_ROWS records))
 
 -- the table of this name and a file's bytes
 unfoldable pub read_table : List ℕ → List ℕ → Result TableData TableError

@@ -7,7 +7,7 @@ use Rattle.fill_tables.specs.Rows.{first_clash}
 use Rattle.fill_tables.specs.Reading.{read_table}
 use Rattle.fill_tables.specs.Keys.{IsKey}
 use Rattle.fill_tables.specs.declared.error.TableError.{TableError}
-use Rattle.fill_tables.specs.declared.reading.TheConstants.{MOST_FIELDS, MOST_ROWS}
+use Rattle.fill_tables.specs.declared.reading.TheConstants.{MOST_FIELDS, MOST_TABLE_ROWS}
 use Rattle.fill_tables.specs.declared.table.TheConstants.{MOST_KEYS}
 use Rattle.fill_tables.specs.declared.tables.TheConstants.{MOST_TABLES}
 use Rattle.fill_tables.specs.declared.error.TableError.TheVariants.{TooManyTables, SameName, NoSuchTable, NoSuchColumn, TooManyKeys, NotAKey}
@@ -15,7 +15,7 @@ use Rattle.fill_tables.specs.declared.error.TableError.TheVariants.{TooManyTable
 -- what is true of each table
 pub record IsTable (table : TableData) : Type 0 where
   pub narrow : table.width ≤ MOST_FIELDS
-  pub limited : length table.rows ≤ MOST_ROWS
+  pub limited : length table.rows ≤ MOST_TABLE_ROWS
   pub full : All (λ row. length row ≡ table.width) table.rows
   pub few : length table.keys ≤ MOST_KEYS
   pub keyed : All (IsKey table.width table.rows) table.keys

@@ -5,7 +5,7 @@ ghost use Rattle.fill_text.specs.Data.{nth};
 ghost use Rattle.fill_tables.specs.Orders.{IsOrder, cell_cmp, cells_at, cells_cmp};
 ghost use Rattle.fill_tables.specs.Rows.{first_clash, has_cells};
 
-use crate::reading::MOST_ROWS;
+use crate::reading::MOST_TABLE_ROWS;
 use arrayvec::ArrayVec;
 use fill_text::{List, Text};
 use std::cmp::Ordering;
@@ -101,13 +101,13 @@ fn search(rows: &[List<Text>], columns: &[u32], order: &[u16], row: &[Text]) -> 
 pub(crate) fn order_by(
     rows: &[List<Text>],
     columns: &[u32],
-) -> Result<ArrayVec<u16, MOST_ROWS>, (u32, u32)>
-    requires { length rows.now ≤ MOST_ROWS }
+) -> Result<ArrayVec<u16, MOST_TABLE_ROWS>, (u32, u32)>
+    requires { length rows.now ≤ MOST_TABLE_ROWS }
     ensures order { IfOk result (λ order. IsOrder columns.now rows.now (length rows.now) order.items) }
     ensures apart { OnOk result (first_clash columns.now rows.now ≡ None) }
     ensures clash { IfErr result (λ clash. first_clash columns.now rows.now ≡ Some clash) }
 {
-    let mut order: ArrayVec<u16, MOST_ROWS> = ArrayVec::new();
+    let mut order: ArrayVec<u16, MOST_TABLE_ROWS> = ArrayVec::new();
     for (i, row) in rows.iter().enumerate() {
         match search(rows, columns, order.as_slice(), row.as_slice()) {
             Ok(found) => {

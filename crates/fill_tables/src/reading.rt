@@ -8,7 +8,7 @@ use fill_text::{List, NoMemory, Text};
 use std::alloc::Global;
 
 /// The most rows of a table.
-pub const MOST_ROWS: usize = 2_000;
+pub const MOST_TABLE_ROWS: usize = 2_000;
 
 /// The most fields of a record that are kept.
 pub const MOST_FIELDS: usize = 1_000;

@@ -7,7 +7,7 @@ ghost use Rattle.fill_tables.specs.Tables.{IsTable, with_key};
 
 use crate::TableError;
 use crate::order::order_by;
-use crate::reading::{MOST_ROWS, columns_to, rows_of, width_of};
+use crate::reading::{MOST_TABLE_ROWS, columns_to, rows_of, width_of};
 use fill_records::{Record, first_bad, first_records, read_records};
 use fill_text::{List, Name, NoMemory, Text};
 use std::alloc::Global;
@@ -55,7 +55,7 @@ impl Table {
         ensures name { IfOk result (λ table. table.name ≡ name) }
         ensures shape { IfOk result IsTable }
     {
-        let records = read_records(alloc, bytes, MOST_ROWS + 1)?;
+        let records = read_records(alloc, bytes, MOST_TABLE_ROWS + 1)?;
         Table::of_records(alloc, name, records.as_slice())
     }
 
@@ -66,15 +66,15 @@ impl Table {
         ensures name { IfOk result (λ table. table.name ≡ name) }
         ensures shape { IfOk result IsTable }
     {
-        let kept = first_records(records, MOST_ROWS);
+        let kept = first_records(records, MOST_TABLE_ROWS);
         let width = width_of(kept);
         let columns = columns_to(alloc, width)?;
         if let Some((number, column)) = first_bad(kept, 1, &columns) {
             return Err(TableError::NotUtf8 { number, column });
         }
-        if records.len() > MOST_ROWS {
+        if records.len() > MOST_TABLE_ROWS {
             return Err(TableError::TooManyRows {
-                limit: MOST_ROWS as u32,
+                limit: MOST_TABLE_ROWS as u32,
             });
         }
         let rows = rows_of(alloc, kept, &columns)?;

@@ -34,7 +34,7 @@ impl<T> List<T> {
         }
     }
 
-    /// The empty list with room for `capacity` items: as many pushes take no memory.
+    /// The empty list. It asks for the memory of `capacity` items at once, so that pushes rarely ask for more.
     pub fn with_capacity(alloc: Global, capacity: usize) -> Result<List<T>, NoMemory>
         ensures { IfOk result (λ list. list ≡ []) }
     {

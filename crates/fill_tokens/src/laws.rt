@@ -16,6 +16,7 @@ ghost use Rattle.fill_tokens.specs.declared.token.Token.{Token};
 ghost use Rattle.fill_tokens.specs.declared.token.Token.TheVariants.{Dollar, NonDigit, NonAlpha};
 ghost use Rattle.fill_tokens.specs.declared.token_set.TheConstants.TokenSet as token_set;
 ghost use Rattle.fill_tokens.specs.declared.place.Place.{Place};
+ghost use Rattle.fill_tokens.specs.declared.prices.TheConstants.Prices as price;
 
 use crate::token::Token;
 
@@ -40,6 +41,50 @@ pub fn sets_have_their_tokens()
     ensures second { (x : Token) → IsTokenOf token_set.SECOND x ↔ (token_number x ≤ token_number NonAlpha) }
     ensures third { (x : Token) → IsTokenOf token_set.THIRD x ↔ ((x ≢ NonDigit) × (x ≢ NonAlpha)) }
     ensures all { (x : Token) → IsTokenOf token_set.ALL x }
+{}
+
+/// What the parts of a program cost by the first two profiles, and by the third.
+pub fn prices_are_as_specified()
+    ensures first { price.FIRST ≡ record {
+      atom = 5;
+      constant = 10;
+      separator = 1;
+      character = 12;
+      whole = 2;
+      piece = 6;
+      column = 0;
+      lookup = 8;
+      constant_condition = 15;
+      condition = 2;
+      text_end = 1;
+      position = 10;
+      cut = 2;
+      edge = 2;
+      sign = 2;
+      run = 2;
+      step = 2;
+      from_right = 0;
+    } }
+    ensures third { price.THIRD ≡ record {
+      atom = 5;
+      constant = 10;
+      separator = 1;
+      character = 40;
+      whole = 2;
+      piece = 6;
+      column = 0;
+      lookup = 8;
+      constant_condition = 40;
+      condition = 2;
+      text_end = 1;
+      position = 10;
+      cut = 2;
+      edge = 2;
+      sign = 1;
+      run = 4;
+      step = 2;
+      from_right = 2;
+    } }
 {}
 
 /// From each position a token spans at most one piece, and up to each position too.

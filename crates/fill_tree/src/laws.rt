@@ -7,6 +7,8 @@ ghost use Rattle.std.specs.declared.cmp.Ordering.TheVariants.{Equal};
 ghost use Rattle.fill_text.specs.Classes.{is_separator};
 ghost use Rattle.fill_text.specs.Data.{SheetData, TableData};
 ghost use Rattle.fill_tokens.specs.declared.prices.Prices.{Prices};
+ghost use Rattle.fill_tokens.specs.declared.prices.TheConstants.Prices as price;
+ghost use Rattle.fill_tokens.specs.declared.token_set.TheConstants.TokenSet as token_set;
 ghost use Rattle.fill_tree.specs.Tree.{SourceTree, AtomTree, Atoms, constant, end, more};
 ghost use Rattle.fill_tree.specs.Cost.{program_cost};
 ghost use Rattle.fill_tree.specs.declared.profile.TheConstants.Profile as profile;
@@ -18,6 +20,9 @@ ghost use Rattle.fill_tree.specs.Guard.{Takes, SwitchIs};
 ghost use Rattle.fill_tree.specs.Value.{SourceIs, AtomIs, ConditionIs, ProgramIs};
 ghost use Rattle.fill_tree.specs.declared.user.Settings.{Settings};
 ghost use Rattle.fill_tree.specs.declared.user.Example.{Example};
+
+use crate::profile::Placing;
+use crate::user::{MOST_CHARACTERS, MOST_EXAMPLES, MOST_PROGRAMS};
 
 /// Sources are in a total order, and only equal sources are alike in it.
 #[tactic(auto, using(crate::proofs::TreeOrder::source_total, crate::proofs::TreeOrder::exact_sources))]
@@ -53,6 +58,35 @@ pub fn letters_have_their_cost()
     ensures first { (c : ℕ) → is_separator c ≡ false → (let p = profile.FIRST in program_cost p.prices (more (constant (c ∷ [])) end)) ≡ 27 }
     ensures second { (c : ℕ) → is_separator c ≡ false → (let p = profile.SECOND in program_cost p.prices (more (constant (c ∷ [])) end)) ≡ 27 }
     ensures third { (c : ℕ) → is_separator c ≡ false → (let p = profile.THIRD in program_cost p.prices (more (constant (c ∷ [])) end)) ≡ 55 }
+{}
+
+/// What each profile is: its tokens, its prices, how its examples are placed, and how deep its lookups may stand.
+pub fn profiles_are_as_specified()
+    ensures first { profile.FIRST ≡ record {
+      tokens = token_set.FIRST;
+      prices = price.FIRST;
+      placing = Placing.FirstFit;
+      depth = 2;
+    } }
+    ensures second { profile.SECOND ≡ record {
+      tokens = token_set.SECOND;
+      prices = price.FIRST;
+      placing = Placing.LeastCost;
+      depth = 3;
+    } }
+    ensures third { profile.THIRD ≡ record {
+      tokens = token_set.THIRD;
+      prices = price.THIRD;
+      placing = Placing.FirstFit;
+      depth = 3;
+    } }
+{}
+
+/// How much users may give and ask for.
+pub fn limits_are_as_specified()
+    ensures examples { MOST_EXAMPLES ≡ 64 }
+    ensures characters { MOST_CHARACTERS ≡ 100 }
+    ensures programs { MOST_PROGRAMS ≡ 20 }
 {}
 
 /// Of two different programs exactly one is before the other.

@@ -22,4 +22,4 @@ pub use grammar::{has_part, in_grammar, is_input, is_part};
 pub use guard::{Case, Guard, Literal, Switch};
 pub use profile::{Placing, Profile};
 pub use tree::{Atom, Program, Select, Source};
-pub use user::{Constants, Edit, Example, MOST_EXAMPLES, MOST_PROGRAMS, Settings};
+pub use user::{Constants, Edit, Example, MOST_CHARACTERS, MOST_EXAMPLES, MOST_PROGRAMS, Settings};

@@ -23,6 +23,9 @@ pub struct Settings {
 /// The most examples that are learned from together.
 pub const MOST_EXAMPLES: usize = 64;
 
+/// The most characters of an example's text. No constant has more.
+pub const MOST_CHARACTERS: usize = 100;
+
 /// The most programs of a branch that are asked for together.
 pub const MOST_PROGRAMS: u32 = 20;
 

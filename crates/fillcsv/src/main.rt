@@ -1,10 +1,10 @@
 //! A sheet with one of its columns filled: `fillcsv people.csv --to Label`.
 #![tactic(auto)]
 
-use fill_csv::{Folder, MEMORY_LINE, run, say};
 use fill_edge::{FolderCabinet, StdSink};
 use fill_files::{FolderStore, InputCabinet};
 use fill_stream::StdSource;
+use fillcsv_run::{Folder, MEMORY_LINE, run, say};
 use std::alloc::AllocError;
 use std::process::ExitCode;
 use std::{env, io};
@@ -31,8 +31,8 @@ fn words(rt: &HostRuntime) -> Result<Vec<String>, AllocError> {
 /// Runs the program over the current folder and the standard streams.
 fn start(rt: &HostRuntime, words: &[String]) -> u8 {
     let folder = Folder {
-        cabinet: InputCabinet::new(rt.alloc(), FolderCabinet::new(rt), rt.stdin()),
-        store: FolderStore::new(rt),
+        cabinet: InputCabinet::new(rt.alloc(), FolderCabinet::new(rt.alloc(), rt), rt.stdin()),
+        store: FolderStore::new(rt.alloc(), rt),
     };
     let input = StdSource::new(rt.stdin());
     let mut out = StdSink::new(rt.stdout());

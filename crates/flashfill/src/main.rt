@@ -43,7 +43,7 @@ fn start<L: Ledger>(rt: HostRuntime, words: &[String], blank: Blank) -> u8
     let alloc = rt.alloc();
     let mut out = StdSink::new(rt.stdout());
     let mut err = StdSink::new(rt.stderr());
-    let mut cabinet = FolderCabinet::new(rt);
+    let mut cabinet = FolderCabinet::new(alloc, rt);
     let (book, share) = blank.open::<L>();
     let mut steps = Steps::new(book, share);
     run(alloc, words, &mut cabinet, &mut out, &mut err, &mut steps)

@@ -1,6 +1,6 @@
 //! The keys of a table file, and the words that ask for them.
 use fill_edge::MemoryCabinet;
-use fill_open::{Stop, open_keys};
+use fill_open::{Stop, line_of, open_keys};
 use fill_text::{List, NoMemory};
 use std::alloc::Global;
 use std::test::Fail;
@@ -40,7 +40,7 @@ fn opened(
 
 /// Whether this is the line of the stop.
 fn is_told(alloc: Global, stop: &Stop, expected: &str) -> Result<bool, NoMemory> {
-    let line = stop.line(alloc)?;
+    let line = line_of(alloc, stop)?;
     Ok(line.as_str() == expected)
 }
 

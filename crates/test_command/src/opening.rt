@@ -44,7 +44,7 @@ fn put_files(cabinet: &mut MemoryCabinet, scene: &Scene) -> Result<(), NoMemory>
 
 /// Whether this is the line of the stop.
 fn is_told(alloc: Global, stop: &Stop, expected: &str) -> Result<bool, NoMemory> {
-    let line = stop.line(alloc)?;
+    let line = line_of(alloc, stop)?;
     Ok(line.as_str() == expected)
 }
 

@@ -1,4 +1,5 @@
 //! Session files, each form of a line and its near misses.
+use fill_numbers::number_in;
 use fill_script::*;
 use fill_text::{List, NoMemory};
 use fill_tree::{Constants, Edit, Profile, Settings};

@@ -8,4 +8,6 @@ mod filling;
 #[cfg(test)]
 mod rules;
 #[cfg(test)]
+mod saving;
+#[cfg(test)]
 mod scene;

@@ -1,8 +1,8 @@
 //! What whole runs of `fillcsv` read and write.
-use fill_csv::{Folder, run};
 use fill_edge::{MemoryCabinet, MemorySink};
 use fill_files::MemoryStore;
 use fill_stream::MemorySource;
+use fillcsv_run::{Folder, run};
 use std::alloc::Global;
 use std::mem;
 use std::test::Fail;

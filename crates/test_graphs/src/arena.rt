@@ -264,7 +264,7 @@ fn copy_second<L: Ledger>(
 {
     let _older = fill(alloc, arena, first, steps)?;
     let mut live = [fill(alloc, arena, second, steps)?.graph];
-    let made = arena.copy(alloc, &mut live)?;
+    let made = arena.copy(&mut live)?;
     sizes_of(alloc, arena, &made, live[0])
 }
 

@@ -158,7 +158,13 @@ fn are_first(
     are_lines(alloc, programs.as_slice(), expected)
 }
 
-fn is_least(alloc: Global, arena: &Arena, graph: GraphId, expected: &str) -> Result<bool, Fail>
+/// Whether this is the least program of the graph, by the prices of the first profile.
+pub(crate) fn is_least(
+    alloc: Global,
+    arena: &Arena,
+    graph: GraphId,
+    expected: &str,
+) -> Result<bool, Fail>
     requires { IsGraph arena.now graph }
 {
     let program = least(alloc, &Prices::FIRST, arena, graph)?;

@@ -1,4 +1,4 @@
-//! What no contract says of sets and graphs of programs, through their public calls: made, trimmed, intersected, ranked.
+//! What no contract says of sets and graphs of programs, through their public calls: made, trimmed, intersected, ranked, objected to.
 #![tactic(auto)]
 
 #[cfg(test)]
@@ -15,6 +15,8 @@ mod learn;
 mod meet;
 #[cfg(test)]
 mod notation;
+#[cfg(test)]
+mod objector;
 #[cfg(test)]
 mod rank;
 #[cfg(test)]

@@ -155,7 +155,7 @@ fn are_all_put(alloc: Global, seqs: &[Seq], t: &Text) -> Result<bool, Fail> {
     let index = PlaceIndex::new(alloc, t, TokenSet::FIRST)?;
     for k in 0..4 {
         if k <= t.len() {
-            let fast = index.places_at(alloc, k)?;
+            let fast = index.places_at(k)?;
             if !are_put(alloc, seqs, t, k, fast.as_slice())? {
                 return Ok(false);
             }

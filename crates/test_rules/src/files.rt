@@ -1,7 +1,7 @@
 //! Runs of a rule that stands in a file.
 use fill_edge::{MemoryCabinet, MemorySink};
-use fill_filter::{RuleFile, run_rule_file};
 use fill_stream::MemorySource;
+use fillcsv_rule_runs::{RuleFile, run_rule_file};
 use std::alloc::Global;
 use std::test::Fail;
 

@@ -1,9 +1,9 @@
 //! Runs of a saved rule.
 use fill_edge::MemorySink;
-use fill_filter::{LoadedRule, run_rule};
-use fill_rule::{read_rule, rule_text};
 use fill_stream::MemorySource;
 use fill_tables::Tables;
+use fillcsv_rule_runs::{LoadedRule, run_rule};
+use fillcsv_rules::{read_rule, rule_text};
 use std::alloc::Global;
 use std::test::Fail;
 

@@ -284,6 +284,17 @@ fn answers_after_two_examples(rt: HostRuntime) -> Result<(), Fail> {
     Ok(())
 }
 
+#[test]
+fn a_session_without_examples_has_no_answer(rt: HostRuntime) -> Result<(), Fail> {
+    let course = Course {
+        edits: &[],
+        rows: &[expected(1, 0, None, State::Sure)],
+        branches: 0,
+    };
+    assert!(rt; goes(rt.alloc(), "John Smith\n", &course)?);
+    Ok(())
+}
+
 /// Whether edits over three rows under these settings go as they are to, and leave branches of these digits.
 fn goes_in(
     alloc: Global,

@@ -337,8 +337,10 @@ fn different_answers_are_doubt(rt: HostRuntime) -> Result<(), Fail> {
 #[test]
 fn values_of_sets(rt: HostRuntime) -> Result<(), Fail> {
     use Listed::{Constant, Piece, Whole};
+    let two = Task::Values((Constant("a"), Constant("b")), ["a", "b"].as_slice(), false);
     let both = Task::Values((Constant("b"), Whole), ["a", "b"].as_slice(), false);
     let one = Task::Values((Constant("a"), Piece), ["a"].as_slice(), true);
+    assert!(rt; holds_on(rt.alloc(), "a", two)?);
     assert!(rt; holds_on(rt.alloc(), "a", both)?);
     assert!(rt; holds_on(rt.alloc(), "a", one)?);
     Ok(())

@@ -145,6 +145,22 @@ fn learns_alone<L: Ledger>(
     Ok(learned_last_word(alloc, spaces, space)? && spaces.size() < size)
 }
 
+/// Whether the last word is learned from the second row alone, where the space of both rows is forgotten.
+fn learns_of_the_second<L: Ledger>(
+    alloc: Global,
+    spaces: &mut Spaces,
+    steps: &mut Steps<L>,
+) -> Result<bool, NoMemory> {
+    if joined(alloc, spaces, "Cd", "Ijk", steps)?.is_none() {
+        return Ok(false);
+    }
+    let Some(space) = space_of(alloc, spaces, 2, "Ijk", steps)? else {
+        return Ok(false);
+    };
+    let space = alone(spaces, space)?;
+    learned_last_word(alloc, spaces, space)
+}
+
 /// What spaces are to do.
 #[derive(Clone, Copy)]
 enum Task {
@@ -152,6 +168,8 @@ enum Task {
     Learn,
     /// To learn the last word of two rows, where all other spaces are forgotten.
     LearnAlone,
+    /// To learn the last word of the second row, where the space of two rows is forgotten.
+    LearnOfTheSecond,
     /// To find a program that gives `a` of the first row and this of the second one, or none.
     Join(&'static str, bool),
     /// To forget a space.
@@ -168,6 +186,7 @@ fn holds<L: Ledger>(
     match task {
         Task::Learn => learns(alloc, spaces, steps),
         Task::LearnAlone => learns_alone(alloc, spaces, steps),
+        Task::LearnOfTheSecond => learns_of_the_second(alloc, spaces, steps),
         Task::Join(second, found) => {
             Ok(joined(alloc, spaces, "a", second, steps)?.is_some() == found)
         }
@@ -231,6 +250,8 @@ fn a_cut_takes_spaces_away(rt: HostRuntime) -> Result<(), Fail> {
 
 #[test]
 fn a_space_stays_alone(rt: HostRuntime) -> Result<(), Fail> {
-    assert!(rt; done(rt.alloc(), "Ab Cd\nEfgh Ijk\n", Task::LearnAlone)?);
+    for task in [Task::LearnAlone, Task::LearnOfTheSecond] {
+        assert!(rt; done(rt.alloc(), "Ab Cd\nEfgh Ijk\n", task)?);
+    }
     Ok(())
 }

@@ -1,8 +1,8 @@
 //! Rules in plain English.
-use fill_prose::{Named, Names, rule_lines};
 use fill_text::{List, Text};
 use fill_tokens::{Place, Seq, Token};
 use fill_tree::{Atom, Case, Guard, Literal, Program, Select, Source, Switch};
+use fillcsv_prose::{Named, Names, rule_lines};
 use std::alloc::{AllocError, Global};
 use std::test::Fail;
 

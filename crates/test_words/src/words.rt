@@ -1,5 +1,5 @@
 //! Words, and what they ask for.
-use fill_words::{Order, Refusal, read_words};
+use fillcsv_options::{Order, Refusal, read_words};
 use std::alloc::{AllocError, Global};
 use std::test::Fail;
 
@@ -31,30 +31,38 @@ fn asks(alloc: Global, line: &str, wanted: &str) -> Result<bool, AllocError> {
 
 #[test]
 fn words_that_ask(rt: HostRuntime) -> Result<(), Fail> {
-    let table: [(&str, &str); 9] = [
+    let table: [(&str, &str); 11] = [
         (
             "people.csv --to Label",
-            "Asked { file: \"people.csv\", to: There(\"Label\"), from: [], header: true, examples: [], replace: false, lookups: [], depth: 1, states: false, only_sure: false, profile: 3, quiet: false, explain: false, ask: false, strict: false, save: None }",
+            "Asked { file: \"people.csv\", to: There(\"Label\"), from: [], header: true, examples: [], replace: false, lookups: [], depth: One, states: false, only_sure: false, profile: Third, quiet: false, explain: false, ask: false, strict: false, save: None }",
         ),
         (
             "--state --only=sure people.csv --profile 2 --to=Label --from Name,City --no-header --from 5",
-            "Asked { file: \"people.csv\", to: There(\"Label\"), from: [\"Name\", \"City\", \"5\"], header: false, examples: [], replace: false, lookups: [], depth: 1, states: true, only_sure: true, profile: 2, quiet: false, explain: false, ask: false, strict: false, save: None }",
+            "Asked { file: \"people.csv\", to: There(\"Label\"), from: [\"Name\", \"City\", \"5\"], header: false, examples: [], replace: false, lookups: [], depth: One, states: true, only_sure: true, profile: Second, quiet: false, explain: false, ask: false, strict: false, save: None }",
         ),
         (
             "people.csv --new Initials --example 2=AB --replace --example=30= --quiet --example 4=a=b --strict",
-            "Asked { file: \"people.csv\", to: New(\"Initials\"), from: [], header: true, examples: [Typed { row: 2, text: \"AB\" }, Typed { row: 30, text: \"\" }, Typed { row: 4, text: \"a=b\" }], replace: true, lookups: [], depth: 1, states: false, only_sure: false, profile: 3, quiet: true, explain: false, ask: false, strict: true, save: None }",
+            "Asked { file: \"people.csv\", to: New(\"Initials\"), from: [], header: true, examples: [Typed { row: 2, text: \"AB\" }, Typed { row: 30, text: \"\" }, Typed { row: 4, text: \"a=b\" }], replace: true, lookups: [], depth: One, states: false, only_sure: false, profile: Third, quiet: true, explain: false, ask: false, strict: true, save: None }",
         ),
         (
             "sales.csv --to Month --key months:1 --table months=months.csv --depth 2 --table=a=b=c --key a:2,1,30",
-            "Asked { file: \"sales.csv\", to: There(\"Month\"), from: [], header: true, examples: [], replace: false, lookups: [Table { name: \"months\", file: \"months.csv\" }, Table { name: \"a\", file: \"b=c\" }, Key { table: \"months\", columns: [1] }, Key { table: \"a\", columns: [2, 1, 30] }], depth: 2, states: false, only_sure: false, profile: 3, quiet: false, explain: false, ask: false, strict: false, save: None }",
+            "Asked { file: \"sales.csv\", to: There(\"Month\"), from: [], header: true, examples: [], replace: false, lookups: [Table { name: \"months\", file: \"months.csv\" }, Table { name: \"a\", file: \"b=c\" }, Key { table: \"months\", columns: [1] }, Key { table: \"a\", columns: [2, 1, 30] }], depth: Two, states: false, only_sure: false, profile: Third, quiet: false, explain: false, ask: false, strict: false, save: None }",
         ),
         (
-            "people.csv --to Label --save label.rule",
-            "Asked { file: \"people.csv\", to: There(\"Label\"), from: [], header: true, examples: [], replace: false, lookups: [], depth: 1, states: false, only_sure: false, profile: 3, quiet: false, explain: false, ask: false, strict: false, save: Some(\"label.rule\") }",
+            "people.csv --to Label --save-rule label.rule",
+            "Asked { file: \"people.csv\", to: There(\"Label\"), from: [], header: true, examples: [], replace: false, lookups: [], depth: One, states: false, only_sure: false, profile: Third, quiet: false, explain: false, ask: false, strict: false, save: Some(\"label.rule\") }",
+        ),
+        (
+            "people.csv --to Label --save=label.rule",
+            "Asked { file: \"people.csv\", to: There(\"Label\"), from: [], header: true, examples: [], replace: false, lookups: [], depth: One, states: false, only_sure: false, profile: Third, quiet: false, explain: false, ask: false, strict: false, save: Some(\"label.rule\") }",
         ),
         (
             "people.csv --to Label --ask",
-            "Asked { file: \"people.csv\", to: There(\"Label\"), from: [], header: true, examples: [], replace: false, lookups: [], depth: 1, states: false, only_sure: false, profile: 3, quiet: false, explain: false, ask: true, strict: false, save: None }",
+            "Asked { file: \"people.csv\", to: There(\"Label\"), from: [], header: true, examples: [], replace: false, lookups: [], depth: One, states: false, only_sure: false, profile: Third, quiet: false, explain: false, ask: true, strict: false, save: None }",
+        ),
+        (
+            "people.csv --to Label --replace --ask",
+            "Asked { file: \"people.csv\", to: There(\"Label\"), from: [], header: true, examples: [], replace: true, lookups: [], depth: One, states: false, only_sure: false, profile: Third, quiet: false, explain: false, ask: true, strict: false, save: None }",
         ),
         (
             "--rule=label.rule --quiet",
@@ -66,7 +74,7 @@ fn words_that_ask(rt: HostRuntime) -> Result<(), Fail> {
         ),
         (
             "--to 3 -- --people.csv",
-            "Asked { file: \"--people.csv\", to: There(\"3\"), from: [], header: true, examples: [], replace: false, lookups: [], depth: 1, states: false, only_sure: false, profile: 3, quiet: false, explain: false, ask: false, strict: false, save: None }",
+            "Asked { file: \"--people.csv\", to: There(\"3\"), from: [], header: true, examples: [], replace: false, lookups: [], depth: One, states: false, only_sure: false, profile: Third, quiet: false, explain: false, ask: false, strict: false, save: None }",
         ),
     ];
     for (line, wanted) in table {
@@ -77,7 +85,7 @@ fn words_that_ask(rt: HostRuntime) -> Result<(), Fail> {
 
 #[test]
 fn words_that_are_wrong(rt: HostRuntime) -> Result<(), Fail> {
-    let table: [(&str, &str); 25] = [
+    let table: [(&str, &str); 29] = [
         (
             "people.csv",
             "wrong: error: the following required arguments were not provided:\n  <--to <COLUMN>|--new <NAME>>\n\nFor more information, try '--help'.\n",
@@ -101,6 +109,22 @@ fn words_that_are_wrong(rt: HostRuntime) -> Result<(), Fail> {
         (
             "people.csv --to Label --form Name",
             "wrong: error: unexpected argument '--form' found\n\n  tip: a similar argument exists: '--from'\n\nUsage: fillcsv [OPTIONS] <--to <COLUMN>|--new <NAME>> <FILE>\n       fillcsv --rule <RULE> [--quiet]\n\nFor more information, try '--help'.\n",
+        ),
+        (
+            "people.csv --to Label --save a.rule --save-rule b.rule",
+            "wrong: error: the argument '--save-rule <FILE>' cannot be used multiple times\n\nUsage: fillcsv [OPTIONS] <--to <COLUMN>|--new <NAME>> <FILE>\n       fillcsv --rule <RULE> [--quiet]\n\nFor more information, try '--help'.\n",
+        ),
+        (
+            "people.csv --to Label --replace",
+            "wrong: error: the argument '--replace' cannot be used without '--example <ROW=TEXT>' or '--ask': there is nothing to learn from\n\nFor more information, try '--help'.\n",
+        ),
+        (
+            "people.csv --to Label --save-rule people.csv",
+            "wrong: error: invalid value 'people.csv' for '--save-rule <FILE>': this file is read, and the rule would be written over it\n\nFor more information, try '--help'.\n",
+        ),
+        (
+            "people.csv --to Label --save-rule months.csv --table months=months.csv",
+            "wrong: error: invalid value 'months.csv' for '--save-rule <FILE>': this file is read, and the rule would be written over it\n\nFor more information, try '--help'.\n",
         ),
         (
             "people.csv --to Label --only often",
@@ -164,7 +188,7 @@ fn words_that_are_wrong(rt: HostRuntime) -> Result<(), Fail> {
         ),
         (
             "people.csv --to Label --save label.rule --table months=months.csv",
-            "Asked { file: \"people.csv\", to: There(\"Label\"), from: [], header: true, examples: [], replace: false, lookups: [Table { name: \"months\", file: \"months.csv\" }], depth: 1, states: false, only_sure: false, profile: 3, quiet: false, explain: false, ask: false, strict: false, save: Some(\"label.rule\") }",
+            "Asked { file: \"people.csv\", to: There(\"Label\"), from: [], header: true, examples: [], replace: false, lookups: [Table { name: \"months\", file: \"months.csv\" }], depth: One, states: false, only_sure: false, profile: Third, quiet: false, explain: false, ask: false, strict: false, save: Some(\"label.rule\") }",
         ),
         (
             "--rule label.rule people.csv",
@@ -212,7 +236,7 @@ Options:
       --quiet                  Tell nothing of a sheet that was filled
       --explain                Tell what else the first ten cells in doubt could be, and by which rule
       --ask                    Ask about the cells in doubt, one after another, and learn from the answers
-      --save <RULE>            Save the rule in this file, for --rule
+      --save-rule <FILE>       Save the rule in this file, for --rule
   -h, --help                   Print help
   -V, --version                Print version
 
@@ -223,7 +247,7 @@ Examples:
   fillcsv people.csv --new Initials --example 2=AB
   fillcsv sales.csv --to Month --table months=months.csv --key months:1
   fillcsv people.csv --to Label --ask > filled.csv
-  fillcsv people.csv --to Label --save label.rule
+  fillcsv people.csv --to Label --save-rule label.rule
   fillcsv --rule label.rule < more.csv > filled.csv
 ";
 

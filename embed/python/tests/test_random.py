@@ -53,7 +53,7 @@ def by_program(frame, to, examples, sources):
     """The status, the sheet's records and the rule that the program gives for the frame's CSV."""
     sheet = frame.to_csv(index=False, quoting=csv.QUOTE_ALL, lineterminator="\n").encode()
     names = list(frame.columns)
-    words = ["s.csv", "--state", "--save=s.rule", f"--to={names.index(to) + 1}" if to in names else f"--new={to}"]
+    words = ["s.csv", "--state", "--save-rule=s.rule", f"--to={names.index(to) + 1}" if to in names else f"--new={to}"]
     words += [] if sources is None else [f"--from={','.join(str(names.index(it) + 1) for it in sources)}"]
     words += [f"--example={frame.index.get_loc(label) + 2}={text}" for label, text in examples.items()]
     if not os.environ.get("FILLCSV"):

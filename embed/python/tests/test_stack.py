@@ -34,7 +34,7 @@ def requests():
     months = ["--table=months=months.csv", "--key=months:1", "--depth=3"]
     for words in (["people.csv", "--to=Label"], ["sales.csv", "--to=Month", *months], ["long.csv", "--to=c"]):
         long = "".join(f"{'xy-1 Z' * it},{'A.b' * it},{'y-1 Z' * it if it < 5 else ''}\n" for it in range(1, 40))
-        yield engine.request_of("fillcsv", [*words, "--state", "--explain", "--save=rule"], {**files, "long.csv": f"a,b,c\n{long}".encode()})
+        yield engine.request_of("fillcsv", [*words, "--state", "--explain", "--save-rule=rule"], {**files, "long.csv": f"a,b,c\n{long}".encode()})
     rule = (EXAMPLES / "label.rule").read_bytes()
     people = "Name,City\n" + "".join(f"Ada N{it},{'x' * it}\n" for it in range(3000))
     yield engine.request_of("fillcsv", ["--rule=rule"], {"rule": rule, "-": people.encode()})

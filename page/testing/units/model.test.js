@@ -3,6 +3,7 @@ import test from "node:test";
 import { firstChoices } from "../../scripts/choices.js";
 import { History } from "../../scripts/history.js";
 import { learningOf } from "../../scripts/learning.js";
+import { joined, sharesOf } from "../../scripts/shares.js";
 import { Sheet, looksLikeHeader } from "../../scripts/sheet.js";
 import { resultSteps, shellLines, shownWords } from "../../scripts/words.js";
 
@@ -118,4 +119,21 @@ test("corrections, and steps that are undone", () => {
     history.redo();
     history.redo();
     assert.equal(history.now.sheet, other);
+});
+
+test("a large sheet is filled in shares, each with all given cells", () => {
+    const records = [["Name", "Out"], ...Array.from({ length: 4999 }, (_, at) => [`a${at}`, at === 7 || at === 3000 ? "x" : ""])];
+    const sheet = new Sheet("large.csv", records);
+    const learning = learningOf(sheet, firstChoices(sheet), 0, () => null);
+    const shares = sharesOf(learning, 3);
+    assert.deepEqual(shares.map((it) => it.length), [1668, 1669, 1669]);
+    for (const share of shares) assert.ok([0, 8, 3001].every((it) => share.includes(it)));
+    assert.deepEqual([...new Set(shares.flat())].sort((a, b) => a - b), records.map((_, at) => at));
+    const answers = shares.map((share) => ({ status: 0, lines: "", texts: share.map(String), states: Uint8Array.from(share, (it) => it % 5) }));
+    const whole = joined(shares, answers, 5000);
+    assert.deepEqual(whole.texts, records.map((_, at) => String(at)));
+    assert.deepEqual(whole.states, Uint8Array.from(records, (_, at) => at % 5));
+    assert.equal(joined(shares, [...answers.slice(1), null], 5000), null);
+    assert.equal(joined(shares, [{ status: 6 }, ...answers.slice(1)], 5000).status, 6);
+    assert.equal(sharesOf(learning, 1), null);
 });

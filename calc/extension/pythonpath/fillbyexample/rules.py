@@ -1,4 +1,4 @@
-"""Rules in files, as `fillcsv --save` writes and `fillcsv --rule` runs them."""
+"""Rules in files, as `fillcsv --save-rule` writes and `fillcsv --rule` runs them."""
 import csv
 import os
 
@@ -26,7 +26,7 @@ def save(view, options):
     called = {it: str(it + 1) for it in range(region.width)}
     if header:  # a number that is the name of a column would be taken for that one
         called = {it: records[0][it] if number in records[0] else number for it, number in called.items()}
-    request = ["the sheet", f"--to={called[region.to]}", "--from=" + ",".join(called[it] for it in task.read), "--save=the rule"]
+    request = ["the sheet", f"--to={called[region.to]}", "--from=" + ",".join(called[it] for it in task.read), "--save-rule=the rule"]
     request += [] if header else ["--no-header"]
     request += [f"--example={at + 1 + header}=" for at, row in enumerate(given) if not task.given[row]]
     files = {"the sheet": sheet_of(records)}

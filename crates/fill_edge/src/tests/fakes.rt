@@ -52,13 +52,13 @@ impl Refusal {
 /// Has the file `abcde` under every name. Each time that it is opened one of its calls is refused, in
 /// turn, and none when the refusals are used up.
 #[derive(Drop)]
-pub struct RefusingFiles<'a> {
-    refusals: &'a [Refusal],
+pub struct RefusingFiles {
+    refusals: Vec<Refusal>,
     opened: Cell<usize>,
 }
 
-impl<'a> RefusingFiles<'a> {
-    pub fn new(refusals: &'a [Refusal]) -> RefusingFiles<'a> {
+impl RefusingFiles {
+    pub fn new(refusals: Vec<Refusal>) -> RefusingFiles {
         RefusingFiles {
             refusals,
             opened: Cell::new(0),
@@ -66,9 +66,11 @@ impl<'a> RefusingFiles<'a> {
     }
 }
 
+/// An open file, read up to a place.
+/// It holds no reference: what a file type of a runtime borrows has no name in the type of a cabinet.
 #[derive(Drop)]
 pub struct RefusingFile {
-    bytes: io::Cursor<&'static [u8]>,
+    at: u64,
     refusal: Option<Refusal>,
 }
 
@@ -81,6 +83,14 @@ impl RefusingFile {
     }
 }
 
+/// The bytes of the file, from a place on.
+fn bytes_from(at: u64) -> io::Result<io::Cursor<&'static [u8]>> {
+    let bytes: &'static [u8] = b"abcde";
+    let mut cursor = io::Cursor::new(bytes);
+    cursor.seek(SeekFrom::Start(at))?;
+    Ok(cursor)
+}
+
 fn unsupported() -> Error {
     Error::from(ErrorKind::Unsupported)
 }
@@ -88,14 +98,18 @@ fn unsupported() -> Error {
 impl Read for RefusingFile {
     fn read(&mut self, buf: &mut [u8]) -> io::Result<usize> {
         self.check(Call::Read)?;
-        self.bytes.read(buf)
+        let mut bytes = bytes_from(self.at)?;
+        let count = bytes.read(buf)?;
+        self.at = bytes.position();
+        Ok(count)
     }
 }
 
 impl Seek for RefusingFile {
     fn seek(&mut self, to: SeekFrom) -> io::Result<u64> {
         self.check(Call::Seek)?;
-        self.bytes.seek(to)
+        self.at = bytes_from(self.at)?.seek(to)?;
+        Ok(self.at)
     }
 }
 
@@ -127,24 +141,23 @@ impl OpenFile for RefusingFile {
     }
 }
 
-impl Files for RefusingFiles<'_> {
+impl Files for RefusingFiles {
     type File = RefusingFile;
 
-    type Dir = &'static [u8];
+    type Dir = RefusingFile;
 
     fn open_file(&self, _how: &OpenOptions, _path: &str) -> io::Result<RefusingFile> {
         let opened = self.opened.get();
         self.opened.set(opened.saturating_add(1));
-        let bytes: &'static [u8] = b"abcde";
         let file = RefusingFile {
-            bytes: io::Cursor::new(bytes),
+            at: 0,
             refusal: self.refusals.get(opened).copied(),
         };
         file.check(Call::Open)?;
         Ok(file)
     }
 
-    fn open_dir(&self, _path: &str) -> io::Result<&'static [u8]> {
+    fn open_dir(&self, _path: &str) -> io::Result<RefusingFile> {
         Err(unsupported())
     }
 

@@ -27,19 +27,20 @@ def named_by(words: Sequence[str]) -> List[str]:
     return ["=".join(it[at:]) for it in parts for at in range(len(it))]
 
 
-def value_of(words: Sequence[str], option: str) -> Optional[str]:
-    """Returns what an option is given; none if it is not there.
+def value_of(words: Sequence[str], *names: str) -> Optional[str]:
+    """Returns what the option of these names is given; none if it is not there.
 
     Examples
     --------
-    >>> value_of(["--save", "a"], "--save"), value_of(["--save=b"], "--save"), value_of(["--saved"], "--save")
+    >>> value_of(["--save", "a"], "--save-rule", "--save"), value_of(["--save-rule=b"], "--save-rule"), value_of(["--saved"], "--save")
     ('a', 'b', None)
     """
     for word, after in zip(words, [*words[1:], None]):
-        if word == option:
+        if word in names:
             return after
-        if word.startswith(f"{option}="):
-            return word[len(option) + 1 :]
+        name, joined, value = word.partition("=")
+        if joined and name in names:
+            return value
     return None
 
 
@@ -97,6 +98,39 @@ def _write(stream: BinaryIO, text: bytes) -> None:
     stream.flush()
 
 
+def save(path: str, text: bytes) -> None:
+    """Writes a file. One that is there stays whole until the new one is, which is written beside it and takes its place.
+
+    Examples
+    --------
+    >>> import tempfile
+    >>> with tempfile.TemporaryDirectory() as folder:
+    ...     save(f"{folder}/a", b"old")
+    ...     save(f"{folder}/a", b"new")
+    ...     pathlib.Path(folder, "a").read_bytes(), os.listdir(folder)
+    (b'new', ['a'])
+    """
+    place = pathlib.Path(os.path.realpath(path))  # where the path is a link, the file that it leads to
+    if place.exists() and not place.is_file():
+        place.write_bytes(text)  # a device or a pipe keeps nothing
+        return
+    mode = None
+    if place.exists():
+        with place.open("r+b"):  # one that may not be written is not replaced
+            mode = place.stat().st_mode
+    beside = place.parent / f".fillcsv-saving-{os.getpid()}"
+    with beside.open("xb") as file:
+        try:
+            file.write(text)
+            file.flush()
+            if mode is not None:
+                beside.chmod(mode)
+            beside.replace(place)
+        except BaseException:
+            beside.unlink()
+            raise
+
+
 def main(words: Optional[Sequence[str]] = None) -> int:
     """Runs the command with these words, else those of the command line, and returns its status."""
     words = sys.argv[1:] if words is None else words
@@ -112,10 +146,10 @@ def main(words: Optional[Sequence[str]] = None) -> int:
         sys.stdout = None  # type: ignore[assignment]  # nothing more is written there at the end
         _write(sys.stderr.buffer, b"fillcsv: output cannot be written\n")
         return 4
-    path = value_of(words, "--save")
+    path = value_of(words, "--save-rule", "--save")
     if answer.saved and path is not None:
         try:
-            pathlib.Path(path).write_bytes(answer.saved)
+            save(path, answer.saved)
         except OSError:
             _write(sys.stderr.buffer, b"fillcsv: %b: cannot be written\n" % os.fsencode(path))
             return 4

@@ -56,7 +56,7 @@ class Learned:
     def __init__(self, task: Task) -> None:
         self._task = task
         only = ["--only=sure"] if task.settings.only_sure else []
-        answer = task.ask(range(len(task.frame)), "--save=rule", *only)
+        answer = task.ask(range(len(task.frame)), "--save-rule=rule", *only)
         self._told = told_by(answer.err)
         self._texts, self._states = columns_of(answer.out, task.at)
         self._others: Dict[int, Doubt] = {}

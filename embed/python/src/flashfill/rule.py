@@ -20,7 +20,7 @@ Progress = Union[bool, None, Callable[[int], Any]]
 
 
 class Rule:
-    """A rule, as `flashfill.learn` gives it and as a file of ``fillcsv --save`` holds it.
+    """A rule, as `flashfill.learn` gives it and as a file of ``fillcsv --save-rule`` holds it.
 
     Parameters
     ----------

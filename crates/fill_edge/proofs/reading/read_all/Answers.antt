@@ -21,6 +21,7 @@ loop-buffer-preserved g c =
       front = rw grown (IsFrontOf-more files name front buffer count bound c.loop-buffer.invariant.front piece);
       files = search (c.in_ok-count.ensures.files, c.loop-buffer.invariant.files);
       later = λ n. omega (arith, c.in_ok-count.ensures.later n, c.loop-buffer.invariant.later n);
+      same = λ n. omega (arith, c.in_ok-count.ensures.taken n, c.loop-buffer.invariant.same n);
       grew = omega (arith, c.in_ok-count.ensures.grew, c.loop-buffer.invariant.grew);
       given = rw size (omega (arith, c.in_ok-count.ensures.given, c.loop-buffer.invariant.given));
       unread = λ missing. IsMissing-no_piece files name (length front) count buffer piece missing;

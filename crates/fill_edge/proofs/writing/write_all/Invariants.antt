@@ -6,6 +6,7 @@ abbrev pub invariant-loop-done : goal.invariant-loop-done
 invariant-loop-done g l = record {
   within : l.done ≤ length l.piece;
   written : Appends (g.O.Sink.written l.initial.sink) (g.O.Sink.written l.sink) (take l.done l.piece);
+  same : g.O.Sink.faults l.sink ≡ g.O.Sink.faults l.initial.sink;
   later : g.O.Sink.faults l.initial.sink ≤ g.O.Sink.faults l.sink;
   unchanged : l.done ≡ 0 → l.sink ≡ l.initial.sink;
 }

@@ -2,7 +2,7 @@ use Rattle.std.proofs.Common.{◌≡◌, ◌∙◌, ap, inl, inr, subst, sym}
 use Rattle.std.specs.Prelude.{IfOk, Some, map, string_bytes}
 use Rattle.fill_edge.specs.Memory.{Shelf}
 use Rattle.fill_files.specs.Saves.{Kept}
-use Rattle.fill_csv.specs.Saved.{StoreAt}
+use Rattle.fillcsv_run.specs.Saved.{StoreAt}
 use Rattle.fill_engine.specs.Answer.{answer_data}
 use Rattle.fill_engine.specs.Input.{input_in}
 use Rattle.fill_engine.specs.Programs.{EndsFillcsv, Stores}

@@ -5,7 +5,7 @@ use Rattle.fill_apply.specs.Saved.{columns_read}
 use Rattle.fill_tree.specs.Switch.{switch_tree}
 use Rattle.fill_open.specs.Apply.{named}
 use Rattle.fill_open.proofs.Applies.{all_passed, report_stops, script_stops, sheet_stops, tables_stop}
-use Rattle.fill_open.proofs.Replays.{none_fell_both}
+use Rattle.fill_opening.proofs.Binds.{none_fell_both}
 use Rattle.fill_open.proofs.apply.open_application.Goals as goal
 
 pub returns-in-Err-clause-stopped : goal.returns-in-Err-clause-stopped

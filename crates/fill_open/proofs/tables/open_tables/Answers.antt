@@ -1,5 +1,6 @@
 use Rattle.std.proofs.Common.{◌∙◌, arith}
-use Rattle.fill_open.proofs.Replays.{line_stops, line_passes, lines_end, none_fell_both}
+use Rattle.fill_opening.proofs.Binds.{none_fell_both}
+use Rattle.fill_open.proofs.Replays.{line_stops, line_passes, lines_end}
 use Rattle.fill_open.proofs.tables.open_tables.Goals as goal
 
 pub returns-in-Err-clause-stopped : goal.returns-in-Err-clause-stopped

@@ -1,8 +1,8 @@
 use Rattle.std.proofs.Common.{◌≡◌, drop, []}
 use Rattle.fill_edge.specs.Outside.{NoneFell}
-use Rattle.fill_open.specs.Opened.{Told}
+use Rattle.fill_opening.specs.Opened.{Told}
 use Rattle.fill_open.specs.Steps.{tables_open}
-use Rattle.fill_open.proofs.Binds.{Continues}
+use Rattle.fill_opening.proofs.Binds.{Continues}
 use Rattle.fill_open.proofs.tables.open_tables.Given as goal
 
 -- from the tables so far the lines that are left go on as all lines do

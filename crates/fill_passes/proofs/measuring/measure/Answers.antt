@@ -12,6 +12,7 @@ loop-buffer-init g c =
       room = omega (arith, size, c.in_ok-buffer.ensures.size);
       reached = reached_none (g.C.Cabinet.files c.args.cabinet.now) c.args.name.now;
       files = refl;
+      same = λ n. refl;
       later = λ n. omega arith;
     }
 
@@ -44,5 +45,6 @@ loop-buffer-preserved g c =
       room = omega arith;
       reached = reached_more files name c.loop-buffer.done c.in_ok-count.count c.read.new.buf here.reached piece;
       files = search (c.in_ok-count.ensures.files, here.files);
+      same = λ n. omega (arith, c.in_ok-count.ensures.taken n, here.same n);
       later = λ n. omega (arith, c.in_ok-count.ensures.later n, here.later n);
     }

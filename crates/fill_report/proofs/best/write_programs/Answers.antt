@@ -1,9 +1,10 @@
 use Rattle.std.proofs.Common.{◌+◌, ◌≤◌, List, length, map, refl, arith, subst}
 use Rattle.std.specs.Io.KnownBytes.{Appends}
 use Rattle.fill_tree.specs.Meaning.{program_tree}
-use Rattle.fill_report.specs.Output.{report_text}
-use Rattle.fill_report.specs.Records.{Fields, best_record, best_records}
-use Rattle.fill_report.proofs.Bytes.{take_next}
+use Rattle.fill_output.specs.Fields.{report_text}
+use Rattle.fill_output.specs.Fields.{Fields}
+use Rattle.fill_report.specs.Records.{best_record, best_records}
+use Rattle.fill_output.proofs.Bytes.{take_next}
 use Rattle.fill_report.proofs.Firsts.{length_best, program_at}
 use Rattle.fill_report.proofs.Leaving.{first_next, first_stops}
 use Rattle.fill_report.proofs.Numbered.{take_all}

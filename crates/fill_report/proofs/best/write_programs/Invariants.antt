@@ -1,7 +1,7 @@
 use Rattle.std.proofs.Common.{◌≤◌, map, take}
 use Rattle.std.specs.Io.KnownBytes.{Appends}
 use Rattle.fill_tree.specs.Meaning.{program_tree}
-use Rattle.fill_report.specs.Output.{report_text}
+use Rattle.fill_output.specs.Fields.{report_text}
 use Rattle.fill_report.specs.Records.{best_records}
 use Rattle.fill_report.proofs.best.write_programs.Given as goal
 

@@ -1,8 +1,9 @@
 use Rattle.std.proofs.Common.{◌+◌, ◌≤◌, List, length, refl, arith, subst}
 use Rattle.std.specs.Io.KnownBytes.{Appends}
-use Rattle.fill_report.specs.Output.{report_text}
-use Rattle.fill_report.specs.Records.{Fields, shown_record, shown_records}
-use Rattle.fill_report.proofs.Bytes.{take_next}
+use Rattle.fill_output.specs.Fields.{report_text}
+use Rattle.fill_output.specs.Fields.{Fields}
+use Rattle.fill_report.specs.Records.{shown_record, shown_records}
+use Rattle.fill_output.proofs.Bytes.{take_next}
 use Rattle.fill_report.proofs.Leaving.{first_next, first_stops}
 use Rattle.fill_report.proofs.Numbered.{branch_at, length_shown, take_all}
 use Rattle.fill_report.proofs.queries.write_branches.Goals as goal

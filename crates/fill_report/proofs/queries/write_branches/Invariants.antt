@@ -1,6 +1,6 @@
 use Rattle.std.proofs.Common.{◌≤◌, take}
 use Rattle.std.specs.Io.KnownBytes.{Appends}
-use Rattle.fill_report.specs.Output.{report_text}
+use Rattle.fill_output.specs.Fields.{report_text}
 use Rattle.fill_report.specs.Records.{shown_records}
 use Rattle.fill_report.proofs.queries.write_branches.Given as goal
 

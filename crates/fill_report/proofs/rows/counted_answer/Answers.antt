@@ -1,7 +1,8 @@
 use Rattle.std.proofs.Common.{◌++◌, ◌∷◌, [], arith}
 use Rattle.fill_report.specs.Counts.{IsWithin}
 use Rattle.fill_report.specs.Rows.{IsRowState}
-use Rattle.fill_report.proofs.Numbered.{rows_more, within}
+use Rattle.fill_output.proofs.Numbered.{rows_more}
+use Rattle.fill_report.proofs.Numbered.{within}
 use Rattle.fill_report.proofs.rows.counted_answer.Goals as goal
 
 pub add-requires : goal.add-requires

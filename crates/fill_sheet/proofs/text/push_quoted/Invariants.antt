@@ -3,4 +3,4 @@ use Rattle.csv.specs.Writing.{default_writer, escaped}
 use Rattle.fill_sheet.proofs.text.push_quoted.Given as goal
 
 abbrev pub invariant-loop-byte : goal.invariant-loop-byte
-invariant-loop-byte l = l.to.items ≡ l.fn.to.items ++ 34 ∷ escaped default_writer (take l.byte-index l.field)
+invariant-loop-byte l = l.to ≡ l.fn.to ++ 34 ∷ escaped default_writer (take l.byte-index l.field)

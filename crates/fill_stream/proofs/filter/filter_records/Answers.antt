@@ -1,4 +1,4 @@
-use Rattle.std.proofs.Common.{arith}
+use Rattle.std.proofs.Common.{arith, refl}
 use Rattle.fill_stream.specs.Filters.{Puts}
 use Rattle.fill_stream.specs.Records.{Took}
 use Rattle.fill_stream.proofs.Filterings.{progress_end, progress_kept, progress_more, progress_part, progress_refused, progress_some, progress_start}
@@ -7,6 +7,7 @@ use Rattle.fill_stream.proofs.filter.filter_records.Goals as goal
 pub loop-record-init : goal.loop-record-init
 loop-record-init g c = record {
   progress = progress_start (g.F.Filter.makes c.args.filter.now) (g.F.Filter.refuses c.args.filter.now) c.args.records.now.rest (g.K.Sink.written c.args.sink.now) c.args.buffer.now.items;
+  same = refl;
   later = omega arith;
 }
 
@@ -40,6 +41,7 @@ loop-record-preserved g c =
     let puts : Puts (g.F.Filter.makes c.args.filter.now c.next.new.self.row) c.loop-record.buffer.items c.put.new.to.items = rw c.row.ensures at c.in-Ok.ensures.made in
     record {
       progress = progress_more (g.F.Filter.makes c.args.filter.now) (g.F.Filter.refuses c.args.filter.now) _ _ _ _ c.next.new.self.row _ _ _ _ _ _ _ c.loop-record.invariant.progress took puts c.in-Ok-spill.ensures.held;
+      same = search (c.spill.ensures.taken, c.in-Ok-spill.ensures.taken, c.loop-record.invariant.same);
       later = omega (arith, c.loop-record.invariant.later, c.spill.ensures.later);
     }
 

@@ -20,10 +20,10 @@ returns-in-Some-clause-err c =
     let bad = rw (c.deref.ensures.value, c.in_ok-columns.ensures, c.width_of-width.ensures, c.first_records-kept.ensures) at c.in-Some.ensures in
     λ _. table_of-bad c.args.name c.args.records.now c.in-Some.number c.in-Some.column (sym bad)
 
-pub returns-then-records-gt-MOST_ROWS-clause-err : goal.returns-then-records-gt-MOST_ROWS-clause-err
-returns-then-records-gt-MOST_ROWS-clause-err c =
+pub returns-then-records-gt-MOST_TABLE_ROWS-clause-err : goal.returns-then-records-gt-MOST_TABLE_ROWS-clause-err
+returns-then-records-gt-MOST_TABLE_ROWS-clause-err c =
     let none = rw (c.deref.ensures.value, c.in_ok-columns.ensures, c.width_of-width.ensures, c.first_records-kept.ensures) at (sym c.in_default.is ∙ c.first_bad.ensures) in
-    λ _. table_of-many c.args.name c.args.records.now (sym none) c.if-records-gt-MOST_ROWS.true
+    λ _. table_of-many c.args.name c.args.records.now (sym none) c.if-records-gt-MOST_TABLE_ROWS.true
 
 pub rows_of-requires-clause-columns : goal.rows_of-requires-clause-columns
 rows_of-requires-clause-columns c = rw (c.deref-2.ensures.value, c.in_ok-columns.ensures) (columns_counted c.width_of-width.result)
@@ -43,7 +43,7 @@ pub returns-clause-ok : goal.returns-clause-ok
 returns-clause-ok c =
     let none = rw (c.deref.ensures.value, c.in_ok-columns.ensures, c.width_of-width.ensures, c.first_records-kept.ensures) at (sym c.in_default.is ∙ c.first_bad.ensures) in
     let rows = rw (c.deref-2.ensures.value, c.in_ok-columns.ensures, c.width_of-width.ensures, c.first_records-kept.ensures) at c.in_ok-rows.ensures in
-    rw (c.new.ensures.items, rows, c.width_of-width.ensures, c.first_records-kept.ensures) (table_of-rows c.args.name c.args.records.now (sym none) c.if-records-gt-MOST_ROWS.false)
+    rw (c.new.ensures.items, rows, c.width_of-width.ensures, c.first_records-kept.ensures) (table_of-rows c.args.name c.args.records.now (sym none) c.if-records-gt-MOST_TABLE_ROWS.false)
 
 pub returns-clause-shape : goal.returns-clause-shape
 returns-clause-shape c =

@@ -1,5 +1,0 @@
-use Rattle.fill_ask.proofs.Growing.{grew_by}
-use Rattle.fill_ask.proofs.say.say.Goals as goal
-
-pub returns : goal.returns
-returns g c = grew_by c.write_all.result _ _ _ _ c.args.text.now c.write_all.ensures.whole c.write_all.ensures.part c.write_all.ensures.later

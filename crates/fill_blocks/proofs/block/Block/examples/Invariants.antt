@@ -1,8 +1,0 @@
-use Rattle.std.proofs.Common.{◌≡◌, ◌++◌, drop}
-use Rattle.fill_local.specs.Local.{renumbered}
-use Rattle.fill_blocks.specs.Numbers.{number_at}
-use Rattle.fill_blocks.proofs.block.Block.examples.Given as goal
-
--- the examples so far, before the others, are all
-abbrev pub invariant-loop-example : goal.invariant-loop-example
-invariant-loop-example l = l.made ++ renumbered (number_at l.self.numbers) (drop l.example-index l.example-items) ≡ renumbered (number_at l.self.numbers) l.example-items

@@ -1,9 +1,0 @@
-use Rattle.std.proofs.Common.{◌≡◌, ◌≤◌, ◌+◌, ◌-◌, drop, length}
-use Rattle.fill_blocks.specs.Merged.{with_rows}
-use Rattle.fill_blocks.proofs.part.Part.add_from.Given as goal
-
-abbrev pub invariant-loop-next : goal.invariant-loop-next
-invariant-loop-next l =
-    (l.self.sheet.inputs ≡ l.fn.self.sheet.inputs)
-    × (length l.self.sheet.rows + (length l.rows.second.now - l.next) ≤ 16777216)
-    × (with_rows l.rows.output l.self (drop l.next l.rows.second.now) ≡ with_rows l.rows.output l.fn.self (drop l.at l.rows.second.now))

@@ -1,4 +1,0 @@
-use Rattle.fill_csv.proofs.command.fill_sheet.Given as goal
-
-abbrev pub ghosts-fill : goal.ghosts-fill
-ghosts-fill g a = record { name = a.blank.name; parts = a.blank.parts }

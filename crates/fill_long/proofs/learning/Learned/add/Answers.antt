@@ -1,5 +1,0 @@
-use Rattle.std.proofs.Common.{refl}
-use Rattle.fill_long.proofs.learning.Learned.add.Goals as goal
-
-pub returns-in-Ok-clause-added : goal.returns-in-Ok-clause-added
-returns-in-Ok-clause-added g c = (c.in-Ok.ensures.answers, refl)

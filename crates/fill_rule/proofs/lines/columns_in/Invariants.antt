@@ -1,7 +1,0 @@
-use Rattle.std.proofs.Common.{◌≡◌, drop}
-use Rattle.fill_script.specs.Line.{numbers_in}
-use Rattle.fill_script.proofs.Lines.{after_numbers}
-use Rattle.fill_rule.proofs.lines.columns_in.Given as goal
-
-abbrev pub invariant-loop-i : goal.invariant-loop-i
-invariant-loop-i l = after_numbers l.columns.items (numbers_in 1000 (drop l.i l.line)) ≡ numbers_in 1000 (drop 1 l.line)

@@ -1,5 +1,0 @@
-use Rattle.std.proofs.Common.{◌≡◌, drop, take}
-use Rattle.fill_rule.proofs.lines.fields_in.Given as goal
-
-abbrev pub invariant-loop-i : goal.invariant-loop-i
-invariant-loop-i l = l.fields ≡ take l.i (drop 1 l.line)

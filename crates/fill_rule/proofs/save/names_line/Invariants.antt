@@ -1,6 +1,0 @@
-use Rattle.std.proofs.Common.{◌≡◌, ◌∷◌, take}
-use Rattle.std.specs.Prelude.{codes}
-use Rattle.fill_rule.proofs.save.names_line.Given as goal
-
-abbrev pub invariant-loop-name : goal.invariant-loop-name
-invariant-loop-name l = l.fields ≡ codes "names" ∷ take l.name-index l.fn.names.inputs

@@ -1,5 +1,0 @@
-pub mod Loud
-mod OneKind
-pub mod Parts
-mod Proper
-pub mod Rules

@@ -1,8 +1,0 @@
-use Rattle.std.proofs.Common.{◌≡◌, drop, map}
-use Rattle.fill_words.specs.Words.{added, key_in, lookup_data}
-use Rattle.fill_words.proofs.keys.with_keys.Given as goal
-
--- what there is so far, and the keys of the words that are left
-abbrev pub invariant-loop-word : goal.invariant-loop-word
-invariant-loop-word l =
-    added key_in (map lookup_data l.lookups.items) (map (λ w. w.now) (drop l.word-index l.words)) ≡ added key_in (map lookup_data l.fn.tables.items) (map (λ w. w.now) l.words)

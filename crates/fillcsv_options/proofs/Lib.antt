@@ -1,0 +1,7 @@
+mod Choice
+pub mod Loud
+mod OneKind
+pub mod Parts
+mod Proper
+pub mod Rules
+mod Sound

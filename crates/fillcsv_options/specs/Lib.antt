@@ -1,0 +1,5 @@
+pub mod Asked
+pub mod Conflicts
+pub mod Options
+pub mod Sound
+pub mod Words

@@ -1,0 +1,4 @@
+pub mod Alike
+mod Back
+mod Forms
+mod TableLines

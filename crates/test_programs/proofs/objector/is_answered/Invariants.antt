@@ -1,4 +1,0 @@
-use Rattle.test_programs.proofs.objector.is_answered.Given as goal
-
-abbrev pub ghosts-objects : goal.ghosts-objects
-ghosts-objects a = record { name = a.blank.name; parts = a.blank.parts }
