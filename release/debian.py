@@ -9,7 +9,7 @@ import tempfile
 from release.tree import file_at, folder_of, packed, program_at, shared, text, write_tree
 
 NAME = "flashfill"
-MAINTAINER = "FlashFill <flashfill@example.org>"
+MAINTAINER = "Vinebucket maintainers <maintainers@users.noreply.vinebucket.example>"
 COPYRIGHT = """Format: https://www.debian.org/doc/packaging-manuals/copyright-format/1.0/
 Upstream-Name: FlashFill
 Source: the commit that /usr/share/doc/flashfill/PROVENANCE names

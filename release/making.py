@@ -12,6 +12,8 @@ from release.told import ROOT, sections, text_at
 from release.tree import file_at, folder_of, program_at, shared, tarball, text
 
 OUT = f"{ROOT}/out/release"
+
+
 def give_up(told, status=1):
     print(f"release: {told}", file=sys.stderr)
     sys.exit(status)

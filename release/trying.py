@@ -8,11 +8,14 @@ import subprocess
 import sys
 import tempfile
 import unittest
+import zipfile
 
 from release import shells
+from release.debian import libc_of
 from release.told import ROOT, help_of, text_at
 
-CLEAN = {"PATH": "/usr/local/bin:/usr/bin:/bin:/usr/sbin:/sbin", "HOME": "/nonexistent", "LANG": "C.UTF-8"}
+# without /usr/local/bin, where a kit may be
+CLEAN = {"PATH": "/usr/bin:/bin:/usr/sbin:/sbin", "HOME": "/nonexistent", "LANG": "C.UTF-8"}
 IS_ROOT = os.geteuid() == 0
 NOBODY = ["setpriv", "--reuid=65534", "--regid=65534", "--clear-groups", "--no-new-privs"]
 
@@ -85,14 +88,20 @@ class ReleaseTest(unittest.TestCase):
     def test_version(self):
         version = self.release.version
         self.assertIn(f"\n## [{version}] - ", text_at("CHANGELOG.md"))
+        named = re.findall(r"flashfill[-_](\d[\d.]*)[-_]", text_at("README.md"))
+        self.assertEqual(set(named), {version}, "the names of files in README")
         for wheel in glob.glob(f"{self.work}/one/*.whl"):
             self.assertTrue(os.path.basename(wheel).startswith(f"flashfill-{version}-"), f"{wheel} is not of version {version}")
+        for extension in glob.glob(f"{self.work}/one/*.oxt"):
+            with zipfile.ZipFile(extension) as files:
+                self.assertIn(f'<version value="{version}"/>', files.read("description.xml").decode())
         if not any("--version" in it.names for it in help_of(self.release.fillcsv).options):
             self.skipTest("this fillcsv has no --version")
         self.assertEqual(run(self.release.fillcsv, "--version").decode(), f"fillcsv {version}\n")
 
     def test_recipes(self):
         """Those of README, by a user without rights and without the kit."""
+        self.assertIsNone(shutil.which("rt", path=CLEAN["PATH"]))
         tried = compared = 0
         for command, wanted in recipes(text_at("README.md")):
             how = {"cwd": self.unpacked, "env": CLEAN, "stdin": subprocess.DEVNULL, "timeout": 600, "check": False}
@@ -104,7 +113,9 @@ class ReleaseTest(unittest.TestCase):
                 compared += 1
                 self.assertIn(wanted, (out, out + err, err), command)
         self.assertGreater(tried, 3)
-        self.assertGreater(compared, 0)
+        self.assertGreater(compared, 1)
+        with open(f"{self.unpacked}/label.rule", encoding="utf-8") as rule:  # which one of them saves
+            self.assertEqual(rule.read(), text_at("examples/label.rule"))
 
     @needs("ldd")
     def test_libraries(self):
@@ -112,6 +123,8 @@ class ReleaseTest(unittest.TestCase):
             told = run("ldd", f"{self.unpacked}/{name}").decode().split("\n")
             libraries = {line.split()[0].rpartition("/")[2] for line in told if line.strip()}
             self.assertLessEqual(libraries, {"linux-vdso.so.1", "libc.so.6", "ld-linux-x86-64.so.2"})
+        oldest = libc_of([self.release.flashfill, self.release.fillcsv])
+        self.assertIn(f"glibc {oldest} or later", text_at("README.md"))
 
     @needs("mandoc")
     def test_manual(self):

@@ -91,10 +91,10 @@ def results(client, words, names):
     del tasks  # a result that is here need not be kept, or made again where its worker dies
     for done, (task, result) in enumerate(coming, 1):
         print(f"\r[{'#' * (40 * done // len(names)):40}] {done} of {len(names)} files ", end="", file=sys.stderr, flush=True)
-        if task.status == "finished":
+        if isinstance(result, tuple) and len(result) == 4:  # what `fill` gives, also where its worker has died since
             yield by_key[task.key], result
         else:
-            yield by_key[task.key], (None, f"not done: {task.exception()!r}", 0, 0)
+            yield by_key[task.key], (None, f"not done: {result!r}", 0, 0)
 
 
 def main():

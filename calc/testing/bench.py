@@ -2,13 +2,13 @@
 import csv
 import io
 import pathlib
+import shutil
 import subprocess
 
 import uno
 from office import bar_of, value
 
-ROOT = pathlib.Path(__file__).resolve().parents[2]
-EXAMPLES = ROOT / "examples"
+EXAMPLES = pathlib.Path(__file__).resolve().parents[2] / "examples"
 STYLE = "Fill by Example: to check"
 
 
@@ -98,6 +98,7 @@ class Bench:
 
     def __init__(self, office, folder, fillcsv):
         self.office, self.folder, self.fillcsv, self.made = office, folder, fillcsv, []
+        self.examples = shutil.copytree(EXAMPLES, folder / "examples")  # LibreOffice locks what it opens
 
     def new(self, rows):
         return self._keep(self.office.new()).put(rows)
@@ -107,7 +108,7 @@ class Bench:
 
     def example(self, name):
         """A sheet of examples/."""
-        return self._keep(self.office.open_csv(EXAMPLES / name))
+        return self._keep(self.office.open_csv(self.examples / name))
 
     def _keep(self, doc):
         self.made.append(doc)

@@ -1,15 +1,18 @@
 """Starts LibreOffice with the extension unpacked, in a profile of its own, and drives it over a pipe as the menu does."""
 import os
+import pathlib
 import signal
 import subprocess
 import threading
 import time
 
 import uno
+import unohelper
+from com.sun.star.awt import XCallback
 from com.sun.star.beans import PropertyValue
 from com.sun.star.connection import NoConnectException
 
-START, END = 300, 60  # seconds: a loaded machine is slow
+START, STEP, END = 300, 300, 60  # seconds: a loaded machine is slow
 BAR = "org.flashfill"
 ICON, MENU_BAR, BUTTON, TABLE, TOOL_BAR, LABEL = 28, 35, 44, 60, 63, 86  # com.sun.star.accessibility.AccessibleRole
 
@@ -18,6 +21,20 @@ def value(name, it):
     made = PropertyValue()
     made.Name, made.Value = name, it
     return made
+
+
+class Step(unohelper.Base, XCallback):
+    """A function that LibreOffice's main thread calls."""
+
+    def __init__(self, function):
+        self.function, self.result, self.error, self.is_done = function, None, None, threading.Event()
+
+    def notify(self, _):
+        try:
+            self.result = self.function()
+        except BaseException as why:
+            self.error = why
+        self.is_done.set()
 
 
 class Office:
@@ -29,7 +46,8 @@ class Office:
             "--norestore", "--nologo", "--nofirststartwizard", f"--accept=pipe,name={pipe};urp;", *words,
         ]
         self.said = open(f"{folder}/said", "w+")
-        self.process = subprocess.Popen(run, start_new_session=True, stdin=subprocess.DEVNULL, stdout=self.said, stderr=self.said)
+        traced = {**os.environ, "PYTHONFAULTHANDLER": "1"}  # a signal makes Python tell where it is
+        self.process = subprocess.Popen(run, start_new_session=True, stdin=subprocess.DEVNULL, stdout=self.said, stderr=self.said, env=traced)
         local = uno.getComponentContext()
         resolver = local.ServiceManager.createInstanceWithContext("com.sun.star.bridge.UnoUrlResolver", local)
         began = time.monotonic()
@@ -40,11 +58,26 @@ class Office:
             except NoConnectException:
                 if time.monotonic() - began > START or self.process.poll() is not None:
                     self.kill()
-                    raise
+                    raise RuntimeError(f"LibreOffice does not start: {pathlib.Path(folder, 'said').read_text()}") from None
                 time.sleep(0.1)
-        self.started = time.monotonic() - began
         self.desktop = self.make("com.sun.star.frame.Desktop")
         self.dispatcher = self.make("com.sun.star.frame.DispatchHelper")
+        self.run(lambda: None, START)  # its main loop runs
+        self.started = time.monotonic() - began
+
+    def run(self, function, limit=STEP):
+        """What a function gives that LibreOffice's main thread calls; all that it does runs in that thread, as commands of the
+        menu and keys do. In other threads LibreOffice opens documents and shows progress by waiting for the main thread, at
+        times without an end (7.4)."""
+        step = Step(function)
+        self.make("com.sun.star.awt.AsyncCallback").addCallback(step, None)
+        if not step.is_done.wait(limit):
+            os.killpg(self.process.pid, signal.SIGABRT)
+            self.process.wait()
+            raise TimeoutError(f"LibreOffice does not answer for {limit} s")
+        if step.error:
+            raise step.error
+        return step.result
 
     def make(self, name):
         return self.context.ServiceManager.createInstanceWithContext(name, self.context)
@@ -75,22 +108,20 @@ class Office:
 
     def close(self):
         """Ends LibreOffice; by its group where a dialog or an open menu holds it."""
-        ending = threading.Thread(target=self._end, daemon=True)
-        ending.start()
-        ending.join(END)
+        try:
+            self.run(self._end, END)
+            self.process.wait(END)
+        except Exception:  # the bridge is gone, or it does not end
+            pass
         self.kill()
 
     def _end(self):
-        try:
-            each = self.desktop.getComponents().createEnumeration()
-            while each.hasMoreElements():
-                it = each.nextElement()
-                if hasattr(it, "close"):  # the start centre is no document
-                    it.close(True)
-            self.desktop.terminate()
-        except Exception:  # the bridge is gone
-            pass
-        self.process.wait()
+        each = self.desktop.getComponents().createEnumeration()
+        while each.hasMoreElements():
+            it = each.nextElement()
+            if hasattr(it, "close"):  # the start centre is no document
+                it.close(True)
+        self.desktop.terminate()
 
     def kill(self):
         try:

@@ -67,6 +67,13 @@ export function countsOf(states, header) {
     return counts;
 }
 
+/** The records in doubt, from the top down and at most so many; the header is none. */
+export function doubtsOf(states, header, most = Infinity) {
+    const found = [];
+    for (let record = header ? 1 : 0; record < states.length && found.length < most; record++) if (isDoubtful(states[record])) found.push(record);
+    return found;
+}
+
 /** The line of an answer that is none: what the program says, or the status where it says nothing. */
 export function problemOf({ status, lines }) {
     const said = linesOf(lines);
@@ -76,14 +83,14 @@ export function problemOf({ status, lines }) {
 
 /**
  * The next row in doubt, a record counted from 0, or null where no row is: the first one after `from`, or else from the top;
- * with -1 as `step` the other way round.
+ * with -1 as `step` the other way round. Only rows that `isShown` are meant.
  */
-export function nextDoubt({ states }, header, from, step = 1) {
+export function nextDoubt({ states }, header, from, step = 1, isShown = () => true) {
     const first = header ? 1 : 0;
     const count = states.length - first;
     for (let far = 1; far <= count; far++) {
         const record = first + ((((from - first + step * far) % count) + count) % count);
-        if (isDoubtful(states[record])) return record;
+        if (isDoubtful(states[record]) && isShown(record)) return record;
     }
     return null;
 }

@@ -20,7 +20,7 @@ const badge = (state) => element("span", { class: `badge ${STATE_CLASSES[state]}
 /** One of two answers: a button that takes it, with the words of its rule. That a rule gives no text cannot be taken. */
 function answerButton(which, { text, words }, onTake) {
     const rule = words === null ? null : element("span", { class: "rule" }, words);
-    if (text === null || text.includes("\ufffd")) return element("div", { class: "answer nothing" }, element("span", { class: "answer-text" }, text ?? "or no text, by:"), rule);
+    if (text === null || text.includes("\ufffd")) return element("div", { class: "answer nothing" }, element("span", { class: "answer-text" }, text ?? (which === 0 ? "No text, by:" : "or no text, by:")), rule);
     const keys = element("kbd", {}, `Alt+${which + 1}`);
     return element("button", { type: "button", class: "answer", onclick: () => onTake(text) }, element("span", { class: "answer-text" }, shown(text)), keys, rule);
 }

@@ -61,6 +61,11 @@ export class Choices {
         return this.with({ corrected });
     }
 
+    /** The columns of which all given texts were taken back, so that they stand empty. */
+    emptied(sheet) {
+        return this.fills.filter((it) => it.cleared.size > 0 && it.allGiven(sheet, this.header).length === 0).map((it) => it.column);
+    }
+
     /** Whether a cell of the sheet has another text than it was opened with. */
     isCorrected(record, column) {
         return this.corrected.get(record)?.has(column) ?? false;
@@ -68,10 +73,10 @@ export class Choices {
 
     /**
      * The choices with another column worked on, null for a new one. What was typed for the others stays; a column for which
-     * nothing is given is not filled any more. A column that others read is filled before them.
+     * nothing is given is not filled any more, but an emptied one stays empty. A column that others read is filled before them.
      */
     filling(sheet, column) {
-        const kept = this.fills.filter((it, at) => it.column === column || (at !== this.at && it.typed.size > 0) || it.allGiven(sheet, this.header).length > 0);
+        const kept = this.fills.filter((it, at) => it.column === column || (at !== this.at && it.typed.size > 0) || it.cleared.size > 0 || it.allGiven(sheet, this.header).length > 0);
         const known = kept.findIndex((it) => it.column === column);
         if (column !== null && known >= 0) return this.with({ fills: kept, at: known }).#repaired(sheet);
         const id = column ?? Math.min(0, ...kept.map((it) => it.column)) - 1;

@@ -4,20 +4,18 @@ const QUOTE = 34;
 const LF = 10;
 const CR = 13;
 
-/** Reads the field that begins at `at`: its text, and where the separator or line end behind it stands. */
-function fieldAt(text, at, separator) {
-    const endFrom = (from) => {
-        let end = from;
-        for (; end < text.length; end++) {
-            const code = text.charCodeAt(end);
-            if (code === separator || code === LF || code === CR) break;
-        }
-        return end;
-    };
-    if (text.charCodeAt(at) !== QUOTE) {
-        const end = endFrom(at);
-        return { field: text.slice(at, end), end };
+/** Where the separator or line end stands from a place on; the text's end where there is none. */
+function endFrom(text, from, separator) {
+    let end = from;
+    for (; end < text.length; end++) {
+        const code = text.charCodeAt(end);
+        if (code === separator || code === LF || code === CR) break;
     }
+    return end;
+}
+
+/** Reads the quoted field that begins at `at`: its text, and where the separator or line end behind it stands. */
+function quotedAt(text, at, separator) {
     let field = "";
     let from = at + 1;
     for (;;) {
@@ -26,7 +24,7 @@ function fieldAt(text, at, separator) {
         field += text.slice(from, quote);
         if (text.charCodeAt(quote + 1) !== QUOTE) {
             // what follows a closing quote belongs to the field as it stands
-            const end = endFrom(quote + 1);
+            const end = endFrom(text, quote + 1, separator);
             return { field: field + text.slice(quote + 1, end), end };
         }
         field += '"';
@@ -48,9 +46,16 @@ export function eachRecord(text, each, separator = ",") {
             continue;
         }
         const record = [];
+        let end;
         for (;;) {
-            const { field, end } = fieldAt(text, at, between);
-            record.push(field);
+            if (text.charCodeAt(at) === QUOTE) {
+                const quoted = quotedAt(text, at, between);
+                record.push(quoted.field);
+                end = quoted.end;
+            } else {
+                end = endFrom(text, at, between);
+                record.push(text.slice(at, end));
+            }
             at = end + 1;
             if (text.charCodeAt(end) !== between) break;
         }

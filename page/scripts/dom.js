@@ -20,6 +20,16 @@ export function say(text) {
     byId("said").textContent = text;
 }
 
+/** How long a button shows that it has done its work. */
+const SHOWN = 1500;
+
+/** Shows a text in a button for a moment. */
+export function flash(button, text) {
+    button.dataset.name ??= button.textContent;
+    button.textContent = text;
+    setTimeout(() => (button.textContent = button.dataset.name), SHOWN);
+}
+
 /** Shows a note above the sheet, with buttons, pairs of a text and what it does; null takes it away. */
 export function notify(text, ...buttons) {
     const place = byId("notice");

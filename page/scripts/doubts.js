@@ -4,14 +4,21 @@ import { showCell, showOther } from "./cellcard.js";
 import { byId, say } from "./dom.js";
 import { explain, groupsOf } from "./explain.js";
 import { showGroups } from "./resultcard.js";
+import { rowsToSettle } from "./settling.js";
 
 /** An answer for a whole group is given for so many of its rows at the most, one after the other, until none is in doubt. */
 const MOST_TAKEN = 8;
+/** So many milliseconds the row that the engine names is waited for once the column is filled. */
+const NAMED = 250;
+/** How many answers are left is tried where a fill takes no longer than this, in milliseconds. */
+const MOST_TRIED = 1500;
 
 export class Doubts {
     #explained = null;
     #grouped = null;
     #turn = 0;
+    /** The rows to answer from some choices on, where that was tried. */
+    #path = { from: null, rows: [] };
 
     constructor(page) {
         this.page = page;
@@ -72,14 +79,22 @@ export class Doubts {
         });
     }
 
+    /** The rows to answer by the choices as they are, so far as they are known. */
+    get #way() {
+        return this.#path.from === this.page.choices ? this.#path.rows : [];
+    }
+
     /** Takes an answer of the chosen cell, or any text, and goes to the next row to look at if nothing else was done meanwhile. */
     async take(text) {
         const { page } = this;
         const { record } = page.grid.active;
+        const [first, ...rows] = this.#way;
+        const isTried = first === record && page.filled.texts[record] === text;
         byId("grid").focus({ preventScroll: true });
         const done = page.editing.give(record, text);
         const { choices } = page;
-        await done;
+        if (isTried) this.#path = { from: choices, rows };
+        await Promise.race([done, page.whenFilled().then(() => (isTried ? null : new Promise((resolve) => setTimeout(resolve, NAMED))))]);
         const isSame = page.choices === choices && page.grid.active.record === record && !page.editing.isOpen;
         if (isSame && this.hasDoubts) this.next(1);
     }
@@ -94,21 +109,25 @@ export class Doubts {
         if (text !== null && !text.includes("\ufffd")) this.take(text);
     }
 
-    /** Goes to the next row to look at: that which the engine names, else the next one in doubt; with -1 to the one before. */
+    /** Goes to the next row to look at: that which was tried or which the engine names, else the next one in doubt; with -1 to the one before. */
     next(step) {
         const { page } = this;
         const { filled, grid } = page;
         if (!filled?.isWhole) return;
         const { record } = grid.active;
-        const named = step > 0 && filled.next !== null && filled.next !== record && !this.wentTo.has(filled) ? filled.next : null;
-        if (named !== null) this.wentTo.add(filled);
-        const found = named ?? nextDoubt(filled, page.choices.header, record, step);
+        const named = step > 0 ? (this.#way[0] ?? filled.next) : null;
+        const isNew = named !== null && !this.#wentTo.has(filled.learning);
+        if (isNew) this.#wentTo.add(filled.learning);
+        const isShown = (it) => grid.placeOf(it) >= 0;
+        const after = (...more) => nextDoubt(filled, page.choices.header, record, step, ...more);
+        // under a filter its rows come first
+        const found = isNew && named !== record && isShown(named) ? named : (after(isShown) ?? after());
         if (found === null) return say("No row is in doubt");
         this.goTo(found);
     }
 
-    /** The results of which the row that the engine names was gone to: from there on the next ones follow. */
-    wentTo = new WeakSet();
+    /** What was learned where the row that is named was gone to: from there on the next ones follow. */
+    #wentTo = new WeakSet();
 
     goTo(record) {
         const { page } = this;
@@ -127,22 +146,34 @@ export class Doubts {
         this.#grouped = filled.learning;
         const calls = { takeAll: (rows, which) => this.takeAll(rows, which), goTo: (record) => this.goTo(record) };
         const isCurrent = () => this.#grouped === filled.learning && page.filled?.learning === filled.learning;
-        const found = await page.during(groupsOf(page.filling, filled, isCurrent, (some) => isCurrent() && showGroups(some, calls)));
-        if (found !== null && isCurrent()) showGroups(found, calls);
+        const show = (some) => isCurrent() && showGroups({ ...some, left: this.#way.length }, calls);
+        const found = await page.during(groupsOf(page.filling, filled, isCurrent, show));
+        if (found === null || !isCurrent()) return;
+        show(found);
+        if (this.#way.length > 0 || filled.took > MOST_TRIED) return;
+        const { choices } = page;
+        const rows = await page.during(rowsToSettle(page.filling, page.filled, page.grid.active.record, isCurrent));
+        if (rows === null || !isCurrent()) return;
+        this.#path = { from: choices, rows };
+        show(found);
     }
 
     /**
      * Takes one of the two answers for all rows of a group: it is given for the first row, and for further ones as long as
-     * some are in doubt that read as the rule says.
+     * some are in doubt that read as the rule says. One undo takes all back.
      */
     async takeAll(rows, which) {
         const { page } = this;
+        let isMore = false;
         for (const { record, texts } of rows.slice(0, MOST_TAKEN)) {
             const text = texts[which];
             if (text === null || page.choices.fill.given(page.sheet, record) !== null) continue;
             if (record !== rows[0].record && (!isDoubtful(page.filled.states[record]) || page.filled.texts[record] !== text)) continue;
-            await page.editing.give(record, text);
-            if (!page.filled?.isWhole) return;
+            const done = page.editing.give(record, text, isMore);
+            const { choices } = page;
+            await done;
+            if (!page.filled?.isWhole || page.choices !== choices) return;
+            isMore = true;
         }
         const left = rows.filter(({ record }) => isDoubtful(page.filled.states[record])).length;
         say(left === 0 ? `${rows.length} rows are settled` : `${rows.length - left} of ${rows.length} rows are settled`);

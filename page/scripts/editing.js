@@ -25,11 +25,12 @@ export class Editing {
         this.editor.close(isKept);
     }
 
-    /** A text is given for a cell; null takes it back. */
-    give(record, text) {
+    /** A text is given for a cell; null takes it back. With `isMore` it is a part of the step before. */
+    give(record, text, isMore = false) {
         const { page } = this;
         if (page.choices.fill.given(page.sheet, record) === text) return page.refresh();
-        return page.choose(page.choices.withFill(page.choices.fill.typing(page.sheet, record, text)));
+        const choices = page.choices.withFill(page.choices.fill.typing(page.sheet, record, text));
+        return isMore ? page.amend(choices) : page.choose(choices);
     }
 
     /** Another text stands in a cell of the sheet. */

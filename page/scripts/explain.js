@@ -1,6 +1,6 @@
 // Why cells are in doubt: their two answers and the rules behind these in plain words, as `fillcsv --explain` tells them; and the
 // cells in doubt in groups of the same two rules.
-import { NONE_DOUBT, doubtsIn, isDoubtful, ruleIn } from "./answers.js";
+import { NONE_DOUBT, doubtsIn, doubtsOf, isDoubtful, ruleIn } from "./answers.js";
 
 /** The engine explains so many cells of a sheet. */
 const BATCH = 10;
@@ -31,8 +31,7 @@ export async function explain(filling, filled, record) {
  */
 export async function groupsOf(filling, filled, isCurrent, onMore) {
     const { learning, states, texts } = filled;
-    const doubtful = [];
-    for (let record = learning.header ? 1 : 0; record < states.length; record++) if (isDoubtful(states[record])) doubtful.push(record);
+    const doubtful = doubtsOf(states, learning.header);
     const groups = new Map();
     const began = performance.now();
     let looked = 0;

@@ -1,4 +1,5 @@
 // What is chosen for one column that is filled. A column of the sheet goes by its number, a new one by a number below 0.
+import { placeIn } from "./sheet.js";
 
 /** The columns that are read where nobody chooses: the first eight others, as `fillcsv` does, without those that are filled too. */
 export function usualSources(sheet, filled) {
@@ -54,12 +55,9 @@ export class Fill {
 
     /** All texts that are given, by record and from the top down. */
     allGiven(sheet, header) {
-        if (this.isNew) return [...this.typed].filter(([record]) => !header || record > 0).sort(([a], [b]) => a - b);
-        const all = [];
-        for (let record = header ? 1 : 0; record < sheet.records.length; record++) {
-            const text = this.given(sheet, record);
-            if (text !== null) all.push([record, text]);
-        }
-        return all;
+        const own = sheet.textsIn(this.column);
+        const records = own.filter((it) => !this.cleared.has(it));
+        for (const it of this.typed.keys()) if (placeIn(own, it) < 0) records.push(it);
+        return records.filter((it) => !header || it > 0).sort((a, b) => a - b).map((it) => [it, this.given(sheet, it)]);
     }
 }

@@ -1,9 +1,9 @@
 // Asks the engine for filled columns. Three workers: one fills whole sheets; one fills the rows in view, so that they follow in a
 // large sheet while one types; one finds reasons. Where a large sheet comes, some more help to fill it.
-import { countsOf, isDoubtful, linesOf, nextIn, problemOf, toldIn } from "./answers.js";
+import { countsOf, doubtsOf, linesOf, nextIn, problemOf, toldIn } from "./answers.js";
 import { Client } from "./client.js";
 import { textOf } from "./csv.js";
-import { learningOf } from "./learning.js";
+import { Learning, learningOf } from "./learning.js";
 import { loadModule } from "./parts.js";
 import { joined, recordsWith, sharesOf } from "./shares.js";
 import { fileWord, shownWords } from "./words.js";
@@ -11,14 +11,16 @@ import { fileWord, shownWords } from "./words.js";
 /** Of a sheet with more records the rows in view are filled first. */
 const LARGE = 400;
 /** So many workers fill a large sheet, if the machine has as many processors. */
-const MOST_WORKERS = 4;
+const mostWorkers = () => Math.min(4, navigator.hardwareConcurrency ?? 1);
+/** Where a file has more bytes, they begin while it is read. */
+const HELPED = 100_000;
 /** Where the whole sheet takes longer than this, it waits until typing pauses for so many milliseconds; so does what is told. */
 const SLOW = 150;
 const PAUSE = 250;
 /** With more doubts the engine names no row to look at next. */
 const MOST_DOUBTS = 1000;
 /** What is told in these lanes can wait. It is given up after so many milliseconds for something else, and in any case after `LONGEST`. */
-const PATIENT = ["suggest", "groups"];
+const PATIENT = ["suggest", "groups", "settling"];
 const PATIENCE = 700;
 const LONGEST = 30_000;
 
@@ -55,6 +57,7 @@ export class Filling {
 
     /** Opens a file as a sheet: how it came, its records, or why it is none. */
     open(name, bytes, separator = null) {
+        if (bytes.length > HELPED) this.#recruit(mostWorkers());
         return this.quick.ask("open", { name, bytes, separator });
     }
 
@@ -136,17 +139,21 @@ export class Filling {
         return client.ask("fill", { words: shownWords(learning, true), column: learning.place, header: learning.header, more }, lane);
     }
 
+    #recruit(count) {
+        while (this.crew.length < count) this.crew.push(new Client(this.module));
+    }
+
     /** Asks for a column of a large sheet in shares; null where something newer was asked for. */
     async #askShares(turn, learning, shares) {
-        while (this.crew.length < shares.length) this.crew.push(new Client(this.module));
+        this.#recruit(shares.length);
         for (const it of this.crew.slice(1)) it.hold(new Map(learning.tables.map(({ file, bytes }) => [file, bytes])));
         const asked = [];
-        for (const [at, records] of shares.entries()) {
+        for (const [at, { records, sheet }] of shares.entries()) {
             if (turn !== this.#turn) {
                 Promise.allSettled(asked); // nobody waits for these any more
                 return null;
             }
-            asked.push(this.#askPart(this.crew[at], learning.part(records).learning, "fill"));
+            asked.push(this.#askPart(this.crew[at], learning.part(records, sheet), "fill"));
             await pause(0); // what a person does meanwhile comes first
         }
         return joined(shares, await Promise.all(asked), learning.sheet.records.length);
@@ -167,7 +174,7 @@ export class Filling {
 
     async #fillAll(turn, learning, sheet) {
         const began = performance.now();
-        const shares = sharesOf(learning, Math.min(MOST_WORKERS, navigator.hardwareConcurrency ?? 1));
+        const shares = sharesOf(learning, mostWorkers());
         const answer = await (shares === null ? this.#ask(this.client, learning, sheet, "fill") : this.#askShares(turn, learning, shares));
         if (answer === null || turn !== this.#turn) return;
         this.#took = performance.now() - began;
@@ -182,7 +189,7 @@ export class Filling {
     async #fillView(turn, learning, inView) {
         const records = recordsWith(learning, inView);
         if (records === null) return;
-        const answer = await this.#askPart(this.quick, learning.part(records).learning, "view").catch(() => null);
+        const answer = await this.#askPart(this.quick, learning.part(records), "view").catch(() => null);
         const before = this.resultOf(learning.fill.column);
         if (answer === null || answer.status > 1 || turn !== this.#turn || !before || before.learning === learning) return;
         const texts = before.texts.slice();
@@ -197,25 +204,39 @@ export class Filling {
     }
 
     #askPart(client, part, lane, { kind = "fill", words = shownWords(part, true) } = {}) {
-        const more = [[fileWord(part.sheet.name), new TextEncoder().encode(textOf(part.sheet.records))]];
+        const more = [[fileWord(part.sheet.name), this.bytesOf(part.sheet)]];
         return client.ask(kind, { words, column: part.place, header: part.header, more }, lane);
     }
 
     /**
      * What the engine tells of a part of the sheet with these records and all examples: its lines, and the part's records. Null
-     * where it is not asked, or given up. What a person waits for takes the place of what takes long and can wait.
+     * where it is not asked, or given up.
      */
     async tellOf(learning, more, options, lane) {
-        const isPatient = PATIENT.includes(lane);
         const records = recordsWith(learning, more);
         if (records === null) return null;
-        const { learning: part } = learning.part(records);
-        const words = [...shownWords(part), ...options];
+        const part = learning.part(records);
+        const answer = await this.#askApart(part, lane, { kind: "tell", words: [...shownWords(part), ...options] });
+        return answer === null ? null : { lines: linesOf(answer.lines), records };
+    }
+
+    /** Asks beside what is filled; null where it is given up, or fails. What a person waits for takes the place of what takes long and can wait. */
+    async #askApart(learning, lane, asked) {
+        const isPatient = PATIENT.includes(lane);
         if (!isPatient && this.reasons.busyFor > PATIENCE && [lane, ...PATIENT].includes(this.reasons.lane)) this.reasons.stop();
-        const asked = this.#askPart(this.reasons, part, lane, { kind: "tell", words });
+        const answer = this.#askPart(this.reasons, learning, lane, asked);
         const end = isPatient ? setTimeout(() => this.reasons.lane === lane && this.reasons.stop(), LONGEST) : null;
-        const answer = await asked.finally(() => clearTimeout(end));
-        return answer === null || answer.status > 1 ? null : { lines: linesOf(answer.lines), records };
+        const got = await answer.finally(() => clearTimeout(end));
+        return got === null || got.status > 1 ? null : got;
+    }
+
+    /** What would be filled with one more text given, and the row to look at next then; null where that is given up. */
+    async triedOf(learning, record, text) {
+        const more = new Learning({ ...learning, fill: learning.fill.typing(learning.sheet, record, text) });
+        const answer = await this.#askApart(more, "settling");
+        if (answer === null) return null;
+        const filled = filledOf(answer, more, {});
+        return { ...filled, next: await this.#nextOf(filled, "settling") };
     }
 
     /** Finds the rule, and which examples are not learned from. They depend on the examples alone. */
@@ -240,16 +261,21 @@ export class Filling {
     async #suggest(turn, learning) {
         const filled = this.resultOf(learning.fill.column);
         if (turn !== this.#turn || filled?.learning !== learning || !filled.isWhole) return;
-        const doubtful = [];
-        for (let record = learning.header ? 1 : 0; record < filled.states.length && doubtful.length <= MOST_DOUBTS; record++) if (isDoubtful(filled.states[record])) doubtful.push(record);
-        if (doubtful.length < 2 || doubtful.length > MOST_DOUBTS) return;
-        const told = await this.tellOf(learning, doubtful, [], "suggest");
+        const next = await this.#nextOf(filled, "suggest");
         const now = this.resultOf(learning.fill.column);
-        if (told === null || turn !== this.#turn || now.learning !== learning) return;
-        const at = nextIn(told.lines);
-        const better = { ...now, next: at === null ? null : told.records[at] };
+        if (next === null || turn !== this.#turn || now.learning !== learning) return;
+        const better = { ...now, next };
         this.#results.set(learning.fill.column, better);
         this.calls.onTold(better);
+    }
+
+    /** The row to look at next; null where the engine names none. */
+    async #nextOf({ learning, states }, lane) {
+        const doubtful = doubtsOf(states, learning.header, MOST_DOUBTS + 1);
+        if (doubtful.length < 2 || doubtful.length > MOST_DOUBTS) return null;
+        const told = await this.tellOf(learning, doubtful, [], lane);
+        const at = told === null ? null : nextIn(told.lines);
+        return at === null ? null : told.records[at];
     }
 
     /** Runs a program with words of its own; files of one request alone can be handed along. */

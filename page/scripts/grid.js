@@ -3,6 +3,7 @@ import { cellId, fillRow, newRow } from "./cells.js";
 import { Columns } from "./columns.js";
 import { element } from "./dom.js";
 import { ROW, Scrolling } from "./scrolling.js";
+import { placeFrom, placeIn } from "./sheet.js";
 
 /** How many rows are kept ready above and below those in view. */
 const MORE = 8;
@@ -51,19 +52,7 @@ export class Grid {
 
     /** Where a record stands among the rows that are shown; -1 where it is not shown. */
     placeOf(record) {
-        const at = this.#placeFrom(record);
-        return this.rows[at] === record ? at : -1;
-    }
-
-    /** The place of the first row that is not above a record; the rows are in order. */
-    #placeFrom(record) {
-        let [low, high] = [0, this.rows.length];
-        while (low < high) {
-            const middle = (low + high) >> 1;
-            if (this.rows[middle] < record) low = middle + 1;
-            else high = middle;
-        }
-        return low;
+        return placeIn(this.rows, record);
     }
 
     /** Chooses a cell, and brings it into view. With `isRange` all cells from the one that was chosen before are picked. */
@@ -81,7 +70,7 @@ export class Grid {
     move(rows, columns, isRange = false) {
         if (this.rows.length === 0) return;
         let at = this.placeOf(this.active.record);
-        if (at < 0) at = this.#placeFrom(this.active.record) - (rows > 0 ? 1 : 0);
+        if (at < 0) at = placeFrom(this.rows, this.active.record) - (rows > 0 ? 1 : 0);
         const to = Math.min(this.rows.length - 1, Math.max(0, at + rows));
         const column = Math.min(this.columns.count - 1, Math.max(0, this.columns.at(this.active.column) + columns));
         this.choose(this.rows[to], this.columns.list[column].id, isRange);
@@ -185,11 +174,16 @@ export class Grid {
             this.body.append(...this.slots);
         }
         const used = new Set();
+        let above = null;
         for (let at = first; at < last; at++) {
             const slot = this.slots[at % this.slots.length];
             used.add(slot);
             const isOther = slot.at !== at;
             if (all || isOther) this.#fillRow(slot, at);
+            // screen readers read rows as they stand in the document
+            const next = above === null ? this.body.firstChild : above.nextSibling;
+            if (next !== slot && isOther) this.body.insertBefore(slot, next);
+            above = slot;
             if (all || isOther || this.#scrolling.scale !== 1) slot.style.transform = `translateY(${this.#scrolling.top(at, place.scrollTop)}px)`;
         }
         for (const slot of this.slots) {

@@ -18,6 +18,11 @@ export class History {
         this.now = { sheet, choices };
     }
 
+    /** Other choices as a part of the last step. */
+    amend(choices) {
+        this.now = { ...this.now, choices };
+    }
+
     get canUndo() {
         return this.#past.length > 0;
     }

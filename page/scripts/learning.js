@@ -1,5 +1,5 @@
 // What the engine is asked for one filled column: the sheet that it reads, and the choices in the numbers of that sheet.
-import { Sheet } from "./sheet.js";
+import { placeIn } from "./sheet.js";
 
 /** One column to fill. `column` is its number in the sheet, or null for a new one; `fill` is what was chosen for it. */
 export class Learning {
@@ -21,23 +21,17 @@ export class Learning {
     }
 
     /**
-     * The same for these records alone, counted from 0 and from the top down, and where each stands there. Answers of rows
-     * depend on the examples and on the row itself: so where all given cells are among the records, each has the answer of
-     * the whole sheet.
+     * The same for these records alone, counted from 0 and from the top down; `sheet` is made of them where none is handed in.
+     * Answers of rows depend on the examples and on the row itself: so where all given cells are among the records, each has
+     * the answer of the whole sheet.
      */
-    part(records) {
-        const places = new Map(records.map((record, at) => [record, at]));
-        const rows = records.map((record) => this.sheet.records[record]);
-        // as wide as the sheet, so that its columns have the same numbers
-        if (rows.length > 0) rows[0] = padded(rows[0], this.sheet.width);
-        const sheet = new Sheet(this.sheet.name, rows);
-        const typed = new Map([...this.fill.typed].filter(([record]) => places.has(record)).map(([record, text]) => [places.get(record), text]));
-        const cleared = new Set([...this.fill.cleared].filter((record) => places.has(record)).map((record) => places.get(record)));
-        return { learning: new Learning({ ...this, sheet, fill: this.fill.with({ typed, cleared }) }), places };
+    part(records, sheet = this.sheet.part(records)) {
+        const place = (record) => placeIn(records, record);
+        const typed = new Map([...this.fill.typed].map(([record, text]) => [place(record), text]).filter(([at]) => at >= 0));
+        const cleared = new Set([...this.fill.cleared].map(place).filter((at) => at >= 0));
+        return new Learning({ ...this, sheet, fill: this.fill.with({ typed, cleared }) });
     }
 }
-
-const padded = (record, width) => [...record, ...new Array(Math.max(0, width - record.length)).fill("")];
 
 /**
  * What the fill at a place asks of the engine. It reads the columns that are filled before it with their new texts:

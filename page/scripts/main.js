@@ -63,7 +63,9 @@ function listenToPage() {
         else if (event.key === "Escape") byId("grid").focus({ preventScroll: true });
     });
     document.addEventListener("keydown", pressed);
-    byId("grid").addEventListener("copy", (event) => {
+    // Firefox sends it to where texts are picked, and not to the sheet
+    document.addEventListener("copy", (event) => {
+        if (document.activeElement !== byId("grid")) return;
         event.clipboardData.setData("text/plain", page.editing.copied());
         event.preventDefault();
     });
@@ -73,6 +75,7 @@ function listenToPage() {
         if (text && page.history) page.editing.paste(text);
         event.preventDefault();
     });
+    document.addEventListener("visibilitychange", () => document.hidden && page.keep());
     addEventListener("beforeunload", (event) => {
         if (page.isDirty) event.preventDefault();
     });

@@ -87,7 +87,7 @@ export class Opening {
     async runRule(name, bytes) {
         const { page } = this;
         const { source } = page.sheet;
-        const made = await page.during(filledByRule(page.filling, page.sheet, name, bytes));
+        const made = await page.during(filledByRule(page.filling, page.readBy(page.choices), name, bytes));
         if (made.problem) return page.showProblem(made.problem);
         await this.open(made.name, made.bytes, { separator: ",", isOnDisk: false });
         notify(`${name} filled the sheet: ${made.told}. In a terminal: ${made.line}`, ["Download it", () => page.results.handOut(filledName(source.came), bytesLike(made.bytes, source.format))], ["Back to the sheet before", () => page.undo()]);
@@ -113,7 +113,7 @@ export class Opening {
 
     /** Offers the work of last time. */
     async offerLast() {
-        const last = await lastKept();
+        const last = await this.page.during(lastKept());
         if (last === null) return;
         const when = new Date(last.when).toLocaleString("en", { dateStyle: "medium", timeStyle: "short" });
         notify(`Last time you worked on ${last.name} (${when}). It is kept in this browser alone.`, [`Reopen ${last.name}`, () => this.#reopen()], ["Forget it", () => forgetKept()]);

@@ -23,6 +23,9 @@ export class Page {
     #under = 0;
     #said = "";
     #sheets = null;
+    #read = null;
+    #keeping = null;
+    #waiting = [];
 
     constructor() {
         this.filling = new Filling({
@@ -63,6 +66,16 @@ export class Page {
     /** The sheet as it is now. */
     get sheet() {
         return this.sheetOf(this.choices);
+    }
+
+    /** The sheet as the engine reads it by some choices: a column of which all given texts were taken back is empty. */
+    readBy(choices) {
+        const sheet = this.sheetOf(choices);
+        const columns = choices.emptied(sheet);
+        const from = choices.header ? 1 : 0;
+        const key = `${columns} ${from}`;
+        if (this.#read?.of !== sheet || this.#read.key !== key) this.#read = { of: sheet, key, sheet: sheet.emptying(columns, from) };
+        return this.#read.sheet;
     }
 
     /** The column that is worked on. */
@@ -113,12 +126,28 @@ export class Page {
         return this.changed();
     }
 
+    /** Takes up other choices as a part of the last step, which is undone as a whole. */
+    amend(choices) {
+        this.history.amend(choices);
+        return this.changed();
+    }
+
     changed() {
         // the example of the first visit is not worth keeping
-        clearTimeout(this.keeping);
-        if (this.isDirty || !this.opening.isExample) this.keeping = setTimeout(() => this.during(keep(this.history.now)), KEEP_AFTER);
+        clearTimeout(this.#keeping);
+        this.#keeping = this.isDirty || !this.opening.isExample ? setTimeout(() => this.keep(), KEEP_AFTER) : null;
+        document.body.dataset.kept = String(this.#keeping === null);
         this.render();
         return this.refresh();
+    }
+
+    /** Keeps in this browser what was changed, if it is not kept yet. */
+    async keep() {
+        if (this.#keeping === null) return;
+        clearTimeout(this.#keeping);
+        this.#keeping = null;
+        await this.during(keep(this.history.now));
+        document.body.dataset.kept = String(this.#keeping === null);
     }
 
     /** Another sheet stands there: nothing of the old one is shown. */
@@ -207,16 +236,22 @@ export class Page {
     refresh() {
         const { preview } = this;
         const choices = preview ?? this.choices;
-        const filling = this.filling.fill(this.sheetOf(choices), choices, this.grid.inView, preview !== null);
+        const filling = this.filling.fill(this.readBy(choices), choices, this.grid.inView, preview !== null);
         return this.during(filling.then(() => {
             if (this.preview === null && this.choices === choices) this.doubts.group();
         }));
+    }
+
+    /** Comes when the column has been filled next. */
+    whenFilled() {
+        return new Promise((resolve) => this.#waiting.push(resolve));
     }
 
     /** Shows the column that is worked on; not `isWhole` where the rows in view alone are up to date. */
     showFilled(filled, isWhole) {
         this.grid.show(this.rows);
         if (!isWhole) return;
+        for (const tell of this.#waiting.splice(0)) tell();
         this.doubts.forget();
         showStates(filled, this.filter, (it) => this.setFilter(it));
         byId("next").disabled = !this.doubts.hasDoubts;

@@ -19,7 +19,7 @@ function fileNote({ name, why }, onDownload) {
 
 /**
  * The card of the result. `lines` make the same result in a terminal from the file `file.name`; `file.why` says why that is
- * not the person's own file, or is null; `hasFormulas` says that a spreadsheet may take a filled text for a formula. `calls` has `choose(changes)`, `copy(text)`, `saveRule()` and `downloadSheet()`.
+ * not the person's own file, or is null; `hasFormulas` says that a spreadsheet may take a filled text for a formula. `calls` has `choose(changes)`, `copy(text, button)`, `saveRule()` and `downloadSheet()`.
  */
 export function showResult({ lines, file, choices, filled, isOpen, hasFormulas }, calls) {
     const { notes, isWhole, rule } = filled;
@@ -29,7 +29,7 @@ export function showResult({ lines, file, choices, filled, isOpen, hasFormulas }
         ...fileNote(file, calls.downloadSheet),
         element("p", {}, "The program fillcsv writes the same from this:"),
         code(lines, "The command"),
-        element("p", { class: "row-of-buttons" }, button("Copy this", () => calls.copy(lines))));
+        element("p", { class: "row-of-buttons" }, button("Copy this", (event) => calls.copy(lines, event.currentTarget))));
     const saved = byId("rule");
     byId("result").replaceChildren(
         element("h2", {}, "The rule"),
@@ -45,7 +45,7 @@ export function showResult({ lines, file, choices, filled, isOpen, hasFormulas }
     );
 }
 
-/** Shows how the rule that was saved is run, or why none was. `calls` has `copy(text)`. */
+/** Shows how the rule that was saved is run, or why none was. `calls` has `copy(text, button)`. */
 export function showRule({ problem, name, tables, line }, learning, calls) {
     byId("rule")?.remove();
     const beside = problem || tables.length === 0 ? "" : `, beside ${tables.join(" and ")}`;
@@ -54,7 +54,7 @@ export function showRule({ problem, name, tables, line }, learning, calls) {
         : [
               element("p", {}, `${name} fills other sheets with these columns${beside}: drop it on one, or`),
               code(line, "The command for another sheet"),
-              element("p", { class: "row-of-buttons" }, button("Copy this line", () => calls.copy(line))),
+              element("p", { class: "row-of-buttons" }, button("Copy this line", (event) => calls.copy(line, event.currentTarget))),
           ];
     const made = element("section", { id: "rule" }, parts);
     made.filled = learning;
@@ -82,6 +82,9 @@ function groupPart({ first, other, rows }, isAll, calls) {
     return element("section", { class: "group" }, element("h3", {}, count, element("span", { class: "where" }, "row ", where)), element("div", { class: "sides" }, sides));
 }
 
+/** What is said of the answers that are left: so many settle all, if they are those that stand there. */
+const leftText = (left) => `If what stands there is right, ${left === 1 ? "one answer settles all" : `${left} answers settle all, one after the other`}.`;
+
 /** The card of the doubts in groups; none where there are no doubts. `calls` has `takeAll(rows, which)` and `goTo(record)`. */
 export function showGroups(found, calls) {
     const place = byId("groups");
@@ -91,6 +94,7 @@ export function showGroups(found, calls) {
     const more = found.groups.length - MOST_GROUPS;
     place.replaceChildren(
         element("h2", {}, "What is in doubt"),
+        ...(found.left ? [element("p", { id: "left" }, leftText(found.left))] : []),
         ...found.groups.slice(0, MOST_GROUPS).map((it) => groupPart(it, isAll, calls)),
         ...(more > 0 ? [element("p", {}, `${more} more ${more === 1 ? "question" : "questions"}; an answer often settles several.`)] : []),
         ...(isAll ? [] : [element("p", {}, `${found.looked.toLocaleString("en")} of ${found.doubts.toLocaleString("en")} rows in doubt are looked at.`)]),

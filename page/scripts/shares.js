@@ -14,12 +14,28 @@ export function recordsWith(learning, more) {
     return [...new Set([...(learning.header ? [0] : []), ...given, ...more])].sort((a, b) => a - b);
 }
 
-/** The records of each of so many shares; null where the sheet is better filled at once. */
+/** The shares that were made last: while one types, they stay the same. */
+let made = null;
+
+/** So many shares of a sheet: the `records` of each, and the `sheet` of them; null where the sheet is better filled at once. */
 export function sharesOf(learning, count) {
-    const rows = learning.sheet.records.length;
-    if (count < 2 || rows < LEAST || rows > MOST || recordsWith(learning, []) === null) return null;
-    const each = Math.ceil(rows / count);
-    return Array.from({ length: count }, (_, at) => recordsWith(learning, Array.from({ length: Math.min(each, rows - at * each) }, (_, row) => at * each + row)));
+    const { sheet } = learning;
+    const rows = sheet.records.length;
+    const head = count < 2 || rows < LEAST || rows > MOST ? null : recordsWith(learning, []);
+    if (head === null) return null;
+    const key = `${count} ${head}`;
+    if (made?.of !== sheet || made.key !== key) {
+        const each = Math.ceil(rows / count);
+        const from = (at) => Math.min(rows, at * each);
+        made = { of: sheet, key, shares: Array.from({ length: count }, (_, at) => shareOf(sheet, head, from(at), from(at + 1))) };
+    }
+    return made.shares;
+}
+
+function shareOf(sheet, head, from, to) {
+    const rows = Array.from({ length: to - from }, (_, at) => from + at);
+    const records = [...head.filter((it) => it < from), ...rows, ...head.filter((it) => it >= to)];
+    return { records, sheet: sheet.part(records) };
 }
 
 /** What was filled in all shares, as if it had been asked of the whole sheet of so many records; null where an answer is missing. */
@@ -29,7 +45,7 @@ export function joined(shares, answers, rows) {
     if (failed) return failed;
     const texts = new Array(rows).fill("");
     const states = new Uint8Array(rows);
-    shares.forEach((records, at) => records.forEach((record, place) => {
+    shares.forEach(({ records }, at) => records.forEach((record, place) => {
         texts[record] = answers[at].texts[place];
         states[record] = answers[at].states[place];
     }));

@@ -1,7 +1,26 @@
 // A sheet as it was opened, and how it is read at first: whether it has a header, and which column is to be filled.
 
+/** Where a number stands in a list from the lowest up: the place of the first one that is not lower. */
+export function placeFrom(numbers, wanted) {
+    let [low, high] = [0, numbers.length];
+    while (low < high) {
+        const middle = (low + high) >> 1;
+        if (numbers[middle] < wanted) low = middle + 1;
+        else high = middle;
+    }
+    return low;
+}
+
+/** The place of a number in such a list; -1 where it is not there. */
+export function placeIn(numbers, wanted) {
+    const at = placeFrom(numbers, wanted);
+    return numbers[at] === wanted ? at : -1;
+}
+
 /** A sheet as the engine reads it. Records are counted from 0, the header among them. `origin` is the sheet as it was opened. */
 export class Sheet {
+    #texts = new Map();
+
     /** `source` of a sheet that was opened: its `bytes` as the engine gets them, the `format` of its file, and `came`, the name of that. */
     constructor(name, records, { origin = null, source = null } = {}) {
         this.name = name;
@@ -16,6 +35,23 @@ export class Sheet {
         return this.records[record]?.[column - 1] ?? "";
     }
 
+    /** The records that have a text in a column; a new one has none. */
+    textsIn(column) {
+        let found = this.#texts.get(column);
+        if (found) return found;
+        found = [];
+        this.records.forEach((record, at) => (record[column - 1] ?? "") !== "" && found.push(at));
+        this.#texts.set(column, found);
+        return found;
+    }
+
+    /** A sheet of some of its records, which is as wide, so that its columns have the same numbers. */
+    part(records) {
+        const rows = records.map((record) => this.records[record]);
+        if (rows.length > 0 && rows[0].length < this.width) rows[0] = [...rows[0], ...new Array(this.width - rows[0].length).fill("")];
+        return new Sheet(this.name, rows, { origin: this.origin });
+    }
+
     /** The sheet with other texts in some cells: texts by column, by record. */
     with(corrected) {
         if (corrected.size === 0) return this;
@@ -28,6 +64,13 @@ export class Sheet {
             }
             records[record] = cells;
         }
+        return new Sheet(this.name, records, { origin: this.origin });
+    }
+
+    /** The sheet with some columns empty from a record on. */
+    emptying(columns, from) {
+        if (columns.length === 0) return this;
+        const records = this.records.map((record, at) => (at < from ? record : record.map((text, place) => (columns.includes(place + 1) ? "" : text))));
         return new Sheet(this.name, records, { origin: this.origin });
     }
 

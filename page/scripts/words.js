@@ -41,8 +41,8 @@ function fillWords(file, names, { column, sources, fill, header, tables, depth }
     words.push(...option("--from", sources.map((it) => columnWord(names, it)).join(",")));
     if (!header) words.push("--no-header");
     const isReplaced = fill.cleared.size > 0;
-    if (isReplaced) words.push("--replace");
     const examples = isReplaced ? given() : [...fill.typed].filter(([record]) => !header || record > 0);
+    if (isReplaced && examples.length > 0) words.push("--replace"); // a column without examples is empty in the file
     for (const [record, text] of examples.sort(([a], [b]) => a - b)) words.push(...option("--example", `${record + 1}=${text}`));
     words.push(...tableWords({ tables, depth }));
     return words;
@@ -62,7 +62,8 @@ export function ruleWords(learning, name) {
     return { words: [...learningWords(learning), "--save-rule", file], run: ["--rule", file] };
 }
 
-const baseOf = (name) => name.replace(/\.(csv|txt|tsv|tab)$/i, "");
+/** A sheet's name without its ending. */
+export const baseOf = (name) => name.replace(/\.(csv|txt|tsv|tab)$/i, "");
 
 /** The name under which the result of a sheet is handed out. */
 export const filledName = (name) => `${baseOf(name)}-filled${/\.(?:tsv|tab)$/i.exec(name)?.[0] ?? ".csv"}`;

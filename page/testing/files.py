@@ -151,8 +151,8 @@ def kept(trial):
     assert trial.shown() == filled, trial.shown()
     trial.compare(path)
     assert not browser.run(asks), "it was downloaded"
-    browser.run("await new Promise((done) => setTimeout(done, 500));")  # the page keeps what was done a moment later
-    trial.settle().start()
+    browser.wait("document.body.dataset.kept === 'true'", "what was done is kept")
+    trial.start()
     assert "people.csv" in (trial.note() or ""), trial.note()
     trial.press("Reopen people.csv", "#notice")
     trial.settle()
@@ -194,6 +194,13 @@ def saved_rule(trial):
     assert trial.browser.run("return document.getElementById('file-name').textContent;") == "more-people.csv"
     trial.open_file(EXAMPLES / "sales.csv")
     trial.add_table(EXAMPLES / "months.csv", [["1"]])
-    rule_like_the_program(trial, EXAMPLES / "sales.csv")
+    with_table, _ = rule_like_the_program(trial, EXAMPLES / "sales.csv")
+    saved = trial.write("month.rule", with_table)
+    trial.press("Remove", "#tables")
+    trial.open_file(saved)
+    assert "looks up in months.csv: add that" in (trial.problem() or ""), trial.problem()
+    trial.add_table(EXAMPLES / "months.csv", [["1"]])
+    trial.open_file(saved)
+    assert trial.problem() is None and "month.rule filled the sheet" in (trial.note() or ""), (trial.problem(), trial.note())
     trial.is_clean()
     return f"{len(got)} bytes by a dropped rule"

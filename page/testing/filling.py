@@ -149,6 +149,31 @@ def own_cells(trial):
     return "changed, taken back, left empty"
 
 
+def emptied(trial):
+    """A column of which all examples are taken back is empty, in the page, the download and the lines; the next example fills it anew."""
+    trial.start()
+    path = EXAMPLES / "people.csv"
+    trial.open_file(path)
+    trial.pick(4, [1, 3])
+    trial.go_to(2)
+    trial.browser.press("Shift+Down", "Shift+Down", "Delete")
+    trial.settle()
+    assert trial.problem() is None and {text for text, _ in trial.shown().values()} == {""}, (trial.problem(), trial.shown())
+    assert "type what one cell" in trial.browser.run("return document.getElementById('chips').textContent;")
+    empty = "".join(f"{line.rsplit(',', 1)[0]},\n" if at else f"{line}\n" for at, line in enumerate(path.read_text(encoding="utf-8").splitlines()))
+    saved = trial.write(path.name, trial.downloaded(lambda: trial.press("Download people.csv")))
+    assert saved.read_text(encoding="utf-8") == empty and trial.result().decode() == empty, saved.read_text(encoding="utf-8")
+    trial.compare(saved)
+    trial.browser.press("Delete")
+    trial.settle()
+    assert trial.problem() is None and trial.shown()[2][0] == "", trial.shown()
+    trial.type_into(3, "Planck (Kiel)")
+    assert "--replace" in trial.lines()[0] and trial.shown()[2][0] == "Byron (London)", (trial.lines(), trial.shown())
+    trial.compare(path)
+    trial.is_clean()
+    return "empty, and filled anew"
+
+
 def corrected(trial):
     """A cell that is read can be corrected: answers follow while one types, the line reads the corrected sheet, undo takes it back."""
     trial.start()

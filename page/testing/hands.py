@@ -1,13 +1,17 @@
 """Checks: what hands and eyes need: filters, doubts in groups, ranges, finding, heads, keys, small windows, screen readers."""
 from filling import EXAMPLES
 
+# where a fill of some sixty rows takes longer than this, in milliseconds, the page may lack the time to try answers
+SLOW = 400
+
 
 def doubts(trial):
     """Doubts stand in groups with both answers; one click settles a group, and the groups that are left are true."""
     trial.start()
     trial.browser.wait("document.querySelectorAll('#groups .group').length > 0", "the doubts are in groups")
     trial.settle()
-    before = {row for row, (_, state) in trial.shown().items() if state == "doubt"}
+    shown = trial.shown()
+    before = {row for row, (_, state) in shown.items() if state == "doubt"}
     counts = trial.browser.run("return [...document.querySelectorAll('#groups h3')].map((it) => parseInt(it.textContent, 10));")
     assert sum(counts) == len(before), (counts, before)
     texts = trial.browser.run("return [...document.querySelectorAll('#groups .group:first-of-type .side')][1].querySelector('ul').innerText.split('\\n');")
@@ -19,8 +23,33 @@ def doubts(trial):
     assert [after[row][0] for row in rows] == texts, (rows, texts, after)
     assert not any(after[row][1] == "doubt" for row in rows), after
     assert trial.browser.run("return document.getElementById('groups').hidden;") == (not any(state == "doubt" for _, state in after.values()))
+    trial.browser.press("Control+z")
+    trial.settle()
+    assert trial.shown() == shown, (trial.shown(), shown)
     trial.is_clean()
     return f"groups of {counts}"
+
+
+def answers_left(trial):
+    """The number of answers that settle all is true: so many times what stands there is taken, and not before that is all settled."""
+    trial.start()
+    lines = [f"Person{row} {'M ' if row % 2 else ''}{'von ' if row % 5 == 0 else ''}Byron,City{row},{f'Byron (City{row})' if row in (2, 4) else ''}" for row in range(2, 60)]
+    trial.open_file(trial.write("many.csv", "Name,City,Label\n" + "\n".join(lines) + "\n"))
+    told = trial.browser.run("return document.getElementById('left')?.textContent ?? '';")
+    took = trial.browser.run("return parseInt(document.getElementById('time').textContent.match(/[0-9]+/), 10);")
+    if not told and took > SLOW:
+        return f"a fill takes {took} ms here, and so they are not tried"
+    assert "settle" in told, told
+    count = 1 if "one answer" in told else next(int(it) for it in told.split() if it.isdigit())
+    doubts = "return [...document.querySelectorAll('#chips .doubt')].map((it) => parseInt(it.textContent.slice(1), 10))[0];"
+    left = [trial.browser.run(doubts)]
+    for _ in range(count):
+        trial.browser.press("Alt+1")
+        trial.settle()
+        left.append(trial.browser.run(doubts))
+    assert left[-1] == 0 and all(left[:-1]), (told, left)
+    trial.is_clean()
+    return f"{count} answers: {left}"
 
 
 def filters(trial):

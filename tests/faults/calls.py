@@ -5,14 +5,17 @@ import tempfile
 
 from start import examples, put, start
 
-KINDS = ("memory", "open", "read", "write")
+KINDS = ("memory", "open", "read", "write", "place")
 # what the lines on standard error say of a kind of failing calls, behind the program's name
 LINES = {
     "memory": r"out of memory",
     "open": r".+: cannot be (read|written)",
     "read": r"(.+: cannot be read|the input cannot be read)",
     "write": r"(output|.+): cannot be written|output cannot be written",
+    "place": r".+: cannot be written",
 }
+# what stands in the place of a rule before it is saved
+OLD = b"an old rule\n"
 SIX_ROWS = {
     "six.csv": b"sheet,rows.csv\ninputs,1\nbegin\nadd,1,Cd\nadd,2,Ijk\nprograms\nfill\n",
     "rows.csv": b'Ab Cd\nEfgh Ijk\nMn Op\nXy\nBc De Fg\n""\n',
@@ -53,6 +56,8 @@ def is_right(kind, program, words, came, whole):
     name = os.path.basename(program)
     if (status, output) == whole[:2]:
         return True
+    if kind == "memory" and status == 4 and "--save-rule" in words:  # refused while the rule is saved
+        kind = "place"
     if status < 0 or not whole[1].startswith(output) or not lines:
         return False
     last = lines.decode().rstrip("\n").split("\n")[-1]
@@ -62,11 +67,25 @@ def is_right(kind, program, words, came, whole):
         return False
     if kind == "memory":
         return status == 6 and (not output or output.endswith(b"\n"))
+    if kind == "place":
+        return status == 4 and output == whole[1]
     if kind == "write":
         return status == 4
     if status == 3:
         return output == b"" or "--rule" in words
     return status == 4 and name == "fillcsv"
+
+
+def saved(folder):
+    """The rule where it is saved, and the names of all files."""
+    with open(os.path.join(folder, "new.rule"), "rb") as file:
+        return file.read(), sorted(os.listdir(folder))
+
+
+def is_saved(came, whole, here, here_by_whole):
+    """Whether the rule is the new one, or the old one where the run ended in another way, and no other file was left."""
+    rule, names = here
+    return names == here_by_whole[1] and (rule == here_by_whole[0] or rule == OLD and came[:2] != whole[:2])
 
 
 def numbers(total, most):
@@ -107,7 +126,7 @@ def exact(flashfill, folder):
 
 def run(flashfill, fillcsv, count):
     """Tries some `count` failing calls, and answers what went wrong and how many were tried."""
-    files = {**examples(), **SIX_ROWS, **MONTH, **USUAL}
+    files = {**examples(), **SIX_ROWS, **MONTH, **USUAL, "new.rule": OLD}
     asked = list(commands(flashfill, fillcsv, files))
     share = max(1, count // (len(asked) * len(KINDS)))
     wrong, tried = [], 0
@@ -117,7 +136,9 @@ def run(flashfill, fillcsv, count):
         counted = os.path.join(folder, "counted")
         for program, words, given in asked:
             for kind in KINDS:
+                put(folder, {"new.rule": OLD})
                 whole = start(program, words, folder, given, {"KIND": kind, "COUNTED": counted})
+                here = saved(folder)
                 with open(counted, encoding="ascii") as file:
                     total = int(file.read())
                 # most allocations, so most of the share is theirs
@@ -125,8 +146,9 @@ def run(flashfill, fillcsv, count):
                     faults = {"KIND": kind, "FAILS": at}
                     if at % 2:
                         faults["LASTS"] = 1
+                    put(folder, {"new.rule": OLD})
                     came = start(program, words, folder, given, faults)
                     tried += 1
-                    if not is_right(kind, program, words, came, whole):
+                    if not is_right(kind, program, words, came, whole) or not is_saved(came, whole, saved(folder), here):
                         wrong.append(f"{kind}, call {at} of {total}: {os.path.basename(program)} {' '.join(words)}: {came!r}")
     return wrong, tried

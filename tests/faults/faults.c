@@ -1,4 +1,4 @@
-/* Put before the C library, it makes one call of a program fail: of the calls of a KIND (memory, open, read, write) that of the number
+/* Put before the C library, it makes one call of a program fail: of the calls of a KIND (memory, open, read, write, place) that of the number
    FAILS, or each from there on where LASTS is set; and it lets reads and writes take one byte at most where SINGLE is set, and all writes
    together MOST bytes where that is set. At the end it writes how many calls of the kind there were to the file COUNTED. Reads and
    writes of standard error do not count. */
@@ -10,6 +10,7 @@
 #include <stdio.h>
 #include <stdlib.h>
 #include <string.h>
+#include <sys/stat.h>
 #include <unistd.h>
 
 static long calls, written;
@@ -87,6 +88,33 @@ ssize_t write(int file, const void *from, size_t size) {
     done = next(file, from, size > 1 && asked("SINGLE") ? 1 : size);
     if (done > 0) written += done;
     return done;
+}
+
+/* Whether a call fails that gives a file its place once it is written: its permissions, its way to the disk, its name. */
+static int fails_to_place(void) {
+    if (fails("place")) {
+        errno = EIO;
+        return 1;
+    }
+    return 0;
+}
+
+int fchmod(int file, mode_t mode) {
+    static int (*next)(int, mode_t);
+    if (!next) next = dlsym(RTLD_NEXT, "fchmod");
+    return fails_to_place() ? -1 : next(file, mode);
+}
+
+int fsync(int file) {
+    static int (*next)(int);
+    if (!next) next = dlsym(RTLD_NEXT, "fsync");
+    return fails_to_place() ? -1 : next(file);
+}
+
+int rename(const char *from, const char *to) {
+    static int (*next)(const char *, const char *);
+    if (!next) next = dlsym(RTLD_NEXT, "rename");
+    return fails_to_place() ? -1 : next(from, to);
 }
 
 __attribute__((destructor)) static void count(void) {

@@ -29,13 +29,13 @@ def long_runs(flashfill, fillcsv, rows):
 
 
 def run(flashfill, fillcsv, count):
-    """Tries some limits, more with a larger count, and answers what went wrong and how many were tried."""
-    wrong, tried = [], 0
-    for program, words, files, given, enough in long_runs(flashfill, fillcsv, 10000 + 100 * count):
+    """Tries some limits, more with a larger count up to some bound, and answers what went wrong and how many were tried."""
+    wrong, tried, rows, limits = [], 0, min(10000 + 100 * count, 200000), min(2 + count // 100, 40)
+    for program, words, files, given, enough in long_runs(flashfill, fillcsv, rows):
         with tempfile.TemporaryDirectory() as folder:
             put(folder, files)
             whole = start(program, words, folder, given)
-            for part in range(1, 3 + count // 100):
+            for part in range(1, limits + 1):
                 memory = enough * MB if part == 1 else max(4 * MB, enough * MB // part)
                 status, output, lines = start(program, words, folder, given, memory=memory, stack=STACK)
                 tried += 1

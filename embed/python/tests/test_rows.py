@@ -172,6 +172,13 @@ class Rules(unittest.TestCase):
             last = list(rule.apply(many, progress=done.append))[-1]
         self.assertEqual((last["Label"], done), ("N239 (Bonn)", [100, 100, 40]))
 
+    def test_pieces_keep_their_order(self):
+        rows, done = [{"Name": f"Ada N{it}", "City": "Bonn" if it % 7 else ""} for it in range(1000)], []
+        with mock.patch("flashfill.rule.CHUNK", 30):
+            new = label_rule().apply(rows, progress=done.append)
+        self.assertEqual([it["Label"] or "" for it in new], [f"N{it} (Bonn)" if it % 7 else "" for it in range(1000)])
+        self.assertEqual(done, [*[30] * 33, 10])
+
     def test_progress_without_a_bar(self):
         with mock.patch.dict("sys.modules", {"tqdm.auto": None}), mock.patch("sys.stderr", io.StringIO()) as err:
             label_rule().apply(rows_of("more-people.csv"), progress=True)
@@ -238,16 +245,24 @@ class Threads(unittest.TestCase):
             it.join()
         self.assertEqual([[row["Label"] for row in it.frame] for it in found], [wanted] * 8)
 
-    def test_a_thread_with_a_small_stack(self):
+    def small(self, size, work):
+        """What work gives in a thread with a small stack, which all threads have that Python starts meanwhile."""
         found = []
-        before = threading.stack_size(64 << 10)
+        before = threading.stack_size(size)
         try:
-            work = threading.Thread(target=lambda: found.append(flashfill.run("flashfill", ["replay", "s"], session()).status))
-            work.start()
+            thread = threading.Thread(target=lambda: found.append(work()))
+            thread.start()
+            thread.join()
+            self.assertEqual(threading.stack_size(), size)
         finally:
             threading.stack_size(before)
-        work.join()
-        self.assertEqual((found, threading.stack_size()), ([0], before))
+        return found
+
+    def test_threads_with_a_small_stack(self):
+        self.assertEqual(self.small(64 << 10, lambda: flashfill.run("flashfill", ["replay", "s"], session()).status), [0])
+        with mock.patch("flashfill.rule.CHUNK", 2):
+            made = self.small(256 << 10, lambda: label_rule().apply(rows_of("more-people.csv")))
+        self.assertEqual([[it["Label"] or "" for it in rows] for rows in made], [[it["Label"] for it in rows_of("more-people-filled.csv")]])
 
     def test_the_lock_is_released(self):
         """The engine learns from long cells, which takes a while, and Python goes on meanwhile."""

@@ -94,11 +94,34 @@ test("a part has the examples and the width of the sheet", () => {
     let choices = firstChoices(sheet).with({ header: false });
     choices = choices.filling(sheet, 3);
     const learning = learningOf(sheet, choices.withFill(choices.fill.typing(sheet, 0, "y")), 0, () => null);
-    const { learning: part, places } = learning.part([0, 2]);
+    const part = learning.part([0, 2]);
     assert.equal(part.sheet.width, 3);
-    assert.equal(places.get(2), 1);
     assert.deepEqual(part.allGiven(), [[0, "y"], [1, "x"]]);
     assert.ok(shownWords(part, true).includes("--quiet"));
+});
+
+test("a column of which all is taken back is empty, and keeps its title", () => {
+    const sheet = people();
+    let choices = firstChoices(sheet).filling(sheet, 3);
+    assert.deepEqual(choices.emptied(sheet), []);
+    choices = choices.withFill(choices.fill.typing(sheet, 1, null));
+    assert.deepEqual(choices.emptied(sheet), [3]);
+    const read = sheet.emptying(choices.emptied(sheet), 1);
+    assert.deepEqual(read.records.map((it) => it[2]), ["Label", "", "", ""]);
+    assert.equal(shellLines(resultSteps(read, choices)).includes("--replace"), false);
+    const more = choices.withFill(choices.fill.typing(sheet, 2, "Planck"));
+    assert.deepEqual(more.emptied(sheet), []);
+    assert.ok(shellLines(resultSteps(sheet, more)).includes("--replace --example 3=Planck"), shellLines(resultSteps(sheet, more)));
+    assert.deepEqual(choices.filling(sheet, 2).fills.map((it) => it.column).sort(), [2, 3, 4], "it stays empty");
+});
+
+test("the given cells of a column are found where it is long too", () => {
+    const sheet = people();
+    let { fill } = firstChoices(sheet);
+    fill = fill.typing(sheet, 1, "AB").typing(sheet, 3, null);
+    assert.deepEqual(fill.allGiven(sheet, true), [[1, "AB"]]);
+    assert.deepEqual(fill.typing(sheet, 2, "MP").typing(sheet, 3, "E").allGiven(sheet, true), [[1, "AB"], [2, "MP"], [3, "E"]]);
+    assert.deepEqual(sheet.textsIn(3), [0, 1]);
 });
 
 test("corrections, and steps that are undone", () => {
@@ -119,6 +142,12 @@ test("corrections, and steps that are undone", () => {
     history.redo();
     history.redo();
     assert.equal(history.now.sheet, other);
+    history.undo();
+    history.push(second);
+    history.amend(first);
+    assert.equal(history.now.choices, first);
+    history.undo();
+    assert.equal(history.now.choices, second, "one step with what was added to it");
 });
 
 test("a large sheet is filled in shares, each with all given cells", () => {
@@ -126,10 +155,12 @@ test("a large sheet is filled in shares, each with all given cells", () => {
     const sheet = new Sheet("large.csv", records);
     const learning = learningOf(sheet, firstChoices(sheet), 0, () => null);
     const shares = sharesOf(learning, 3);
-    assert.deepEqual(shares.map((it) => it.length), [1668, 1669, 1669]);
-    for (const share of shares) assert.ok([0, 8, 3001].every((it) => share.includes(it)));
-    assert.deepEqual([...new Set(shares.flat())].sort((a, b) => a - b), records.map((_, at) => at));
-    const answers = shares.map((share) => ({ status: 0, lines: "", texts: share.map(String), states: Uint8Array.from(share, (it) => it % 5) }));
+    assert.deepEqual(shares.map((it) => it.records.length), [1668, 1669, 1669]);
+    for (const it of shares) assert.ok([0, 8, 3001].every((record) => it.records.includes(record)));
+    assert.deepEqual([...new Set(shares.flatMap((it) => it.records))].sort((a, b) => a - b), records.map((_, at) => at));
+    for (const it of shares) assert.deepEqual(it.sheet.records, it.records.map((record) => records[record]));
+    assert.equal(sharesOf(learning, 3), shares, "they are made once");
+    const answers = shares.map(({ records: share }) => ({ status: 0, lines: "", texts: share.map(String), states: Uint8Array.from(share, (it) => it % 5) }));
     const whole = joined(shares, answers, 5000);
     assert.deepEqual(whole.texts, records.map((_, at) => String(at)));
     assert.deepEqual(whole.states, Uint8Array.from(records, (_, at) => at % 5));

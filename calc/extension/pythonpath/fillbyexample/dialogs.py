@@ -4,10 +4,12 @@ import unohelper
 from .columns import nearest
 from .learning import MOST_READ
 
-WIDTH, MARGIN, LINE = 190, 6, 12  # in units of a dialog
+WIDTH, BOX, MARGIN, LINE = 190, 120, 6, 12  # in units of a dialog
+MOST_BELOW = 12  # check boxes
 OK, CANCEL = 1, 2  # com.sun.star.awt.PushButtonType
+PLACE = 3  # com.sun.star.awt.PosSize: X and Y
 OPEN, SAVE = 0, 10  # com.sun.star.ui.dialogs.TemplateDescription: FILEOPEN_SIMPLE, FILESAVE_AUTOEXTENSION
-MOST_LISTED = 100
+MOST_LISTED = 36
 LONGEST_NAME = 40
 
 
@@ -38,29 +40,33 @@ def choose_columns(context, frame, words, task, read, options):
 
 
 def _choose(context, frame, words, items, selected):
-    """The places of the items that a person chooses in a list."""
+    """The places of the items that a person chooses by check boxes."""
     model = context.ServiceManager.createInstanceWithContext("com.sun.star.awt.UnoControlDialogModel", context)
-    height = LINE * min(max(len(items), 4), 14)
-    model.Title, model.Width, model.Height = words.COLUMNS_TITLE, WIDTH, height + 4 * MARGIN + 2 * LINE + 4
-    _add(model, "FixedText", "label", MARGIN, MARGIN, WIDTH - 2 * MARGIN, LINE, Label=words.COLUMNS_LABEL)
-    _add(model, "ListBox", "list", MARGIN, MARGIN + LINE, WIDTH - 2 * MARGIN, height, MultiSelection=True, StringItemList=tuple(items), SelectedItems=tuple(selected), HelpText=words.COLUMNS_LABEL)
-    top = 3 * MARGIN + LINE + height
-    _add(model, "Button", "ok", WIDTH - 2 * (50 + MARGIN), top, 50, LINE + 3, Label=words.OK, PushButtonType=OK, DefaultButton=True)
-    _add(model, "Button", "cancel", WIDTH - 50 - MARGIN, top, 50, LINE + 3, Label=words.CANCEL, PushButtonType=CANCEL)
+    width = max(WIDTH, -(-len(items) // MOST_BELOW) * BOX + MARGIN)
+    top = 3 * MARGIN + (1 + min(len(items), MOST_BELOW)) * LINE
+    model.Title, model.Width, model.Height = words.COLUMNS_TITLE, width, top + LINE + MARGIN + 3
+    _add(model, "FixedText", "label", MARGIN, MARGIN, width - 2 * MARGIN, LINE, Label=words.COLUMNS_LABEL)
+    for at, item in enumerate(items):
+        right, down = divmod(at, MOST_BELOW)
+        _add(model, "CheckBox", f"box{at}", MARGIN + right * BOX, 2 * MARGIN + (1 + down) * LINE, BOX - MARGIN, LINE, Label=item.replace("~", "~~"), State=int(at in selected))
+    _add(model, "Button", "ok", width - 2 * (50 + MARGIN), top, 50, LINE + 3, Label=words.OK, PushButtonType=OK, DefaultButton=True)
+    _add(model, "Button", "cancel", width - 50 - MARGIN, top, 50, LINE + 3, Label=words.CANCEL, PushButtonType=CANCEL)
     dialog = context.ServiceManager.createInstanceWithContext("com.sun.star.awt.UnoControlDialog", context)
     dialog.setModel(model)
     window = frame.getContainerWindow()
     dialog.createPeer(window.getToolkit(), window)
-    dialog.getControl("list").setFocus()
+    size, around = dialog.getPosSize(), window.getPosSize()
+    dialog.setPosSize(max(0, around.Width - size.Width) // 2, max(0, around.Height - size.Height) // 2, 0, 0, PLACE)
+    dialog.getControl("box0").setFocus()
     try:
-        return list(dialog.getControl("list").getSelectedItemsPos()) if dialog.execute() else None
+        return [at for at in range(len(items)) if dialog.getControl(f"box{at}").State] if dialog.execute() else None
     finally:
         dialog.dispose()
 
 
 def _add(model, kind, name, left, top, width, height, **properties):
     control = model.createInstance(f"com.sun.star.awt.UnoControl{kind}Model")
-    control.PositionX, control.PositionY, control.Width, control.Height, control.TabIndex = left, top, width, height, model.getCount()
+    control.PositionX, control.PositionY, control.Width, control.Height, control.TabIndex = left, top, width, height, len(model.getElementNames())
     for it, value in properties.items():
         setattr(control, it, value)
     model.insertByName(name, control)

@@ -1,6 +1,7 @@
 """A column learned from its examples: questions to the engine and its answers, a long sheet in parts beside each other."""
 import concurrent.futures
 import csv
+import gc
 import io
 import os
 import threading
@@ -123,15 +124,19 @@ def _parts(question):
 
 def _ask_all(questions, wait, *words):
     """The answers to all questions, in threads. `wait` gets their futures, and returns once these are done."""
-    before = threading.stack_size(STACK)
+    futures, is_collecting = [], gc.isenabled()
+    gc.disable()  # a collection in such a thread may free objects of LibreOffice, and would wait for the lock that this one holds
     pool = concurrent.futures.ThreadPoolExecutor(min(len(questions), os.cpu_count() or 1))
     try:
-        futures = [pool.submit(_ask, it, *words) for it in questions]
-    finally:
-        threading.stack_size(before)
-    try:
+        before = threading.stack_size(STACK)
+        try:
+            futures += [pool.submit(_ask, it, *words) for it in questions]
+        finally:
+            threading.stack_size(before)
         wait(futures)
     finally:
+        if is_collecting:
+            gc.enable()
         for it in futures:
             it.cancel()
         pool.shutdown(wait=False)

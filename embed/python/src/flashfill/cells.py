@@ -149,13 +149,31 @@ def _time(text: str) -> datetime.datetime:
 def sheet_of(header: Sequence[str], rows: Sequence[Sequence[str]]) -> bytes:
     """Returns a header and rows as a CSV file. The header is in quotes, so a byte order mark in it is a part of a name."""
     text = io.StringIO()
-    csv.writer(text, quoting=csv.QUOTE_ALL).writerow(header)
     try:
         csv.writer(text).writerows(rows)
     except csv.Error:  # a NUL in Python 3.10
-        quoted = (",".join('"' + it.replace('"', '""') + '"' for it in record) for record in (header, *rows))
-        return "".join(f"{it}\n" for it in quoted).encode()
-    return text.getvalue().encode()
+        return "".join(f"{_quoted(it)}\n" for it in (header, *rows)).encode()
+    return f"{_quoted(header)}\n{text.getvalue()}".encode()
+
+
+def sheet_of_columns(header: Sequence[str], columns: Sequence[Sequence[str]]) -> bytes:
+    """Returns the same of a header and columns; fast where no text needs quotes.
+
+    Examples
+    --------
+    >>> sheet_of_columns(["a", "b"], [("1", "2"), ("", "x")])
+    b'"a","b"\\n1,\\n2,x\\n'
+    """
+    body, count = "\n".join(map(",".join, zip(*columns))), len(columns[0])
+    parts = body.count("\n") + 1, body.count(",")
+    is_plain = not any(it in body for it in '"\r\0') and parts == (count, count * (len(columns) - 1))
+    if is_plain and "\n\n" not in f"\n{body}\n":  # a record must be no empty line
+        return f"{_quoted(header)}\n{body}\n".encode()
+    return sheet_of(header, list(zip(*columns)))
+
+
+def _quoted(record: Sequence[str]) -> str:
+    return ",".join('"' + it.replace('"', '""') + '"' for it in record)
 
 
 def records_of(sheet: bytes) -> List[List[str]]:
@@ -188,6 +206,21 @@ def columns_of(sheet: bytes, at: int) -> Tuple[List[str], List[str]]:
         return fields, last
 
     return _read(sheet, picked)
+
+
+def last_of(sheet: bytes) -> List[str]:
+    """Returns the last fields of all records after the first, which have one width.
+
+    Examples
+    --------
+    >>> last_of(b"Name,Last\\nAda,Byron\\nMax,Planck\\n")
+    ['Byron', 'Planck']
+    """
+    text = sheet.decode()
+    if '"' in text:
+        return columns_of(sheet, -1)[1]
+    width = text[: text.find("\n")].count(",") + 1  # all records have that many fields, and no field has a comma
+    return text[:-1].replace("\n", ",").split(",")[2 * width - 1 :: width]
 
 
 def _read(sheet: bytes, use: Callable[[Iterator[List[str]]], Result]) -> Result:

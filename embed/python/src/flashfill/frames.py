@@ -138,9 +138,13 @@ class Pandas(Frame):
         from pandas.api.types import infer_dtype
 
         column = self._column(name)
+        if shown is None and column.dtype == object:
+            texts: List[str] = column.tolist()
+            if set(map(type, texts)) <= {str}:  # which is what most columns are
+                return texts
         is_there = column.notna()
         if shown is None and infer_dtype(column, skipna=True) == "string":
-            texts: List[str] = column.astype(object).where(is_there, "").tolist()
+            texts = column.astype(object).where(is_there, "").tolist()
             return texts
         is_short = column.dtype.kind == "f" and column.dtype.itemsize < 8  # 0.1 as a short number is shown as 0.1
         cells = map(float, map(str, column[is_there].to_numpy())) if is_short else column[is_there].tolist()
@@ -151,13 +155,14 @@ class Pandas(Frame):
         import pandas
 
         made = cells_of(texts, given)
-        cells = [it or None for it in texts] if made is None else made
+        if made is None:
+            made = [it or None for it in texts] if "" in texts else list(texts)
         frame = self.data.copy()
         if to not in self.names:
-            new = pandas.Series([float("nan")] * len(self), index=self.labels, dtype=object)
-            frame[to] = new if not cells else _joined(new, places, cells).infer_objects()
-        elif cells:
-            frame[to] = _joined(self._column(to), places, cells)
+            new = pandas.Series(float("nan"), index=self.labels, dtype=object)
+            frame[to] = _joined(new, places, made).infer_objects() if made else new
+        elif made:
+            frame[to] = _joined(self._column(to), places, made)
         return frame
 
     def states(self, name: str, states: Sequence[str]) -> Any:
@@ -177,21 +182,24 @@ def _joined(old: Any, places: Sequence[int], cells: Sequence[Any]) -> Any:
     """A column of pandas with new cells at some places. It keeps its dtype if that can hold them."""
     import pandas
 
-    are_texts = all(it is None or isinstance(it, str) for it in cells)
+    kinds = set(map(type, cells))
+    are_texts = kinds <= {str, type(None)}
     if isinstance(old.dtype, pandas.CategoricalDtype):
         more = [it for it in dict.fromkeys(cells) if it is not None and it not in old.cat.categories]
         old = old.astype(object) if more and old.cat.ordered else old.cat.add_categories(more)
     elif are_texts and old.dtype.kind in "biufcmM":
         old = old.astype(object)
+    if old.dtype == object and are_texts and type(None) in kinds:  # what is missing among texts is NaN, as `read_csv` has it
+        cells = [float("nan") if it is None else it for it in cells]
     values = pandas.array(cells, dtype=object) if old.dtype == object else cells
+    if old.dtype == object and len(places) == len(old):
+        return pandas.Series(values, index=old.index, name=old.name)
     try:
         new = old.array.copy()
         new[list(places)] = values
     except (TypeError, ValueError):
         new = old.astype(object).array.copy()
         new[list(places)] = pandas.array(cells, dtype=object)
-    if old.dtype == object and are_texts:  # what is missing among texts is NaN, as `read_csv` has it
-        new[[place for place, it in zip(places, cells) if it is None]] = float("nan")
     return pandas.Series(new, index=old.index, name=old.name)
 
 

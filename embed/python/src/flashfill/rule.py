@@ -1,6 +1,8 @@
 """A rule that was learned: it fills a column of any frame that has the columns that it reads."""
 from __future__ import annotations
 
+import collections
+import concurrent.futures
 import functools
 import html
 import itertools
@@ -10,11 +12,14 @@ import sys
 from typing import Any, Callable, Dict, Iterable, Iterator, List, Mapping, Optional, Sequence, Tuple, Union
 
 from . import engine
-from .cells import Shown, columns_of, records_of, sheet_of, texts_of
+from .cells import Shown, last_of, records_of, sheet_of, sheet_of_columns, texts_of
 from .frames import Frame, Rows, frame_of
 
-CHUNK = 50_000
+CHUNK = 20_000
 """How many rows go to the engine in one call. The rule is read anew in each call."""
+
+BESIDE = 4
+"""How many calls there are at once, at most."""
 
 Progress = Union[bool, None, Callable[[int], Any]]
 
@@ -137,12 +142,26 @@ class Rule:
         columns : sequence of sequences of str
             The texts of each of `sources`.
         """
-        made: List[str] = []
-        for at in range(0, len(columns[0]), CHUNK):
-            part = list(zip(*(it[at : at + CHUNK] for it in columns)))
-            made += columns_of(self._run(self.sources, part), -1)[1]
-            told(len(part))
+        if len(columns[0]) <= CHUNK:
+            made = self._texts(columns, 0)
+            told(len(made))
+            return made
+        made = []
+        places = range(0, len(columns[0]), CHUNK)
+        beside = min(BESIDE, len(os.sched_getaffinity(0)))
+        # the engine holds no lock of Python's, so other processors make the next texts while these are read
+        with concurrent.futures.ThreadPoolExecutor(beside) as pool:
+            calls = collections.deque(pool.submit(self._texts, columns, it) for it in places[: beside + 1])
+            for at in places:
+                texts = calls.popleft().result()
+                calls.extend(pool.submit(self._texts, columns, it) for it in places[at // CHUNK + beside + 1 :][:1])
+                made += texts
+                told(len(texts))
         return made
+
+    def _texts(self, columns: Sequence[Sequence[str]], at: int) -> List[str]:
+        """The texts of one piece."""
+        return last_of(self._run(sheet_of_columns(self.sources, [it[at : at + CHUNK] for it in columns])))
 
     def function(self, size: int = 1 << 16) -> Callable[..., Optional[str]]:
         """Returns the rule as a function of the texts of `sources`, none for no answer. It remembers its last answers.
@@ -165,10 +184,10 @@ class Rule:
 
         return call
 
-    def _run(self, header: Sequence[str], rows: Sequence[Sequence[str]]) -> bytes:
+    def _run(self, sheet: bytes) -> bytes:
         """What the program makes of a sheet by this rule."""
         name = engine.free_name("rule", self.tables)
-        files = {**self.tables, name: self.text, "-": sheet_of(header, rows)}
+        files = {**self.tables, name: self.text, "-": sheet}
         return engine.run("fillcsv", [f"--rule={name}", "--quiet"], files).checked().out
 
     def _frame(self, frame: Frame, told: Callable[[int], Any], formats: Optional[Mapping[Any, Shown]]) -> Any:
@@ -178,9 +197,10 @@ class Rule:
             raise KeyError(f"the rule reads {', '.join(map(repr, self.sources))}: {error.args[0]}") from None
         texts = self.texts([frame.texts(it, (formats or {}).get(it)) for it in sources], told) if len(frame) else []
         to = next((it for it in frame.names if str(it) == self.to), self.to)
-        old = frame.texts(to) if to in frame.names else [""] * len(texts)
-        places = [place for place, text in enumerate(texts) if text != "" and old[place] == ""]
-        return frame.filled(to, places, [texts[it] for it in places], frame.given(to))
+        if to in frame.names:
+            texts = [text if old == "" else "" for text, old in zip(texts, frame.texts(to))]
+        places = list(itertools.compress(range(len(texts)), texts))
+        return frame.filled(to, places, list(filter(None, texts)), frame.given(to))
 
     def _series(self, data: Any, progress: Progress, formats: Optional[Mapping[Any, Shown]]) -> Any:
         if len(self.sources) != 1:
@@ -193,13 +213,13 @@ class Rule:
         chunk = list(itertools.islice(rows, CHUNK))
         header = None if not chunk or isinstance(chunk[0], Mapping) else chunk.pop(0)
         if header is not None and not chunk:
-            yield records_of(self._run(header, []))[0]
+            yield records_of(self._run(sheet_of(header, [])))[0]
         is_first = True
         while chunk:
             if header is None:
                 yield from self._frame(Rows(chunk), lambda _: None, None)
             else:
-                yield from records_of(self._run(header, chunk))[0 if is_first else 1 :]
+                yield from records_of(self._run(sheet_of(header, chunk)))[0 if is_first else 1 :]
             told(len(chunk))
             chunk, is_first = list(itertools.islice(rows, CHUNK)), False
 

@@ -4,7 +4,7 @@ from __future__ import annotations
 from typing import Any, Dict, Hashable, List, Mapping, NamedTuple, Optional, Sequence, Tuple
 
 from . import engine
-from .cells import Shown, is_empty, is_unicode, records_of, sheet_of, texts_of
+from .cells import Shown, is_empty, is_unicode, records_of, sheet_of, sheet_of_columns, texts_of
 from .frames import Frame, frame_of
 from .told import rows_in
 
@@ -60,13 +60,13 @@ class Task:
             If the engine refuses something; its `rows` are labels if its line speaks of the frame's rows.
         """
         is_whole = places == range(len(self.frame))
-        rows = list(zip(*self.columns)) if is_whole else [tuple(it[place] for it in self.columns) for place in places]
+        columns = self.columns if is_whole else [[it[place] for place in places] for it in self.columns]
         name = engine.free_name("sheet", self.tables.files)
         words = [name, *self._words(), *self._examples(places), *more]
         try:
-            sheet = sheet_of(self.header, rows)
+            sheet = sheet_of_columns(self.header, columns)
         except UnicodeEncodeError as error:
-            wrong = [place for place, row in zip(places, rows) if not is_unicode("".join(row))]
+            wrong = [place for place, row in zip(places, zip(*columns)) if not is_unicode("".join(row))]
             raise engine.RefusedFile(5, f"a text is no Unicode: {error}", tuple(self.frame.labels_at(wrong))) from None
         try:
             return engine.run("fillcsv", words, {**self.tables.files, name: sheet}).checked()

@@ -3,14 +3,14 @@
 NAME = "Fill by Example"
 DESCRIPTION = "Fills a column from a few cells that you fill yourself, as Flash Fill does, and marks what is a guess. Select a cell of the column and press Ctrl+E."
 
-# the menu; ~ stands before the letter of the key
+# the menu; ~ stands before the letter of the key, which no other entry of LibreOffice's menu has, or only a grey one
 MENU = {
-    "fill": "Fill by E~xample",
-    "look": "Fill by Example with ~Other Sheets",
+    "fill": "Fill ~by Example",
+    "look": "Fill by Example ~with Other Sheets",
     "next": "Next Cell to Chec~k",
-    "columns": "Columns to ~Read...",
-    "save": "Save R~ule...",
-    "run": "Run Ru~le...",
+    "columns": "Colu~mns to Read...",
+    "save": "Sav~e Rule...",
+    "run": "Run R~ule...",
 }
 
 # steps of undo, and the cell style of doubt
